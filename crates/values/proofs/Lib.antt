@@ -1,0 +1,13 @@
+pub mod Tests
+pub mod Lists
+pub mod Rows
+pub mod Texts
+pub mod Integers
+pub mod Decimals
+pub mod Outputs
+pub mod Scans
+pub mod Cursors
+pub mod Meanings
+pub mod Values
+pub mod Fields
+pub mod Places

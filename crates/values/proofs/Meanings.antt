@@ -1,0 +1,155 @@
+-- Texts by their meaning: compared, and written; a turn of each loop on plain values. Assumes nothing.
+use Prim.Native.Nat.{ℕ, suc, _+_, _-_, _≤_, _<_}
+use native.Mathlib.Omega.{arith}
+use mathlib.Core.Path.{_≡_, refl, sym, ap, subst, _∙_}
+use mathlib.Core.Bool.{Bool, true, false, not}
+use mathlib.Core.List.{List, [], _∷_, _++_, append-nil}
+use lib.Dec.{eqb}
+use lib.ListN.{length, drop}
+use borrow.Author.Tests.{eq-eqb, ne-eqb}
+use Rattle.values.specs.Bytes.{Bytes, same}
+use Rattle.values.specs.Value.{written, meaning, isEscapable, escapedByte, escape, spelling, writeValue}
+use Rattle.values.specs.Places.{unescapedAt}
+use Rattle.values.specs.Written.{last, Wrote}
+use Rattle.values.specs.declared.cursor.Cursor.{Cursor}
+use Rattle.values.specs.declared.cursor.ByteRead.{ByteRead}
+use Rattle.values.specs.declared.cursor.ByteRead.the-variants.{Byte, End}
+use Rattle.values.proofs.Tests.{not-true, not-false}
+use Rattle.values.proofs.Cursors.{Shows, shows}
+use Rattle.values.proofs.Outputs.{wrote-nothing, wrote-length, wrote-capped, then}
+
+-- what the code was told of the next byte
+module _ (q : Bool) (s : Bytes) (i : ℕ) {r : ByteRead} (a : r ≡ unescapedAt q s i) where
+  told : {x : ByteRead} → r ≡ x → Shows q s i x
+  told e = subst (Shows q s i) (sym a ∙ e) (shows q s i)
+
+  pub told-end : r ≡ End → meaning q (drop i s) ≡ []
+  told-end e = told e
+
+  module _ {b : ℕ} {c : Cursor} (e : r ≡ Byte b c) where
+    pub told-byte : meaning q (drop i s) ≡ b ∷ meaning q (drop (c .at) s)
+    told-byte = told e .0
+
+    pub told-less : length s - c .at < length s - i
+    told-less = let t = told e in omega arith
+
+same-hit : (x y : ℕ) (xs ys : Bytes) → x ≡ y → same (x ∷ xs) (y ∷ ys) ≡ same xs ys
+unfolding same
+same-hit x y xs ys e = rw (eq-eqb x y e, same)
+
+same-miss : (x y : ℕ) (xs ys : Bytes) → (x ≡ y → ⊥) → same (x ∷ xs) (y ∷ ys) ≡ false
+unfolding same
+same-miss x y xs ys ne = rw (ne-eqb x y ne, same)
+
+-- the meanings before i and j are the same
+pub record Comparing (a : Bytes) (aq : Bool) (b : Bytes) (bq : Bool) (i j : ℕ) : Type 0 where
+  pub still : same (meaning aq a) (meaning bq b) ≡ same (meaning aq (drop i a)) (meaning bq (drop j b))
+
+pub compare : (a : Bytes) (aq : Bool) (b : Bytes) (bq : Bool) → Comparing a aq b bq 0 0
+compare a aq b bq = record { still = refl }
+
+module _ {a : Bytes} {aq : Bool} {b : Bytes} {bq : Bool} {i j : ℕ} (g : Comparing a aq b bq i j)
+    {r : ByteRead} (ea : r ≡ unescapedAt aq a i) {t : ByteRead} (eb : t ≡ unescapedAt bq b j) where
+  pub both-end : r ≡ End → t ≡ End → true ≡ same (meaning aq a) (meaning bq b)
+  unfolding same
+  both-end er et = sym (g .still ∙ rw (told-end aq a i ea er, told-end bq b j eb et))
+
+  pub right-longer : r ≡ End → {y : ℕ} {d : Cursor} → t ≡ Byte y d → false ≡ same (meaning aq a) (meaning bq b)
+  unfolding same
+  right-longer er et = sym (g .still ∙ rw (told-end aq a i ea er, told-byte bq b j eb et))
+
+  module _ {x : ℕ} {c : Cursor} (er : r ≡ Byte x c) where
+    pub left-longer : t ≡ End → false ≡ same (meaning aq a) (meaning bq b)
+    unfolding same
+    left-longer et = sym (g .still ∙ rw (told-byte aq a i ea er, told-end bq b j eb et))
+
+    module _ {y : ℕ} {d : Cursor} (et : t ≡ Byte y d) where
+      turn : same (meaning aq a) (meaning bq b) ≡ same (x ∷ meaning aq (drop (c .at) a)) (y ∷ meaning bq (drop (d .at) b))
+      turn = g .still ∙ rw (told-byte aq a i ea er, told-byte bq b j eb et)
+
+      pub differ : (x ≡ y → ⊥) → false ≡ same (meaning aq a) (meaning bq b)
+      differ ne = sym (turn ∙ same-miss x y _ _ ne)
+
+      pub agree : x ≡ y → Comparing a aq b bq (c .at) (d .at)
+      agree e = record { still = turn ∙ same-hit x y _ _ e }
+
+-- what answers the needs of `same_meaning`
+pub ruleset compares = (compare, both-end, right-longer, left-longer, differ, agree, told-less)
+
+escape-cons : (b : ℕ) (bs : Bytes) → escape (b ∷ bs) ≡ escapedByte b ++ escape bs
+unfolding escape
+escape-cons b bs = refl
+
+spelling-nil : (quote : Bool) → spelling quote [] ≡ []
+unfolding escape
+spelling-nil true = refl
+spelling-nil false = refl
+
+spelling-cons : (quote : Bool) (b : ℕ) (bs : Bytes) → spelling quote (b ∷ bs) ≡ spelling quote (b ∷ []) ++ spelling quote bs
+unfolding escape
+spelling-cons true b bs = rw append-nil
+spelling-cons false b bs = refl
+
+escape-slash : (b : ℕ) → isEscapable b ≡ true → escape (b ∷ []) ≡ 92 ∷ b ∷ []
+unfolding escape
+escape-slash b e = rw (e, escapedByte)
+
+escape-plain : (b : ℕ) → isEscapable b ≡ false → escape (b ∷ []) ≡ b ∷ []
+unfolding escape
+escape-plain b e = rw (e, escapedByte)
+
+-- what answers the needs of `put_spelled`
+module _ {out : Bytes} {at : ℕ} (b : ℕ) (quote : Bool) where
+  pub bare-spelled : not quote ≡ true → {r : ℕ} {o : Bytes} → Wrote out at (b ∷ []) r o → Wrote out at (spelling quote (b ∷ [])) r o
+  bare-spelled n w = rw (not-true quote n) w
+
+  -- q is what the code's test of the byte answered
+  module _ (n : not quote ≡ false) {q : Bool} (a : q ≡ isEscapable b) where
+    pub plain-spelled : q ≡ false → {r : ℕ} {o : Bytes} → Wrote out at (b ∷ []) r o → Wrote out at (spelling quote (b ∷ [])) r o
+    plain-spelled e w = rw (not-false quote n, escape-plain b (sym a ∙ e)) w
+
+    pub slash-spelled : q ≡ true → {r : ℕ} {o : Bytes} → Wrote out at (92 ∷ []) r o → {r′ : ℕ} {o′ : Bytes} → Wrote o r (b ∷ []) r′ o′
+        → Wrote out at (spelling quote (b ∷ [])) r′ o′
+    slash-spelled e w w′ = rw (not-false quote n, escape-slash b (sym a ∙ e)) (then w w′)
+
+pub ruleset spells = (bare-spelled, plain-spelled, slash-spelled)
+
+-- the meaning before the place c is written
+pub record Writing (out₀ : Bytes) (at : ℕ) (s : Bytes) (q quote : Bool) (out : Bytes) (next c : ℕ) : Type 0 where
+  pub capped : next ≤ last
+  pub fits : length out ≤ last
+  pub size : length out ≡ length out₀
+  pub still : (r : ℕ) (o : Bytes) → Wrote out next (spelling quote (meaning q (drop c s))) r o → Wrote out₀ at (spelling quote (meaning q s)) r o
+
+pub write : (out : Bytes) (at : ℕ) (s : Bytes) (q quote : Bool) → at ≤ last → length out ≤ last → Writing out at s q quote out at 0
+write out at s q quote h l = record { capped = h; fits = l; size = refl; still = λ r o w. w }
+
+module _ {out₀ : Bytes} {at : ℕ} {s : Bytes} {q quote : Bool} {out : Bytes} {next c : ℕ} (g : Writing out₀ at s q quote out next c)
+    {r : ByteRead} (a : r ≡ unescapedAt q s c) where
+  pub wrote-all : r ≡ End → Wrote out₀ at (spelling quote (meaning q s)) next out
+  wrote-all e = g .still next out (rw (told-end q s c a e, spelling-nil quote) (wrote-nothing out next (g .capped) (g .fits)))
+
+  pub wrote-one : {b : ℕ} {d : Cursor} → r ≡ Byte b d → {n : ℕ} {o : Bytes} → Wrote out next (spelling quote (b ∷ [])) n o
+      → Writing out₀ at s q quote o n (d .at)
+  wrote-one {b} {d} e w = record {
+    capped = wrote-capped w;
+    fits = rw (wrote-length w) (g .fits);
+    size = wrote-length w ∙ g .size;
+    still = λ r′ o′ w′. g .still r′ o′ (rw (told-byte q s c a e, spelling-cons quote b (meaning q (drop (d .at) s))) (then w w′));
+  }
+
+-- what answers the needs of `put_meaning`
+pub ruleset writes = (wrote-all, wrote-one, told-less)
+
+-- what answers the needs of `put_value`
+module _ {out : Bytes} {at : ℕ} (v : Bytes) (quote : Bool) where
+  pub bare-value : not quote ≡ true → {r : ℕ} {o : Bytes} → Wrote out at (spelling quote v) r o → Wrote out at (writeValue quote v) r o
+  unfolding written
+  bare-value n w = rw (not-true quote n) (rw (not-true quote n) at w)
+
+  pub quoted-value : not quote ≡ false → {r : ℕ} {o : Bytes} → Wrote out at (34 ∷ []) r o → {r′ : ℕ} {o′ : Bytes} → Wrote o r (spelling quote v) r′ o′
+      → {r″ : ℕ} {o″ : Bytes} → Wrote o′ r′ (34 ∷ []) r″ o″ → Wrote out at (writeValue quote v) r″ o″
+  unfolding written
+  quoted-value n w w′ w″ = rw (not-false quote n) (then w (then (rw (not-false quote n) at w′) w″))
+
+pub ruleset quotes = (bare-value, quoted-value)

@@ -1,0 +1,161 @@
+-- UTF-8: a turn of `utf8`'s loop on plain values, and how a text is put together and falls apart. Assumes nothing.
+use Prim.Native.Nat.{ℕ, zero, suc, _+_, _-_, _≤_, _<_}
+use native.Mathlib.Omega.{arith}
+use mathlib.Core.Path.{_≡_, refl, sym, ap, _∙_}
+use mathlib.Core.Bool.{Bool, true, false, _&&_}
+use mathlib.Core.List.{List, [], _∷_, _++_}
+use mathlib.Core.Option.{Option, none, some}
+use lib.Dec.{leb, eqb, eqb·suc-zero}
+use lib.ListN.{length, getD, drop, replicate, drop-of-length-le}
+use borrow.Author.Tests.{le-leb, lt-leb}
+use Rattle.values.specs.Bytes.{Bytes}
+use Rattle.values.specs.Utf8.{Range, Row, to, tail, within, look, rows, followers, completes, isUtf8}
+use Rattle.values.specs.declared.utf8.Lead.{Lead}
+use Rattle.values.specs.declared.utf8.Lead.the-variants.{Follow, Refused}
+use Rattle.values.specs.Lead.{due, leadMeans}
+use Rattle.values.proofs.Tests.{Test, pass, fail, test, and-off}
+use Rattle.values.proofs.Lists.{here}
+use Rattle.values.proofs.Rows.{spans}
+
+begin-bad : (b : ℕ) (t : Bytes) → followers b ≡ none → completes [] (b ∷ t) ≡ false
+unfolding completes
+begin-bad b t e = rw (e, completes)
+
+begin : (b : ℕ) (t : Bytes) {p : List Range} → followers b ≡ some p → completes [] (b ∷ t) ≡ completes p t
+unfolding completes
+begin b t e = rw (e, completes)
+
+next-bad : (b : ℕ) (t : Bytes) (r : Range) (p : List Range) → within r b ≡ false → completes (r ∷ p) (b ∷ t) ≡ false
+unfolding completes
+next-bad b t r p e = rw (e, completes)
+
+next : (b : ℕ) (t : Bytes) (r : Range) (p : List Range) → within r b ≡ true → completes (r ∷ p) (b ∷ t) ≡ completes p t
+unfolding completes
+next b t r p e = rw (e, completes)
+
+tails : (n : ℕ) → replicate n tail ≡ due n 0x80 0xBF
+tails zero = refl
+tails (suc n) = refl
+
+-- what the bytes from i on still have to be
+pub record Going (s : Bytes) (left low high i : ℕ) : Type 0 where
+  pub inside : i ≤ length s
+  pub same : isUtf8 s ≡ completes (due left low high) (drop i s)
+
+module _ {s : Bytes} {left low high i : ℕ} (g : Going s left low high i) (h : i < length s) where
+  abbrev b : ℕ
+  b = getD s i 0
+
+  abbrev t : Bytes
+  t = drop (i + 1) s
+
+  pub first-bad : left ≡ 0 → {r : Lead} → leadMeans r ≡ followers b → r ≡ Refused → false ≡ isUtf8 s
+  first-bad e f q = sym (g .same ∙ rw (here s i, e) (begin-bad b t (sym f ∙ ap leadMeans q)))
+
+  pub first : left ≡ 0 → {r : Lead} → leadMeans r ≡ followers b → {n l u : ℕ} → r ≡ Follow n l u → Going s n l u (i + 1)
+  first e f q = record { inside = omega arith; same = g .same ∙ rw (here s i, e) (begin b t (sym f ∙ ap leadMeans q)) }
+
+  tailing : (left ≡ 0 → ⊥) → isUtf8 s ≡ completes (to low high ∷ due (left - 1) 0x80 0xBF) (b ∷ t)
+  tailing ne = g .same ∙ rw (here s i) (ap (λ (p : List Range). completes p (b ∷ t)) (head left ne))
+    where
+      head : (m : ℕ) → (m ≡ 0 → ⊥) → due m low high ≡ to low high ∷ due (m - 1) 0x80 0xBF
+      head zero ne = absurd (ne refl)
+      head (suc n) ne = let e : n ≡ suc n - 1 = omega arith in rw (← e, ← (tails n))
+
+  pub below : (left ≡ 0 → ⊥) → b < low → false ≡ isUtf8 s
+  below ne lt = sym (tailing ne ∙ next-bad b t (to low high) _ (simp (lt-leb low b lt)))
+
+  pub above : (left ≡ 0 → ⊥) → high < b → false ≡ isUtf8 s
+  above ne lt = sym (tailing ne ∙ next-bad b t (to low high) _ (and-off (leb low b) (lt-leb b high lt)))
+
+  pub later : (left ≡ 0 → ⊥) → low ≤ b → b ≤ high → Going s (left - 1) 0x80 0xBF (i + 1)
+  later ne l u = record { inside = omega arith; same = tailing ne ∙ next b t (to low high) _ (simp (le-leb low b l, le-leb b high u)) }
+
+pub started : (s : Bytes) → Going s 0 0x80 0xBF 0
+started s = record { inside = omega arith; same = refl }
+
+pub ended : {s : Bytes} {left low high i : ℕ} → Going s left low high i → length s ≤ i → eqb left 0 ≡ isUtf8 s
+unfolding completes
+ended {s} {left} {low} {high} g h = sym (g .same ∙ rw (drop-of-length-le s h) (none-left left))
+  where
+    none-left : (n : ℕ) → completes (due n low high) [] ≡ eqb n 0
+    none-left zero = refl
+    none-left (suc n) = sym (eqb·suc-zero n)
+
+-- what answers the needs of `utf8`
+pub ruleset turns = (started, first-bad, first, below, above, later, ended)
+
+data Led (o : Option (List Range)) : Type 0 where
+  no-row : o ≡ none → Led o
+  in-row : (p : List Range) → o ≡ some p → Led o
+
+led : (o : Option (List Range)) → Led o
+led none = no-row refl
+led (some p) = in-row p refl
+
+-- every byte after a first one is 128 or more
+abbrev High : List Range → Type 0
+High [] = Unit {0}
+High (r ∷ p) = (128 ≤ r .low) × High p
+
+abbrev HighRows : List Row → Type 0
+HighRows [] = Unit {0}
+HighRows (r ∷ rs) = High (r .follow) × HighRows rs
+
+abbrev HighLook : Option (List Range) → Type 0
+HighLook none = Unit {0}
+HighLook (some p) = High p
+
+look-high : (rs : List Row) (b : ℕ) → HighRows rs → HighLook (look rs b)
+look-high [] b h = tt
+look-high (r ∷ rs) b h = elim (test (within (r .first) b)) [
+  | pass e ↦ rw (e, look) (h .0)
+  | fail e ↦ rw (e, look) (look-high rs b (h .1))
+]
+
+followers-high : (b : ℕ) {p : List Range} → followers b ≡ some p → High p
+unfolding followers
+followers-high b e = rw e at (look-high rows b (omega arith))
+
+low-out : (r : Range) (c : ℕ) → 128 ≤ r .low → c < 128 → within r c ≡ false
+low-out r c h l = rw (lt-leb (r .low) c (omega arith))
+
+-- after a whole text the rest is judged by itself
+append-due : (p : List Range) (xs ys : Bytes) → completes p xs ≡ true → completes p (xs ++ ys) ≡ isUtf8 ys
+unfolding completes
+append-due [] [] ys h = refl
+append-due (r ∷ p) [] ys h = cc
+append-due [] (b ∷ xs) ys h = elim (led (followers b)) [
+  | no-row e ↦ let z = rw (e, completes) at h in cc
+  | in-row p e ↦ rw (e, completes) (append-due p xs ys (rw (e, completes) at h))
+]
+append-due (r ∷ p) (b ∷ xs) ys h = elim (test (within r b)) [
+  | pass e ↦ rw (e, completes) (append-due p xs ys (rw (e, completes) at h))
+  | fail e ↦ let z = rw (e, completes) at h in cc
+]
+
+-- two texts, one after the other
+pub utf8-append : (xs ys : Bytes) → isUtf8 xs ≡ true → isUtf8 (xs ++ ys) ≡ isUtf8 ys
+utf8-append = append-due []
+
+-- an ASCII byte is a text
+pub utf8-ascii : (c : ℕ) (ys : Bytes) → c < 128 → isUtf8 (c ∷ ys) ≡ isUtf8 ys
+utf8-ascii c ys h = begin c ys (spans 0 127 c refl (omega arith) (omega arith))
+
+split-due : (p : List Range) (xs : Bytes) (c : ℕ) (ys : Bytes) → High p → c < 128
+    → completes p (xs ++ c ∷ ys) ≡ (completes p xs && isUtf8 ys)
+unfolding completes
+split-due [] [] c ys a l = utf8-ascii c ys l
+split-due (r ∷ p) [] c ys a l = rw (low-out r c (a .0) l, completes)
+split-due [] (b ∷ xs) c ys a l = elim (led (followers b)) [
+  | no-row e ↦ rw (e, completes)
+  | in-row p e ↦ rw (e, completes) (split-due p xs c ys (followers-high b e) l)
+]
+split-due (r ∷ p) (b ∷ xs) c ys a l = elim (test (within r b)) [
+  | pass e ↦ rw (e, completes) (split-due p xs c ys (a .1) l)
+  | fail e ↦ rw (e, completes)
+]
+
+-- bytes fall apart before and after an ASCII byte: they are a text where both parts are
+pub utf8-split : (xs : Bytes) (c : ℕ) (ys : Bytes) → c < 128 → isUtf8 (xs ++ c ∷ ys) ≡ (isUtf8 xs && isUtf8 ys)
+utf8-split xs c ys l = split-due [] xs c ys tt l

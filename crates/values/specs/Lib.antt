@@ -1,0 +1,9 @@
+pub mod Bytes
+pub mod Utf8
+pub mod Lead
+pub mod Integer
+pub mod Value
+pub mod Field
+pub mod Places
+pub mod Written
+pub mod Examples

@@ -1,0 +1,63 @@
+-- UTF-8 by RFC 3629, section 4: a text is a run of characters, and a character is a first byte with the bytes that must follow it, each
+-- within a range. Assumes nothing.
+use Prim.Native.Nat.{ℕ}
+use mathlib.Core.Bool.{Bool, true, false, _&&_}
+use mathlib.Core.List.{List, [], _∷_}
+use mathlib.Core.Option.{Option, none, some}
+use lib.Dec.{leb}
+use Rattle.values.specs.Bytes.{Bytes}
+
+-- the bytes from low to high
+pub record Range : Type 0 where
+  pub low : ℕ
+  pub high : ℕ
+
+abbrev pub to : ℕ → ℕ → Range
+to a b = record { low = a; high = b }
+
+abbrev pub within : Range → ℕ → Bool
+within r b = leb (r .low) b && leb b (r .high)
+
+-- UTF8-tail
+abbrev pub tail : Range
+tail = to 0x80 0xBF
+
+-- a first byte's range, and those of the bytes that follow it
+pub record Row : Type 0 where
+  pub first : Range
+  pub follow : List Range
+
+abbrev pub row : Range → List Range → Row
+row r rs = record { first = r; follow = rs }
+
+-- UTF8-1 to UTF8-4
+abbrev pub rows : List Row
+rows =
+    row (to 0x00 0x7F) []
+    ∷ row (to 0xC2 0xDF) (tail ∷ [])
+    ∷ row (to 0xE0 0xE0) (to 0xA0 0xBF ∷ tail ∷ [])
+    ∷ row (to 0xE1 0xEC) (tail ∷ tail ∷ [])
+    ∷ row (to 0xED 0xED) (to 0x80 0x9F ∷ tail ∷ [])
+    ∷ row (to 0xEE 0xEF) (tail ∷ tail ∷ [])
+    ∷ row (to 0xF0 0xF0) (to 0x90 0xBF ∷ tail ∷ tail ∷ [])
+    ∷ row (to 0xF1 0xF3) (tail ∷ tail ∷ tail ∷ [])
+    ∷ row (to 0xF4 0xF4) (to 0x80 0x8F ∷ tail ∷ tail ∷ [])
+    ∷ []
+
+-- what follows the first byte b by the rows; nothing, where no character begins with b
+abbrev pub look : List Row → ℕ → Option (List Range)
+look [] b = none
+look (r ∷ rs) b = elim (within (r .first) b) [ true ↦ some (r .follow) | false ↦ look rs b ]
+
+unfoldable pub followers : ℕ → Option (List Range)
+followers b = look rows b
+
+-- the bytes complete a text of which the ranges due are still to be met
+unfoldable pub completes : List Range → Bytes → Bool
+completes [] [] = true
+completes (r ∷ due) [] = false
+completes [] (b ∷ bs) = elim (followers b) [ none ↦ false | some due ↦ completes due bs ]
+completes (r ∷ due) (b ∷ bs) = elim (within r b) [ true ↦ completes due bs | false ↦ false ]
+
+abbrev pub isUtf8 : Bytes → Bool
+isUtf8 bs = completes [] bs

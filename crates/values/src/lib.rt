@@ -1,0 +1,7 @@
+// UTF-8, integers and values: the layer below the header reader.
+pub mod cursor;
+pub mod field;
+pub mod integer;
+pub mod output;
+pub mod string;
+pub mod utf8;

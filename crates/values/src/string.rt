@@ -1,0 +1,207 @@
+// A value of a map's field: bare, quoted or bracketed; its meaning, and how it is written.
+use crate::cursor;
+use crate::cursor::ByteRead;
+use crate::cursor::Cursor;
+use crate::output;
+ghost use mathlib.Core.Path.{_≡_};
+ghost use mathlib.Core.Bool.{false};
+ghost use mathlib.Core.List.{[], _∷_};
+ghost use Prim.Native.Nat.{_+_};
+ghost use lib.ListN.{length, drop};
+ghost use Rattle.values.specs.Bytes.{before, same};
+ghost use Rattle.values.specs.Value.{isStop, isEscapable, quotedText, readBare, readQuoted, readValues, meaning, spelling, writeValue};
+ghost use Rattle.values.specs.Places.{closing, escapedFrom, valuePlaced};
+ghost use Rattle.values.specs.Written.{Wrote};
+
+// A text without its quotes.
+pub struct Text {
+    pub start: usize,
+    pub end: usize,
+    pub quoted: bool,
+}
+
+pub enum ValueRead {
+    Value(Text, Cursor),
+    Refused,
+}
+
+// The place of the `"` that ends a quoted value, and past it.
+enum Closing {
+    At(usize, Cursor),
+    Missing,
+}
+
+fn is_stop(b: u8) -> bool
+    ensures { λ r. ⌜ r ≡ isStop b ⌝ }
+{
+    b == b',' || b == b'>'
+}
+
+fn is_escapable(b: u8) -> bool
+    ensures { λ r. ⌜ r ≡ isEscapable b ⌝ }
+{
+    b == b'"' || b == b'\\'
+}
+
+fn find_stop(s: &[u8], start: usize) -> usize
+    ensures { λ r. ⌜ r ≡ start + length (before isStop (drop start (now (s .entry)))) ⌝ }
+{
+    let mut i = start;
+    while i < s.len() {
+        if is_stop(s[i]) {
+            return i;
+        }
+        i += 1;
+    }
+    i
+}
+
+fn find_closing(s: &[u8], start: usize) -> Closing
+    ensures { λ r. ⌜ r ≡ closing start (quotedText false (drop start (now (s .entry)))) ⌝ }
+{
+    let mut i = start;
+    let mut escaped = false;
+    while i < s.len() {
+        let b = s[i];
+        let at = i;
+        i += 1;
+        if escaped {
+            if !is_escapable(b) {
+                return Closing::Missing;
+            }
+            escaped = false;
+        } else {
+            if b == b'"' {
+                return Closing::At(at, Cursor { at: i });
+            }
+            escaped = b == b'\\';
+        }
+    }
+    Closing::Missing
+}
+
+impl Cursor {
+    pub fn parse_raw_string(self, s: &[u8]) -> ValueRead
+        ensures { λ r. ⌜ r ≡ valuePlaced (self .at) (readBare (drop (self .at) (now (s .entry)))) ⌝ }
+    {
+        let start = self.at;
+        let end = find_stop(s, start);
+        let text = Text {
+            start,
+            end,
+            quoted: false,
+        };
+        ValueRead::Value(text, Cursor { at: end })
+    }
+
+    // From the value's first `"` on.
+    pub fn parse_escaped_string(self, s: &[u8]) -> ValueRead
+        ensures { λ r. ⌜ r ≡ escapedFrom (self .at) (drop (self .at) (now (s .entry))) ⌝ }
+    {
+        let ByteRead::Byte(b, c) = self.next_byte(s) else {
+            return ValueRead::Refused;
+        };
+        if b != b'"' {
+            return ValueRead::Refused;
+        }
+        let start = c.at;
+        let Closing::At(end, next) = find_closing(s, start) else {
+            return ValueRead::Refused;
+        };
+        let text = Text {
+            start,
+            end,
+            quoted: true,
+        };
+        ValueRead::Value(text, next)
+    }
+
+    // META's Values: through the first `]`, where it begins `[` and has one.
+    pub fn parse_values(self, s: &[u8]) -> ValueRead
+        ensures { λ r. ⌜ r ≡ valuePlaced (self .at) (readValues (drop (self .at) (now (s .entry)))) ⌝ }
+    {
+        let start = self.at;
+        if s.len() <= start {
+            return self.parse_raw_string(s);
+        }
+        if s[start] != b'[' {
+            return self.parse_raw_string(s);
+        }
+        let close = cursor::find(s, start, b']');
+        if s.len() <= close {
+            return self.parse_raw_string(s);
+        }
+        let end = close + 1;
+        let text = Text {
+            start,
+            end,
+            quoted: false,
+        };
+        ValueRead::Value(text, Cursor { at: end })
+    }
+}
+
+// Whether two texts mean the same; aq and bq say which of them stands between quotes.
+pub fn same_meaning(a: &[u8], aq: bool, b: &[u8], bq: bool) -> bool
+    ensures { λ r. ⌜ r ≡ same (meaning aq (now (a .entry))) (meaning bq (now (b .entry))) ⌝ }
+{
+    let mut i = Cursor { at: 0 };
+    let mut j = Cursor { at: 0 };
+    loop {
+        let ByteRead::Byte(x, m) = i.next_unescaped(a, aq) else {
+            let ByteRead::End = j.next_unescaped(b, bq) else {
+                return false;
+            };
+            return true;
+        };
+        let ByteRead::Byte(y, n) = j.next_unescaped(b, bq) else {
+            return false;
+        };
+        if x != y {
+            return false;
+        }
+        i = m;
+        j = n;
+    }
+}
+
+// One byte of a meaning, as it stands between quotes or bare.
+fn put_spelled(out: &mut [u8], at: usize, b: u8, quote: bool) -> usize
+    ensures { λ r. ⌜ Wrote (now (out .entry)) at (spelling quote (b ∷ [])) r (now (out .exit)) ⌝ }
+{
+    if !quote {
+        return output::put_byte(out, at, b);
+    }
+    if is_escapable(b) {
+        let next = output::put_byte(out, at, b'\\');
+        return output::put_byte(out, next, b);
+    }
+    output::put_byte(out, at, b)
+}
+
+// The meaning of a text, as it stands between quotes or bare.
+fn put_meaning(out: &mut [u8], at: usize, s: &[u8], quoted: bool, quote: bool) -> usize
+    ensures { λ r. ⌜ Wrote (now (out .entry)) at (spelling quote (meaning quoted (now (s .entry)))) r (now (out .exit)) ⌝ }
+{
+    let mut next = at;
+    let mut c = Cursor { at: 0 };
+    loop {
+        let ByteRead::Byte(b, d) = c.next_unescaped(s, quoted) else {
+            return next;
+        };
+        next = put_spelled(out, next, b, quote);
+        c = d;
+    }
+}
+
+// A value with the meaning of the text s, quoted or bare.
+pub fn put_value(out: &mut [u8], at: usize, s: &[u8], quoted: bool, quote: bool) -> usize
+    ensures { λ r. ⌜ Wrote (now (out .entry)) at (writeValue quote (meaning quoted (now (s .entry)))) r (now (out .exit)) ⌝ }
+{
+    if !quote {
+        return put_meaning(out, at, s, quoted, quote);
+    }
+    let text = output::put_byte(out, at, b'"');
+    let end = put_meaning(out, text, s, quoted, quote);
+    output::put_byte(out, end, b'"')
+}

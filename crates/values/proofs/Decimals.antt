@@ -8,11 +8,12 @@ use mathlib.Core.Bool.{Bool, true, false, not, _||_}
 use mathlib.Core.List.{List, [], _∷_, _++_}
 use lib.Dec.{ltb}
 use lib.ListN.{length, length-append}
-use borrow.Author.Tests.{lt-ltb, le-ltb, le-leb, ltb-true, ltb-false}
-use Rattle.values.specs.Bytes.{Bytes, any}
+use borrow.Author.Tests.{lt-ltb, le-ltb, le-leb, ltb-true, ltb-false, eqb-true}
+use Rattle.values.specs.Bytes.{Bytes, is, begins, any}
 use Rattle.values.specs.declared.integer.IntegerRead.the-variants.{Value}
-use Rattle.values.specs.Integer.{isDigit, isOther, numberOf, digitsOf, decimal, unsignedRead}
-use Rattle.values.proofs.Lists.{any-append}
+use Rattle.values.specs.Integer.{isDigit, isOther, numberOf, digitsOf, decimal, unsignedRead, withoutSign, integerRead}
+use Rattle.values.proofs.Tests.{or-l}
+use Rattle.values.proofs.Lists.{any-append, any-less}
 use Rattle.values.proofs.Integers.{spelled}
 
 small-by : (more n : ℕ) → n < 10 → digitsOf more n ≡ (48 + n) ∷ []
@@ -87,3 +88,17 @@ decimal-some =
 pub read-decimal : (bound n : ℕ) → n ≤ bound → unsignedRead bound (decimal n) ≡ Value n
 read-decimal bound n h =
     sym (spelled bound (decimal n) (λ e. omega (arith, decimal-some n)) (decimal-digits n) (rw (number-decimal n) h)) ∙ ap Value (number-decimal n)
+
+-- it holds no byte that is no digit
+pub decimal-lacks : (c n : ℕ) → isDigit c ≡ false → any (is c) (decimal n) ≡ false
+decimal-lacks c n h = any-less (is c) isOther (λ b e. rw (eqb-true b c e, h)) (decimal n) (decimal-digits n)
+
+-- with a sign allowed or not
+pub integer-decimal : (sign : Bool) (bound n : ℕ) → n ≤ bound → integerRead sign bound (decimal n) ≡ Value n
+unfolding withoutSign begins any
+integer-decimal sign bound n h = rw (signless sign (decimal n) (decimal-lacks 43 n refl)) (read-decimal bound n h)
+  where
+    signless : (sign : Bool) (bs : Bytes) → any (is 43) bs ≡ false → withoutSign sign bs ≡ bs
+    signless true [] e = refl
+    signless true (b ∷ bs) e = rw (or-l (is 43 b) (any (is 43) bs) e, withoutSign)
+    signless false bs e = refl

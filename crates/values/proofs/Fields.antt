@@ -56,11 +56,11 @@ ends (b ∷ bs) = elim (test (is 61 b)) [
   ]
 ]
 
-key-not : (bs : Bytes) → isKey (before (is 61) bs) && begins 61 (from (is 61) bs) ≡ false → readKey bs ≡ none
+pub key-not : (bs : Bytes) → isKey (before (is 61) bs) && begins 61 (from (is 61) bs) ≡ false → readKey bs ≡ none
 unfolding readKey
 key-not bs e = rw (e, readKey)
 
-key-is : (bs : Bytes) → isKey (before (is 61) bs) && begins 61 (from (is 61) bs) ≡ true → readKey bs ≡ some (before (is 61) bs, tail (from (is 61) bs))
+pub key-is : (bs : Bytes) → isKey (before (is 61) bs) && begins 61 (from (is 61) bs) ≡ true → readKey bs ≡ some (before (is 61) bs, tail (from (is 61) bs))
 unfolding readKey
 key-is bs e = rw (e, readKey)
 

@@ -11,3 +11,4 @@ pub mod Meanings
 pub mod Values
 pub mod Fields
 pub mod Places
+pub mod Escapes

@@ -11,7 +11,7 @@ use lib.ListN.{length, getD, take, drop, length-drop, drop-of-length-le}
 use lib.Seq.{drop-cons, drop-drop, take-all}
 use borrow.Author.Tests.{eqb-true}
 use Rattle.values.specs.Bytes.{Bytes, is, any, before, from}
-use Rattle.values.proofs.Tests.{Test, pass, fail, test, or-l, or-r}
+use Rattle.values.proofs.Tests.{Test, pass, fail, test, or-l, or-r, both}
 
 pub here : (s : List ℕ) (i : ℕ) → i < length s → drop i s ≡ getD s i 0 ∷ drop (i + 1) s
 here s i h = rw (add-one, drop-cons s i 0)
@@ -57,6 +57,15 @@ any-append t (b ∷ xs) ys = go (t b) (any-append t xs ys)
     go : (q : Bool) → any t (xs ++ ys) ≡ (any t xs || any t ys) → (q || any t (xs ++ ys)) ≡ ((q || any t xs) || any t ys)
     go true e = refl
     go false e = e
+
+-- where s passes less than t
+pub any-less : (s t : ℕ → Bool) → ((b : ℕ) → s b ≡ true → t b ≡ true) → (bs : Bytes) → any t bs ≡ false → any s bs ≡ false
+unfolding any
+any-less s t f [] h = refl
+any-less s t f (b ∷ bs) h = elim (test (s b)) [
+  | pass e ↦ both (f b e) (or-l (t b) (any t bs) h)
+  | fail e ↦ rw e (any-less s t f bs (or-r (t b) (any t bs) h))
+]
 
 pub before-hit : (t : ℕ → Bool) (b : ℕ) (bs : Bytes) → t b ≡ true → before t (b ∷ bs) ≡ []
 unfolding before

@@ -21,14 +21,14 @@ use Rattle.values.proofs.Values.{bracketed-is, bracketed-not}
 use Rattle.values.proofs.Fields.{part, KeyIn, key-in, text-here, text-inside, tail-is}
 
 -- a quoted text stands before its closing quote
-abbrev QuotedIn : Bytes → Bytes × Bytes → Type 0
+abbrev pub QuotedIn : Bytes → Bytes × Bytes → Type 0
 QuotedIn bs p = bs ≡ p .0 ++ 34 ∷ p .1
 
 put-in : (b : ℕ) (bs : Bytes) (a : Option (Bytes × Bytes)) → OnSome (QuotedIn bs) a → OnSome (QuotedIn (b ∷ bs)) (put b a)
 put-in b bs none h = tt
 put-in b bs (some p) h = ap (b ∷_) h
 
-quoted-in : (e : Bool) (bs : Bytes) → OnSome (QuotedIn bs) (quotedText e bs)
+pub quoted-in : (e : Bool) (bs : Bytes) → OnSome (QuotedIn bs) (quotedText e bs)
 unfolding quotedText
 quoted-in e [] = tt
 quoted-in true (b ∷ bs) = elim (test (isEscapable b)) [

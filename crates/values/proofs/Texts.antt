@@ -17,19 +17,19 @@ use Rattle.values.proofs.Tests.{Test, pass, fail, test, and-off}
 use Rattle.values.proofs.Lists.{here}
 use Rattle.values.proofs.Rows.{spans}
 
-begin-bad : (b : ℕ) (t : Bytes) → followers b ≡ none → completes [] (b ∷ t) ≡ false
+pub begin-bad : (b : ℕ) (t : Bytes) → followers b ≡ none → completes [] (b ∷ t) ≡ false
 unfolding completes
 begin-bad b t e = rw (e, completes)
 
-begin : (b : ℕ) (t : Bytes) {p : List Range} → followers b ≡ some p → completes [] (b ∷ t) ≡ completes p t
+pub begin : (b : ℕ) (t : Bytes) {p : List Range} → followers b ≡ some p → completes [] (b ∷ t) ≡ completes p t
 unfolding completes
 begin b t e = rw (e, completes)
 
-next-bad : (b : ℕ) (t : Bytes) (r : Range) (p : List Range) → within r b ≡ false → completes (r ∷ p) (b ∷ t) ≡ false
+pub next-bad : (b : ℕ) (t : Bytes) (r : Range) (p : List Range) → within r b ≡ false → completes (r ∷ p) (b ∷ t) ≡ false
 unfolding completes
 next-bad b t r p e = rw (e, completes)
 
-next : (b : ℕ) (t : Bytes) (r : Range) (p : List Range) → within r b ≡ true → completes (r ∷ p) (b ∷ t) ≡ completes p t
+pub next : (b : ℕ) (t : Bytes) (r : Range) (p : List Range) → within r b ≡ true → completes (r ∷ p) (b ∷ t) ≡ completes p t
 unfolding completes
 next b t r p e = rw (e, completes)
 
@@ -85,39 +85,39 @@ ended {s} {left} {low} {high} g h = sym (g .same ∙ rw (drop-of-length-le s h) 
 -- what answers the needs of `utf8`
 pub ruleset turns = (started, first-bad, first, below, above, later, ended)
 
-data Led (o : Option (List Range)) : Type 0 where
+pub data Led (o : Option (List Range)) : Type 0 where
   no-row : o ≡ none → Led o
   in-row : (p : List Range) → o ≡ some p → Led o
 
-led : (o : Option (List Range)) → Led o
+pub led : (o : Option (List Range)) → Led o
 led none = no-row refl
 led (some p) = in-row p refl
 
 -- every byte after a first one is 128 or more
-abbrev High : List Range → Type 0
+abbrev pub High : List Range → Type 0
 High [] = Unit {0}
 High (r ∷ p) = (128 ≤ r .low) × High p
 
-abbrev HighRows : List Row → Type 0
+abbrev pub HighRows : List Row → Type 0
 HighRows [] = Unit {0}
 HighRows (r ∷ rs) = High (r .follow) × HighRows rs
 
-abbrev HighLook : Option (List Range) → Type 0
+abbrev pub HighLook : Option (List Range) → Type 0
 HighLook none = Unit {0}
 HighLook (some p) = High p
 
-look-high : (rs : List Row) (b : ℕ) → HighRows rs → HighLook (look rs b)
+pub look-high : (rs : List Row) (b : ℕ) → HighRows rs → HighLook (look rs b)
 look-high [] b h = tt
 look-high (r ∷ rs) b h = elim (test (within (r .first) b)) [
   | pass e ↦ rw (e, look) (h .0)
   | fail e ↦ rw (e, look) (look-high rs b (h .1))
 ]
 
-followers-high : (b : ℕ) {p : List Range} → followers b ≡ some p → High p
+pub followers-high : (b : ℕ) {p : List Range} → followers b ≡ some p → High p
 unfolding followers
 followers-high b e = rw e at (look-high rows b (omega arith))
 
-low-out : (r : Range) (c : ℕ) → 128 ≤ r .low → c < 128 → within r c ≡ false
+pub low-out : (r : Range) (c : ℕ) → 128 ≤ r .low → c < 128 → within r c ≡ false
 low-out r c h l = rw (lt-leb (r .low) c (omega arith))
 
 -- after a whole text the rest is judged by itself

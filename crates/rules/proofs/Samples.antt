@@ -1,0 +1,161 @@
+-- The column line: what is read of it is good, and what is written is read back. Assumes nothing.
+use Prim.Native.Nat.{ℕ}
+use native.Mathlib.Omega.{arith}
+use mathlib.Core.Path.{_≡_, refl, sym, ap, ap₂, _∙_}
+use mathlib.Core.Bool.{Bool, true, false, not, _||_, _&&_, true≢false}
+use mathlib.Core.List.{List, [], _∷_, _++_, append-assoc, append-nil}
+use mathlib.Core.Option.{Option, none, some}
+use borrow.Author.Tests.{eqb-true}
+use Rattle.values.specs.Bytes.{Bytes, LF, ascii, is, any, same}
+use Rattle.values.specs.Utf8.{completes, followers, isUtf8}
+use Rattle.values.proofs.Tests.{Test, pass, fail, test, or-l, or-r, and-l, and-r, not-true}
+use Rattle.values.proofs.Lists.{OnSome, any-append}
+use Rattle.rules.specs.Answer.{Answer, ok, refuse, unless, judged}
+use Rattle.rules.specs.Version.{starts}
+use Rattle.rules.specs.Columns.{Columns, TAB, add, split, columnNames, afterColumns, distinct, formatted, readColumns}
+use Rattle.rules.specs.House.{parted, writeColumns}
+use Rattle.rules.proofs.Firsts.{OnOk, judged-ok, zero-unless}
+use Rattle.rules.proofs.Sames.{same-self, same-sound}
+use Rattle.rules.proofs.Alls.{All, all-map, all-append}
+use Rattle.rules.proofs.Pure.{Pure, pure-nil, Plain, pure-cons, pure-append, pure-join, pure-split}
+
+-- a column: no tab
+pub record GoodName (x : Bytes) : Type 0 where
+  pub tabless : any (is TAB) x ≡ false
+  pub pure : Pure x
+
+split-tab : (b : ℕ) (bs : Bytes) → is TAB b ≡ true → split (b ∷ bs) ≡ [] ∷ split bs
+unfolding split
+split-tab b bs e = rw (e, split)
+
+split-add : (b : ℕ) (bs : Bytes) → is TAB b ≡ false → split (b ∷ bs) ≡ add b (split bs)
+unfolding split
+split-add b bs e = rw (e, split)
+
+split-one : (x : Bytes) → any (is TAB) x ≡ false → split x ≡ x ∷ []
+unfolding any split
+split-one [] h = refl
+split-one (b ∷ x) h = split-add b x (or-l (is TAB b) _ h) ∙ ap (add b) (split-one x (or-r (is TAB b) _ h))
+
+split-more : (x r : Bytes) → any (is TAB) x ≡ false → split (x ++ TAB ∷ r) ≡ x ∷ split r
+unfolding any
+split-more [] r h = split-tab TAB r refl
+split-more (b ∷ x) r h = split-add b (x ++ TAB ∷ r) (or-l (is TAB b) _ h) ∙ ap (add b) (split-more x r (or-r (is TAB b) _ h))
+
+-- what is parted by tabs is split into the same
+split-parted : (x : Bytes) (xs : List Bytes) → All (λ y. any (is TAB) y ≡ false) (x ∷ xs) → split (parted (x ∷ xs)) ≡ x ∷ xs
+unfolding parted
+split-parted x [] h = split-one x (h .0)
+split-parted x (y ∷ xs) h = split-more x (parted (y ∷ xs)) (h .0) ∙ ap (x ∷_) (split-parted y xs (h .1))
+
+tab-plain : Plain TAB
+tab-plain = record { ascii = omega arith; other = refl }
+
+pure-parted : (xs : List Bytes) → All Pure xs → Pure (parted xs)
+unfolding parted
+pure-parted [] h = pure-nil
+pure-parted (x ∷ []) h = h .0
+pure-parted (x ∷ y ∷ xs) h = pure-join tab-plain (h .0) (pure-parted (y ∷ xs) (h .1))
+
+-- the columns of a line are good: p stands before the rest of the first one
+abbrev prefix : Bytes → List Bytes → List Bytes
+prefix p [] = p ∷ []
+prefix p (x ∷ xs) = (p ++ x) ∷ xs
+
+prefix-add : (p : Bytes) (b : ℕ) (xs : List Bytes) → prefix p (add b xs) ≡ prefix (p ++ b ∷ []) xs
+prefix-add p b [] = refl
+prefix-add p b (x ∷ xs) = ap (_∷ xs) (sym (append-assoc p (b ∷ []) x))
+
+unprefix : (xs : List Bytes) → All GoodName (prefix [] xs) → All GoodName xs
+unprefix [] k = tt
+unprefix (x ∷ xs) k = k
+
+split-good : (p bs : Bytes) → any (is TAB) p ≡ false → Pure (p ++ bs) → All GoodName (prefix p (split bs))
+unfolding split any
+split-good p [] h g = (record { tabless = rw (append-nil p) h; pure = g }, tt)
+split-good p (b ∷ bs) h g = elim (test (is TAB b)) [
+  | pass e ↦
+      let d = pure-split p b bs (omega (arith, eqb-true b TAB e)) g in
+      rw (split-tab b bs e) (record { tabless = rw (append-nil p) h; pure = rw (append-nil p) (d .0) }, unprefix (split bs) (split-good [] bs refl (d .1)))
+  | fail e ↦ rw (split-add b bs e, prefix-add p b (split bs))
+      (split-good (p ++ b ∷ []) bs (any-append (is TAB) p (b ∷ []) ∙ rw (h, e)) (rw (append-assoc p (b ∷ []) bs) g))
+]
+
+-- FORMAT stands where there are samples, and no two are the same
+pub record GoodColumns (c : Columns) : Type 0 where
+  pub names : All GoodName (c .samples)
+  pub once : distinct (c .samples) ≡ true
+  pub formatted : c .format ≡ false → c .samples ≡ []
+
+after-good : (ns xs : List Bytes) → All GoodName xs → OnSome (All GoodName) (afterColumns ns xs)
+unfolding afterColumns
+after-good [] xs h = h
+after-good (n ∷ ns) [] h = tt
+after-good (n ∷ ns) (x ∷ xs) h = elim (test (same x n)) [
+  | pass e ↦ rw (afterColumns, e) (after-good ns xs (h .1))
+  | fail e ↦ rw (afterColumns, e) tt
+]
+
+formatted-good : (a : Option (List Bytes)) → OnSome (All GoodName) a → OnOk GoodColumns (formatted a)
+unfolding distinct
+formatted-good none h = tt
+formatted-good (some []) h = record { names = tt; once = refl; formatted = λ e. refl }
+formatted-good (some (x ∷ xs)) h = elim (test (same x (ascii "FORMAT"))) [
+  | pass e ↦ rw (formatted, e) (judged-ok GoodColumns (unless (distinct xs) 23) _ (λ z. record { names = h .1; once = zero-unless (distinct xs) 22 z; formatted = λ q. absurd (true≢false q) }))
+  | fail e ↦ rw (formatted, e) tt
+]
+
+pub columns-good : (l : Bytes) → Pure l → OnOk GoodColumns (readColumns l)
+unfolding readColumns any
+columns-good l g = formatted-good (afterColumns columnNames (split l)) (after-good columnNames (split l) (unprefix (split l) (split-good [] l refl g)))
+
+-- What is written is read back
+
+abbrev isName : Bytes → Bool
+isName x = not (any (is TAB) x) && (isUtf8 x && not (any (is LF) x))
+
+abbrev areNames : List Bytes → Bool
+areNames [] = true
+areNames (x ∷ xs) = isName x && areNames xs
+
+all-names : (xs : List Bytes) → areNames xs ≡ true → All GoodName xs
+all-names [] h = tt
+all-names (x ∷ xs) h =
+    let n = and-l (isName x) (areNames xs) h in
+    let p = and-r (not (any (is TAB) x)) (isUtf8 x && not (any (is LF) x)) n in (
+      record {
+        tabless = not-true (any (is TAB) x) (and-l (not (any (is TAB) x)) _ n);
+        pure = record { utf8 = and-l (isUtf8 x) _ p; line = not-true (any (is LF) x) (and-r (isUtf8 x) _ p) };
+      },
+      all-names xs (and-r (isName x) (areNames xs) h),
+    )
+
+-- the columns of a line that is written
+abbrev pub columnsOf : Bool → List Bytes → List Bytes
+columnsOf format samples = columnNames ++ elim format [ true ↦ ascii "FORMAT" ∷ samples | false ↦ [] ]
+
+written-names : (format : Bool) (samples : List Bytes) → All GoodName samples → All GoodName (columnsOf format samples)
+unfolding any completes followers
+written-names true samples h = all-append GoodName columnNames (ascii "FORMAT" ∷ samples) (all-names columnNames refl) (all-names (ascii "FORMAT" ∷ []) refl .0, h)
+written-names false samples h = all-names columnNames refl
+
+pub columns-pure : (c : Columns) → GoodColumns c → Pure (writeColumns (c .format) (c .samples))
+unfolding writeColumns
+columns-pure c g = pure-parted (columnsOf (c .format) (c .samples)) (all-map GoodName Pure (columnsOf (c .format) (c .samples)) (λ x h. h .pure) (written-names (c .format) (c .samples) (g .names)))
+
+pub columns-back : (c : Columns) → GoodColumns c → readColumns (writeColumns (c .format) (c .samples)) ≡ ok c
+unfolding readColumns writeColumns afterColumns same
+columns-back c g = rw (split-parted (ascii "#CHROM") _ tabless) (go (c .format) (c .samples) (g .once) (g .formatted))
+  where
+    tabless : All (λ y. any (is TAB) y ≡ false) (columnsOf (c .format) (c .samples))
+    tabless = all-map GoodName (λ y. any (is TAB) y ≡ false) (columnsOf (c .format) (c .samples)) (λ x h. h .tabless) (written-names (c .format) (c .samples) (g .names))
+
+    go : (format : Bool) (samples : List Bytes) → distinct samples ≡ true → (format ≡ false → samples ≡ [])
+        → formatted (afterColumns columnNames (columnsOf format samples)) ≡ ok (record { format = format; samples = samples })
+    go true samples d n = rw d
+    go false samples d n = rw (n refl)
+
+pub columns-start : (format : Bool) (samples : List Bytes) → starts (ascii "#CHROM") (writeColumns format samples) ≡ true
+unfolding starts writeColumns parted
+columns-start true samples = refl
+columns-start false samples = refl

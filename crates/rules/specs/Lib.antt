@@ -1,0 +1,15 @@
+pub mod Answer
+pub mod Sizes
+pub mod Lines
+pub mod Version
+pub mod Known
+pub mod Reserved
+pub mod Map
+pub mod Record
+pub mod Columns
+pub mod Entry
+pub mod Reading
+pub mod Shown
+pub mod Meaning
+pub mod House
+pub mod Examples

@@ -1,0 +1,59 @@
+-- Document 01, "Lines" and "Records": versions. Assumes nothing.
+use Prim.Native.Nat.{ℕ}
+use mathlib.Core.Bool.{Bool, true, false, not, _||_, _&&_}
+use mathlib.Core.List.{List, [], _∷_, _++_, tail}
+use mathlib.Core.Option.{Option, none, some}
+use lib.Dec.{eqb, ltb}
+use lib.ListN.{drop}
+use Rattle.values.specs.Bytes.{Bytes, ascii, is, begins, before, from}
+use Rattle.values.specs.Integer.{u32Read, decimal}
+use Rattle.values.specs.declared.integer.IntegerRead.{IntegerRead}
+use Rattle.values.specs.declared.integer.IntegerRead.the-variants.{Value, Refused}
+
+pub record Version : Type 0 where
+  pub major : ℕ
+  pub minor : ℕ
+
+abbrev pub version : ℕ → ℕ → Version
+version a b = record { major = a; minor = b }
+
+abbrev pub v4-3 : Version
+v4-3 = version 4 3
+
+abbrev pub v4-5 : Version
+v4-5 = version 4 5
+
+-- by major, then minor
+unfoldable pub earlier : Version → Version → Bool
+earlier a b = ltb (a .major) (b .major) || (eqb (a .major) (b .major) && ltb (a .minor) (b .minor))
+
+-- from w on
+abbrev pub since : Version → Version → Bool
+since w v = not (earlier v w)
+
+-- the file's version, or the one that the caller imposed
+abbrev pub inForce : Option Version → Version → Version
+inForce none v = v
+inForce (some w) v = w
+
+-- the text begins with p
+unfoldable pub starts : Bytes → Bytes → Bool
+starts [] bs = true
+starts (c ∷ p) [] = false
+starts (c ∷ p) (b ∷ bs) = elim (eqb b c) [ true ↦ starts p bs | false ↦ false ]
+
+abbrev pub versionOf : IntegerRead → IntegerRead → Option Version
+versionOf (Value a) (Value b) = some (version a b)
+versionOf (Value a) Refused = none
+versionOf Refused b = none
+
+-- one digit or more, `.`, one digit or more, nothing after
+unfoldable pub readParts : Bytes → Option Version
+readParts bs = elim (begins 46 (from (is 46) bs)) [ true ↦ versionOf (u32Read (before (is 46) bs)) (u32Read (tail (from (is 46) bs))) | false ↦ none ]
+
+-- `VCFv`, then the parts
+unfoldable pub readVersion : Bytes → Option Version
+readVersion bs = elim (starts (ascii "VCFv") bs) [ true ↦ readParts (drop 4 bs) | false ↦ none ]
+
+unfoldable pub writeVersion : Version → Bytes
+writeVersion v = ascii "VCFv" ++ (decimal (v .major) ++ 46 ∷ decimal (v .minor))

@@ -86,12 +86,12 @@ field-good m bs g = with-key (readKey bs) (key-in bs)
         with-value p h (d .0) (readValue (mayBracket m (p .0)) (p .1)) (value-pure (mayBracket m (p .0)) (p .1) (d .1))
 
 -- what follows a value, by cases with the equation kept
-data SeenAfter (a : After) : Type 0 where
+pub data SeenAfter (a : After) : Type 0 where
   was-more : (r : Bytes) → a ≡ more r → SeenAfter a
   was-done : a ≡ done → SeenAfter a
   was-wrong : a ≡ wrong → SeenAfter a
 
-see-after : (a : After) → SeenAfter a
+pub see-after : (a : After) → SeenAfter a
 see-after (more r) = was-more r refl
 see-after done = was-done refl
 see-after wrong = was-wrong refl
@@ -109,11 +109,11 @@ after-pure (b ∷ bs) g = elim (test (is 44 b)) [
   | fail e ↦ elim (test (is 62 b && empty bs)) [ pass f ↦ rw (after, e, f) tt | fail f ↦ rw (after, e, f) tt ]
 ]
 
-data SeenField (a : Option (Field × Bytes)) : Type 0 where
+pub data SeenField (a : Option (Field × Bytes)) : Type 0 where
   no-field : a ≡ none → SeenField a
   a-field : (p : Field × Bytes) → a ≡ some p → SeenField a
 
-see-field : (a : Option (Field × Bytes)) → SeenField a
+pub see-field : (a : Option (Field × Bytes)) → SeenField a
 see-field none = no-field refl
 see-field (some p) = a-field p refl
 

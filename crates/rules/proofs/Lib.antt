@@ -16,3 +16,7 @@ pub mod Sound
 pub mod Back
 pub mod Rooms
 pub mod House
+pub mod Texts
+pub mod Trace
+pub mod Shows
+pub mod Demands

@@ -3,7 +3,7 @@ use Prim.Native.Nat.{ℕ, suc, _+_, _≤_, _<_}
 use native.Mathlib.Omega.{arith}
 use mathlib.Core.Path.{_≡_, refl, sym, ap, ap₂, _∙_}
 use mathlib.Core.Bool.{Bool, true, false, _||_}
-use mathlib.Core.List.{List, [], _∷_, _++_, map, append-assoc}
+use mathlib.Core.List.{List, [], _∷_, _++_, map, append-assoc, append-nil}
 use lib.Dec.{eqb}
 use lib.ListN.{length}
 use borrow.Author.Tests.{eq-eqb}
@@ -128,4 +128,37 @@ pieces-fine [] = tt
 pieces-fine (b ∷ bs) = elim (test (is LF b)) [
   | pass e ↦ rw (pieces-LF b bs e) (rw (e, dropEnd), pieces-fine bs)
   | fail e ↦ rw (pieces-push b bs e) (push-pieces b (pieces bs) e (pieces-fine bs))
+]
+
+-- a header is nothing, or its first piece and the rest; if more follows, the piece ends in LF and is one before anything
+pub data Cut (h : Bytes) : Type 0 where
+  nothing : h ≡ [] → Cut h
+  cut : (p r : Bytes) → h ≡ p ++ r → pieces h ≡ p ∷ pieces r → ((x : Bytes) → (r ≡ [] → ⊥) → pieces (p ++ x) ≡ p ∷ pieces x) → Cut h
+
+pub cut-first : (h : Bytes) → Cut h
+unfolding pieces
+cut-first [] = nothing refl
+cut-first (b ∷ bs) = elim (test (is LF b)) [
+  | pass e ↦ cut (b ∷ []) bs refl (pieces-LF b bs e) (λ x _. pieces-LF b x e)
+  | fail e ↦ elim (cut-first bs) [
+    | nothing n ↦ cut (b ∷ []) [] (rw n) (rw n (pieces-push b [] e)) (λ x no. absurd (no refl))
+    | cut p r a q t ↦ cut (b ∷ p) r (ap (b ∷_) a) (pieces-push b bs e ∙ ap (push b) q) (λ x no. pieces-push b (p ++ x) e ∙ ap (push b) (t x no))
+  ]
+]
+
+-- a line is the beginning of its piece
+dropEnd-prefix : (c : ℕ) (x : Bytes) → (e : Bytes) × (x ≡ dropEnd c x ++ e)
+unfolding dropEnd
+dropEnd-prefix c [] = ([], refl)
+dropEnd-prefix c (b ∷ []) = elim (test (is c b)) [ pass e ↦ rw (e, dropEnd) (b ∷ [], refl) | fail e ↦ rw (e, dropEnd) ([], refl) ]
+dropEnd-prefix c (b ∷ d ∷ x) = let r = dropEnd-prefix c (d ∷ x) in (r .0, ap (b ∷_) (r .1))
+
+pub line-prefix : (p : Bytes) → (e : Bytes) × (p ≡ lineOf p ++ e)
+unfolding lineOf
+line-prefix p = elim (test (ends LF p)) [
+  | pass e ↦
+      let a = dropEnd-prefix LF p in
+      let b = dropEnd-prefix CR (dropEnd LF p) in
+      rw (e, lineOf) (b .0 ++ a .0, a .1 ∙ ap (_++ a .0) (b .1) ∙ append-assoc (dropEnd CR (dropEnd LF p)) (b .0) (a .0))
+  | fail e ↦ rw (e, lineOf) ([], sym (append-nil p))
 ]

@@ -155,7 +155,7 @@ first-field v k fs h = go (fieldNamed v k (ascii "ID") fs) refl (id-given v k fs
     }
 
 -- a key that is no PEDIGREE has the ID under its own name
-tag-none : (v : Version) (k : Bytes) (fs : List Field) → alwaysMap k ≡ false → tag v k fs ≡ 0
+pub tag-none : (v : Version) (k : Bytes) (fs : List Field) → alwaysMap k ≡ false → tag v k fs ≡ 0
 unfolding alwaysMap namesId same
 tag-none v k fs h = go (fieldNamed v k (ascii "ID") fs) (on-named (λ f. Unit {0}) v k (ascii "ID") fs (units fs))
   where

@@ -159,3 +159,49 @@ pub columns-start : (format : Bool) (samples : List Bytes) → starts (ascii "#C
 unfolding starts writeColumns parted
 columns-start true samples = refl
 columns-start false samples = refl
+
+-- A column line that was read is the one that would be written
+
+parted-add : (b : ℕ) (x : Bytes) (xs : List Bytes) → parted (add b (x ∷ xs)) ≡ b ∷ parted (x ∷ xs)
+unfolding parted
+parted-add b x [] = refl
+parted-add b x (y ∷ xs) = refl
+
+-- a line is split into one column or more
+pub data Split (l : Bytes) : Type 0 where
+  columns : (x : Bytes) (xs : List Bytes) → split l ≡ x ∷ xs → parted (x ∷ xs) ≡ l → Split l
+
+pub split-in : (l : Bytes) → Split l
+unfolding split parted
+split-in [] = columns [] [] refl refl
+split-in (b ∷ l) = elim (test (is TAB b)) [
+  | pass e ↦ elim (split-in l) [ columns x xs q p ↦ columns [] (x ∷ xs) (split-tab b l e ∙ ap ([] ∷_) q) (ap₂ _∷_ (sym (eqb-true b TAB e)) p) ]
+  | fail e ↦ elim (split-in l) [ columns x xs q p ↦ columns (b ∷ x) xs (split-add b l e ∙ ap (add b) q) (parted-add b x xs ∙ ap (b ∷_) p) ]
+]
+
+after-in : (ns xs : List Bytes) → OnSome (λ r. xs ≡ ns ++ r) (afterColumns ns xs)
+unfolding afterColumns
+after-in [] xs = refl
+after-in (n ∷ ns) [] = tt
+after-in (n ∷ ns) (x ∷ xs) = elim (test (same x n)) [
+  | pass e ↦ rw (afterColumns, e) (more (afterColumns ns xs) (after-in ns xs) (same-sound x n e))
+  | fail e ↦ rw (afterColumns, e) tt
+]
+  where
+    more : (a : Option (List Bytes)) → OnSome (λ r. xs ≡ ns ++ r) a → x ≡ n → OnSome (λ r. x ∷ xs ≡ n ∷ ns ++ r) a
+    more none h e = tt
+    more (some r) h e = ap₂ _∷_ e h
+
+pub columns-in : (l : Bytes) → OnOk (λ c. writeColumns (c .format) (c .samples) ≡ l) (readColumns l)
+unfolding readColumns writeColumns
+columns-in l = elim (split-in l) [ columns x xs q p ↦ rw q (go x xs p (afterColumns columnNames (x ∷ xs)) (after-in columnNames (x ∷ xs))) ]
+  where
+    go : (x : Bytes) (xs : List Bytes) → parted (x ∷ xs) ≡ l → (a : Option (List Bytes)) → OnSome (λ r. x ∷ xs ≡ columnNames ++ r) a
+        → OnOk (λ c. parted (columnsOf (c .format) (c .samples)) ≡ l) (formatted a)
+    go x xs p none h = tt
+    go x xs p (some []) h = sym (ap parted h) ∙ p
+    go x xs p (some (y ∷ ys)) h = elim (test (same y (ascii "FORMAT"))) [
+      | pass e ↦ rw (formatted, e) (judged-ok (λ c. parted (columnsOf (c .format) (c .samples)) ≡ l) (unless (distinct ys) 23) _
+          (λ z. ap (λ (w : Bytes). parted (columnNames ++ w ∷ ys)) (sym (same-sound y (ascii "FORMAT") e)) ∙ sym (ap parted h) ∙ p))
+      | fail e ↦ rw (formatted, e) tt
+    ]

@@ -102,14 +102,14 @@ abbrev pub valueIn : Bytes → Text → Value
 valueIn s t = valueBy (t .quoted) (part s (t .start) (t .end))
 
 -- the places of a value that stands at j
-record TextHere (s : Bytes) (j : ℕ) (v : Value) (n : ℕ) : Type 0 where
-  value : valueIn s (textAt j v) ≡ v
-  begun : j ≤ textAt j v .start
-  ordered : textAt j v .start ≤ textAt j v .end
-  ended : textAt j v .end ≤ n
-  inside : n ≤ length s
+pub record TextHere (s : Bytes) (j : ℕ) (v : Value) (n : ℕ) : Type 0 where
+  pub value : valueIn s (textAt j v) ≡ v
+  pub begun : j ≤ textAt j v .start
+  pub ordered : textAt j v .start ≤ textAt j v .end
+  pub ended : textAt j v .end ≤ n
+  pub inside : n ≤ length s
 
-text-of-value : (s : Bytes) (j : ℕ) (v : Value) (r : Bytes) → drop j s ≡ written v ++ r → j ≤ length s → TextHere s j v (j + length (written v))
+pub text-of-value : (s : Bytes) (j : ℕ) (v : Value) (r : Bytes) → drop j s ≡ written v ++ r → j ≤ length s → TextHere s j v (j + length (written v))
 unfolding written
 text-of-value s j (quoted t) r e h =
     let f : drop (j + 1) s ≡ t ++ 34 ∷ r = sym (drop-drop 1 j s) ∙ ap tail e ∙ append-assoc t (34 ∷ []) r in

@@ -1,0 +1,313 @@
+-- An accepted header's entries, each with its line and its record. Assumes nothing.
+use Prim.Native.Nat.{ℕ, zero, suc, _+_, _-_, _*_, _≤_, _<_}
+use native.Mathlib.Omega.{arith}
+use mathlib.Core.Path.{_≡_, refl, sym, ap, ap₂, subst, _∙_}
+use mathlib.Core.Bool.{Bool, true, false}
+use mathlib.Core.List.{List, [], _∷_, _++_, append-assoc, append-nil}
+use mathlib.Core.Option.{Option, none, some}
+use mathlib.Core.Logic.{_⊎_, inl, inr, ⊎-elim}
+use lib.Dec.{leb}
+use lib.ListN.{length, take, drop, length-append, length-drop}
+use lib.Seq.{drop-drop}
+use borrow.Author.Tests.{leb-true}
+use Rattle.values.specs.Bytes.{Bytes, LF, ascii, is, any}
+use Rattle.values.specs.Utf8.{isUtf8}
+use Rattle.values.proofs.Tests.{Test, pass, fail, test}
+use Rattle.values.proofs.Fields.{part, text-here}
+use Rattle.rules.specs.Answer.{Answer, ok, refuse, _>>=_, judged}
+use Rattle.rules.specs.Sizes.{Limits}
+use Rattle.rules.specs.Lines.{pieces, lineOf}
+use Rattle.rules.specs.Version.{Version, v4-5, inForce, starts}
+use Rattle.rules.specs.Record.{Record, fileformat, fields, text, readRecord}
+use Rattle.rules.specs.Columns.{Columns, readColumns}
+use Rattle.rules.specs.Entry.{Entry, recordEntry, columnEntries}
+use Rattle.rules.specs.Reading.{clash, State, empty, ready, done, begin, enter, finish, stepText, isDone, step, Reading, stop, following, atEnd, run, reading}
+use Rattle.rules.proofs.Firsts.{OnOk, on-ok, bind-ok, judged-ok, Seen, was, not-read, see}
+use Rattle.rules.proofs.Pieces.{Cut, nothing, cut, cut-first, line-prefix}
+use Rattle.rules.proofs.Sound.{run-refused, run-full, run-more}
+use Rattle.rules.proofs.Back.{Accepted}
+
+-- a line of the header, at its place
+pub record LineAt (lim : Limits) (h : Bytes) (start : ℕ) (l : Bytes) : Type 0 where
+  pub here : part h start (start + length l) ≡ l
+  pub inside : start + length l ≤ length h
+  pub short : length l ≤ lim .line
+  pub utf8 : isUtf8 l ≡ true
+
+-- an entry, and the record of its line
+pub record Row (lim : Limits) (h : Bytes) (v : Version) (e : Entry) (r : Record) : Type 0 where
+  pub start : ℕ
+  pub line : Bytes
+  pub there : LineAt lim h start line
+  pub read : readRecord v line ≡ ok r
+  pub entry : e ≡ recordEntry v start line r
+
+abbrev pub Rows : Limits → Bytes → Version → List Entry → List Record → Type 0
+Rows lim h v [] [] = Unit {0}
+Rows lim h v [] (r ∷ rs) = ⊥
+Rows lim h v (e ∷ es) [] = ⊥
+Rows lim h v (e ∷ es) (r ∷ rs) = Row lim h v e r × Rows lim h v es rs
+
+-- what a line does in Ready
+data Stepped (v : Version) (rs : List Record) (start : ℕ) (l : Bytes) (q : State × List Entry) : Type 0 where
+  entered : (r : Record) → readRecord v l ≡ ok r → q ≡ (ready v (rs ++ r ∷ []), recordEntry v start l r ∷ []) → Stepped v rs start l q
+  finished : (c : Columns) → readColumns l ≡ ok c → q ≡ (done v rs c, columnEntries start l c) → Stepped v rs start l q
+
+enter-steps : (v : Version) (rs : List Record) (start : ℕ) (l : Bytes) (r : Record) → readRecord v l ≡ ok r → OnOk (Stepped v rs start l) (enter v rs start l r)
+enter-steps v rs start l (fileformat w) e = tt
+enter-steps v rs start l (fields k fs) e = judged-ok (Stepped v rs start l) (clash v (fields k fs) rs) _ (λ z. entered (fields k fs) e refl)
+enter-steps v rs start l (text k t) e = judged-ok (Stepped v rs start l) (clash v (text k t) rs) _ (λ z. entered (text k t) e refl)
+
+text-steps : (imposed : Option Version) (start : ℕ) (v : Version) (rs : List Record) (l : Bytes) → OnOk (Stepped v rs start l) (stepText imposed start (ready v rs) l)
+unfolding stepText
+text-steps imposed start v rs l = elim (test (starts (ascii "#CHROM") l)) [
+  | pass e ↦ elim (see (readColumns l)) [
+    | was c a ↦ rw (stepText, e, a) (finished c a refl)
+    | not-read m a ↦ rw (stepText, e, a) tt
+  ]
+  | fail e ↦ elim (see (readRecord v l)) [
+    | was r a ↦ rw (stepText, e, a) (enter-steps v rs start l r a)
+    | not-read m a ↦ rw (stepText, e, a) tt
+  ]
+]
+
+-- a line that is taken is short and UTF-8
+abbrev Taken : Limits → Option Version → ℕ → State → Bytes → State × List Entry → Type 0
+Taken lim imposed start s l q = (length l ≤ lim .line) × (isUtf8 l ≡ true) × (stepText imposed start s l ≡ ok q)
+
+pub step-taken : (lim : Limits) (imposed : Option Version) (start : ℕ) (s : State) (l : Bytes) → OnOk (Taken lim imposed start s l) (step lim imposed start s l)
+unfolding step
+step-taken lim imposed start s l = elim (test (isDone s)) [
+  | pass d ↦ rw (step, d) tt
+  | fail d ↦ elim (test (leb (length l) (lim .line))) [
+    | pass e ↦ elim (test (isUtf8 l)) [
+      | pass u ↦ rw (step, d, e, u) (same (stepText imposed start s l) (leb-true (length l) (lim .line) e) u)
+      | fail u ↦ rw (step, d, e, u) tt
+    ]
+    | fail e ↦ rw (step, d, e) tt
+  ]
+]
+  where
+    same : (a : Answer (State × List Entry)) → length l ≤ lim .line → isUtf8 l ≡ true → OnOk (λ q. (length l ≤ lim .line) × (isUtf8 l ≡ true) × (a ≡ ok q)) a
+    same (ok q) e u = (e, u, refl)
+    same (refuse n) e u = tt
+
+-- the first line of what is left of a header, and what is left after it
+pub record FirstLine (h : Bytes) (start : ℕ) (p : Bytes) (ps : List Bytes) : Type 0 where
+  pub here : part h start (start + length (lineOf p)) ≡ lineOf p
+  pub inside : start + length (lineOf p) ≤ length h
+  pub next : start + length p ≤ length h
+  pub left : pieces (drop (start + length p) h) ≡ ps
+
+pub first-line : (h : Bytes) (start : ℕ) (p : Bytes) (ps : List Bytes) → start ≤ length h → pieces (drop start h) ≡ p ∷ ps → FirstLine h start p ps
+unfolding pieces
+first-line h start p ps l e = elim (cut-first (drop start h)) [
+  | nothing n ↦ let z : _≡_ {A = List Bytes} [] (p ∷ ps) = rw n at e in absurd (none z)
+  | cut p′ r a q t ↦
+      let f : p′ ∷ pieces r ≡ p ∷ ps = sym q ∙ e in
+      let i : p′ ≡ p = cc in
+      let j : pieces r ≡ ps = cc in
+      let x = line-prefix p in
+      let b : drop start h ≡ lineOf p ++ (x .0 ++ r) = a ∙ rw i (ap (_++ r) (x .1) ∙ append-assoc (lineOf p) (x .0) r) in
+      let d : drop start h ≡ p ++ r = a ∙ rw i in
+      let n = sym (length-drop start h) ∙ ap length d ∙ length-append p r in
+      let m = ap length (x .1) ∙ length-append (lineOf p) (x .0) in
+      record {
+        here = text-here h start (lineOf p) (x .0 ++ r) b .0;
+        inside = omega arith;
+        next = omega arith;
+        left = ap pieces (text-here h start p r d .1) ∙ j;
+      }
+]
+  where
+    none : _≡_ {A = List Bytes} [] (p ∷ ps) → ⊥
+    none z = let w : _≡_ {A = ℕ} 0 1 = cc in omega arith
+
+-- the records that were added, their entries, and the column line
+pub record Traced (lim : Limits) (h : Bytes) (v : Version) (before : List Record) (w : Version) (after : List Record) (c : Columns) (entries : List Entry) : Type 0 where
+  pub version : v ≡ w
+  pub new : List Record
+  pub rows : List Entry
+  pub start : ℕ
+  pub line : Bytes
+  pub records : after ≡ before ++ new
+  pub all : Rows lim h v rows new
+  pub last : LineAt lim h start line
+  pub read : readColumns line ≡ ok c
+  pub these : entries ≡ rows ++ columnEntries start line c
+
+done-only : (lim : Limits) (imposed : Option Version) (room n start count : ℕ) (v : Version) (rs : List Record) (c : Columns) (ps : List Bytes)
+    → run lim imposed room n start count (done v rs c) ps .number ≡ 0 → run lim imposed room n start count (done v rs c) ps ≡ stop 0 n start (done v rs c)
+unfolding run step
+done-only lim imposed room n start count v rs c [] z = refl
+done-only lim imposed room n start count v rs c (p ∷ ps) z = absurd (omega (arith, sym (ap (λ (r : Reading). r .number) (run-refused lim imposed room n start count (done v rs c) p ps refl)) ∙ z))
+
+ready-not : {v w : Version} {rs rs′ : List Record} {c : Columns} → _≡_ {A = State} (ready v rs) (done w rs′ c) → ⊥
+ready-not e = let z : _≡_ {A = ℕ} 0 1 = cc in omega arith
+
+accepted-rest : {v : Version} {rs : List Record} {c : Columns} {r t : Reading} (es : List Entry) → r ≡ following es t → Accepted v rs c r → Accepted v rs c t
+accepted-rest es e a = record { number = sym (ap (λ (r : Reading). r .number) e) ∙ a .number; state = sym (ap (λ (r : Reading). r .state) e) ∙ a .state }
+
+-- one record more, and the column line
+module _ (lim : Limits) (h : Bytes) (v : Version) (rs : List Record) (start : ℕ) (l : Bytes) (here : LineAt lim h start l) where
+  traced-record : {w : Version} {rs′ : List Record} {c : Columns} (r : Record) (es : List Entry) → readRecord v l ≡ ok r → Traced lim h v (rs ++ r ∷ []) w rs′ c es
+      → Traced lim h v rs w rs′ c (recordEntry v start l r ∷ es)
+  traced-record r es x d = record {
+    version = d .version;
+    new = r ∷ d .new;
+    rows = recordEntry v start l r ∷ d .rows;
+    start = d .start;
+    line = d .line;
+    records = d .records ∙ append-assoc rs (r ∷ []) (d .new);
+    all = (record { start = start; line = l; there = here; read = x; entry = refl }, d .all);
+    last = d .last;
+    read = d .read;
+    these = ap (recordEntry v start l r ∷_) (d .these);
+  }
+
+  traced-column : {w : Version} {rs′ : List Record} {c c′ : Columns} → readColumns l ≡ ok c′ → c′ ≡ c → rs ≡ rs′ → v ≡ w → Traced lim h v rs w rs′ c (columnEntries start l c′)
+  traced-column x uc ur uv = record {
+    version = uv;
+    new = [];
+    rows = [];
+    start = start;
+    line = l;
+    records = sym ur ∙ sym (append-nil rs);
+    all = tt;
+    last = here;
+    read = x ∙ ap ok uc;
+    these = ap (columnEntries start l) uc;
+  }
+
+same-state : {v w : Version} {rs rs′ : List Record} {c c′ : Columns} → _≡_ {A = State} (done v rs c) (done w rs′ c′) → (rs ≡ rs′) × (c ≡ c′) × (v ≡ w)
+same-state e = (cc, cc, cc)
+
+-- a line that is taken in Ready: the rest is read from the state after it
+module _ (lim : Limits) (imposed : Option Version) (room : ℕ) (h : Bytes) (n next count start : ℕ) (v : Version) (rs : List Record) (l : Bytes) (ps : List Bytes)
+    (w : Version) (rs′ : List Record) (c : Columns) where
+  abbrev Rest : State × List Entry → Type 0
+  Rest q = Accepted w rs′ c (run lim imposed room n next (count + length (q .1)) (q .0) ps)
+      → Traced lim h v rs w rs′ c (q .1 ++ run lim imposed room n next (count + length (q .1)) (q .0) ps .entries)
+
+  abbrev Later : Type 0
+  Later = (r : Record) → Accepted w rs′ c (run lim imposed room n next (count + 1) (ready v (rs ++ r ∷ [])) ps)
+      → Traced lim h v (rs ++ r ∷ []) w rs′ c (run lim imposed room n next (count + 1) (ready v (rs ++ r ∷ [])) ps .entries)
+
+  rest-traced : (q : State × List Entry) → LineAt lim h start l → Stepped v rs start l q → Later → Rest q
+  rest-traced q here (entered r x y) ih = subst Rest (sym y) (λ a. traced-record lim h v rs start l here r _ x (ih r a))
+  rest-traced q here (finished c′ x y) ih = subst Rest (sym y) (λ a.
+      let k = count + length (columnEntries start l c′) in
+      let o = done-only lim imposed room n next k v rs c′ ps (a .number) in
+      let u = same-state (sym (ap (λ (r : Reading). r .state) o) ∙ a .state) in
+      let es : columnEntries start l c′ ++ run lim imposed room n next k (done v rs c′) ps .entries ≡ columnEntries start l c′
+          = ap (columnEntries start l c′ ++_) (ap (λ (r : Reading). r .entries) o) ∙ append-nil (columnEntries start l c′) in
+      subst (Traced lim h v rs w rs′ c) (sym es) (traced-column lim h v rs start l here x (u .1) (u .0) (u .2)))
+
+pub traced : (lim : Limits) (imposed : Option Version) (room : ℕ) (h : Bytes) (ps : List Bytes) (n start count : ℕ) (v : Version) (rs : List Record)
+    → start ≤ length h → pieces (drop start h) ≡ ps → {w : Version} {rs′ : List Record} {c : Columns}
+    → Accepted w rs′ c (run lim imposed room n start count (ready v rs) ps)
+    → Traced lim h v rs w rs′ c (run lim imposed room n start count (ready v rs) ps .entries)
+unfolding run
+traced lim imposed room h [] n start count v rs l e a = absurd (omega (arith, a .number))
+traced lim imposed room h (p ∷ ps) n start count v rs l e {w} {rs′} {c} a =
+    let f = first-line h start p ps l e in
+    elim (see (step lim imposed start (ready v rs) (lineOf p))) [
+      | not-read m b ↦ absurd (ready-not (sym (ap (λ (r : Reading). r .state) (run-refused lim imposed room n start count (ready v rs) p ps b)) ∙ a .state))
+      | was q b ↦ elim (test (leb (2 * (count + length (q .1))) room)) [
+        | fail t ↦ absurd (ready-not (sym (ap (λ (r : Reading). r .state) (run-full lim imposed room n start count (ready v rs) p ps b t)) ∙ a .state))
+        | pass t ↦
+            let k = on-ok (Taken lim imposed start (ready v rs) (lineOf p)) (step-taken lim imposed start (ready v rs) (lineOf p)) b in
+            let m = run-more lim imposed room n start count (ready v rs) p ps b t in
+            subst (λ (r : Reading). Traced lim h v rs w rs′ c (r .entries)) (sym m)
+            (rest-traced lim imposed room h (suc n) (start + length p) count start v rs (lineOf p) ps w rs′ c q
+              (record { here = f .here; inside = f .inside; short = k .0; utf8 = k .1 })
+              (on-ok (Stepped v rs start (lineOf p)) (text-steps imposed start v rs (lineOf p)) (k .2))
+              (λ r a′. traced lim imposed room h ps (suc n) (start + length p) (count + 1) v (rs ++ r ∷ []) (f .next) (f .left) a′)
+              (accepted-rest (q .1) m a))
+      ]
+    ]
+
+-- what the first line does
+data Begun (imposed : Option Version) (l : Bytes) (q : State × List Entry) : Type 0 where
+  begun : (w : Version) → readRecord v4-5 l ≡ ok (fileformat w) → q ≡ (ready (inForce imposed w) [], recordEntry w 0 l (fileformat w) ∷ []) → Begun imposed l q
+
+begin-steps : (imposed : Option Version) (l : Bytes) → OnOk (Begun imposed l) (stepText imposed 0 empty l)
+unfolding stepText
+begin-steps imposed l = elim (see (readRecord v4-5 l)) [ was r e ↦ rw e (go r e) | not-read m e ↦ rw e tt ]
+  where
+    go : (r : Record) → readRecord v4-5 l ≡ ok r → OnOk (Begun imposed l) (begin imposed 0 l r)
+    go (fileformat w) e = begun w e refl
+    go (fields k fs) e = tt
+    go (text k t) e = tt
+
+-- an accepted header: its fileformat line, its records, its column line
+pub record TracedHeader (lim : Limits) (imposed : Option Version) (h : Bytes) (v : Version) (rs : List Record) (c : Columns) (entries : List Entry) : Type 0 where
+  pub own : Version
+  pub format : Bytes
+  pub first : LineAt lim h 0 format
+  pub readFormat : readRecord v4-5 format ≡ ok (fileformat own)
+  pub force : v ≡ inForce imposed own
+  pub rows : List Entry
+  pub all : Rows lim h v rows rs
+  pub start : ℕ
+  pub line : Bytes
+  pub last : LineAt lim h start line
+  pub readLast : readColumns line ≡ ok c
+  pub these : entries ≡ recordEntry own 0 format (fileformat own) ∷ (rows ++ columnEntries start line c)
+
+empty-not : {w : Version} {rs′ : List Record} {c : Columns} → _≡_ {A = State} empty (done w rs′ c) → ⊥
+empty-not e = let z : _≡_ {A = ℕ} 0 1 = cc in omega arith
+
+-- the fileformat line: the rest is read from the state after it
+module _ (lim : Limits) (imposed : Option Version) (room : ℕ) (h p : Bytes) (ps : List Bytes) (v : Version) (rs : List Record) (c : Columns) where
+  abbrev First : State × List Entry → Type 0
+  First q = Accepted v rs c (run lim imposed room 1 (0 + length p) (0 + length (q .1)) (q .0) ps)
+      → TracedHeader lim imposed h v rs c (q .1 ++ run lim imposed room 1 (0 + length p) (0 + length (q .1)) (q .0) ps .entries)
+
+  first-traced : (q : State × List Entry) → LineAt lim h 0 (lineOf p) → FirstLine h 0 p ps → Begun imposed (lineOf p) q → First q
+  first-traced q here f (begun w x y) = subst First (sym y) (λ a.
+      let d = traced lim imposed room h ps 1 (0 + length p) 1 (inForce imposed w) [] (f .next) (f .left) a in
+      record {
+        own = w;
+        format = lineOf p;
+        first = here;
+        readFormat = x;
+        force = sym (d .version);
+        rows = d .rows;
+        all = rows-all (d .rows) (d .version) (d .records) (d .all);
+        start = d .start;
+        line = d .line;
+        last = d .last;
+        readLast = d .read;
+        these = ap (recordEntry w 0 (lineOf p) (fileformat w) ∷_) (d .these);
+      })
+    where
+      rows-all : {u : Version} {new : List Record} (es : List Entry) → u ≡ v → rs ≡ new → Rows lim h u es new → Rows lim h v es rs
+      rows-all {u} {new} es e g r = subst (λ (x : List Record). Rows lim h v es x) (sym g) (subst (λ (x : Version). Rows lim h x es new) e r)
+
+run-empty : (lim : Limits) (imposed : Option Version) (room : ℕ) (h : Bytes) (ps : List Bytes) → pieces h ≡ ps → {v : Version} {rs : List Record} {c : Columns}
+    → Accepted v rs c (run lim imposed room 0 0 0 empty ps) → TracedHeader lim imposed h v rs c (run lim imposed room 0 0 0 empty ps .entries)
+unfolding run
+run-empty lim imposed room h [] e a = absurd (empty-not (a .state))
+run-empty lim imposed room h (p ∷ ps) e {v} {rs} {c} a =
+    let f = first-line h 0 p ps (omega arith) e in
+    elim (see (step lim imposed 0 empty (lineOf p))) [
+      | not-read m b ↦ absurd (empty-not (sym (ap (λ (r : Reading). r .state) (run-refused lim imposed room 0 0 0 empty p ps b)) ∙ a .state))
+      | was q b ↦ elim (test (leb (2 * (0 + length (q .1))) room)) [
+        | fail t ↦ absurd (empty-not (sym (ap (λ (r : Reading). r .state) (run-full lim imposed room 0 0 0 empty p ps b t)) ∙ a .state))
+        | pass t ↦
+            let k = on-ok (Taken lim imposed 0 empty (lineOf p)) (step-taken lim imposed 0 empty (lineOf p)) b in
+            let m = run-more lim imposed room 0 0 0 empty p ps b t in
+            subst (λ (r : Reading). TracedHeader lim imposed h v rs c (r .entries)) (sym m)
+            (first-traced lim imposed room h p ps v rs c q (record { here = f .here; inside = f .inside; short = k .0; utf8 = k .1 }) f
+              (on-ok (Begun imposed (lineOf p)) (begin-steps imposed (lineOf p)) (k .2)) (accepted-rest (q .1) m a))
+      ]
+    ]
+
+pub header-traced : (lim : Limits) (imposed : Option Version) (room : ℕ) (h : Bytes) {v : Version} {rs : List Record} {c : Columns}
+    → Accepted v rs c (reading lim imposed room h) → TracedHeader lim imposed h v rs c (reading lim imposed room h .entries)
+unfolding reading
+header-traced lim imposed room h a = elim (test (leb (length h) (lim .header))) [
+  | pass e ↦ rw (reading, e) (run-empty lim imposed room h (pieces h) refl (rw (reading, e) at a))
+  | fail e ↦ absurd (empty-not (rw (reading, e) at (a .state)))
+]

@@ -220,7 +220,7 @@ module _ (lim : Limits) (packed : Packed lim) (imposed : Option Version) (sized 
         here = rw (omega-add s (d .at) (length x)) (part-part h s (traced .line) (d .at) (d .at + length x) (at .here) (d .inside) ∙ d .here);
         shows = shows-plain lim packed h w v filled (suc (length rs) + suc j) 10 (s + d .at) (length x) (omega arith) refl refl (omega (arith, at .inside, d .inside)) (omega (arith, at .short, d .inside))
             (in-table t entries (suc (length rs) + suc j) fits
-              (ap (λ (x : List Entry). entryOf x (suc (length rs) + suc j)) (traced .these) ∙ rw m (rw (← n) (entry-right (traced .rows) (columnEntries s (traced .line) c) (suc j)) ∙ d .is)));
+            (ap (λ (x : List Entry). entryOf x (suc (length rs) + suc j)) (traced .these) ∙ rw m (rw (← n) (entry-right (traced .rows) (columnEntries s (traced .line) c) (suc j)) ∙ d .is)));
       }
     where
       omega-add : (a b k : ℕ) → a + b + k ≡ a + (b + k)

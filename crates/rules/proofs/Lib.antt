@@ -20,3 +20,4 @@ pub mod Texts
 pub mod Trace
 pub mod Shows
 pub mod Demands
+pub mod Refusals

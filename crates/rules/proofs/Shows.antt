@@ -227,7 +227,9 @@ module _ (size kind start len : ℕ) (hs : start < 2 ^ 20) (hl : len < 2 ^ 16) (
         identity-length offset n q tag ho hn ht,
         identity-tag offset n q tag ho hn ht,
         identity-zero offset n q tag ho hn ht,
-        k, t, i,
+        k,
+        t,
+        i,
         le-leb (start + len) size fits,
         le-leb (offset + n) len o,
       )
@@ -304,13 +306,16 @@ id-in v k fs m = go (fieldNamed v k (ascii "ID") fs) refl (textNamed v k (ascii 
         → (p : Bytes × Text) × IdIn v k fs l p
     go none e y f s b = absurd (false≢true s)
     go (some x) e none f s b = absurd b
-    go (some x) e (some p) f s b = (p, record {
-      is = f;
-      tagged = ap tagOf (b .key) ∙ sym (ap tagInField e);
-      means = value-means l (p .1) (x .value) (b .value) ∙ sym (ap valueOfField e);
-      ordered = b .ordered;
-      inside = b .inside;
-    })
+    go (some x) e (some p) f s b = (
+      p,
+      record {
+        is = f;
+        tagged = ap tagOf (b .key) ∙ sym (ap tagInField e);
+        means = value-means l (p .1) (x .value) (b .value) ∙ sym (ap valueOfField e);
+        ordered = b .ordered;
+        inside = b .inside;
+      },
+    )
 
 id-part : (e : Entry) {kind start offset len : ℕ} → kindIn (e .0) ≡ kind → startIn (e .0) ≡ start → offsetIn (e .1) ≡ offset → idLengthIn (e .1) ≡ len → hasId kind ≡ true
     → idPart (some e) ≡ some (start + offset, start + offset + len)
@@ -368,7 +373,7 @@ module _ (lim : Limits) (packed : Packed lim) (h : Bytes) (within : length h ≤
       let hn : p .1 .end - p .1 .start < 2 ^ 16 = omega (arith, i .inside) in
       let ht : tagOf (p .0) < 4 = omega (arith, leb-true (tagOf (p .0)) 2 (tag-small (p .0))) in
       let w = well-id (length h) kind start len hs hl (at .inside) (p .1 .start) (p .1 .end - p .1 .start) (p .1 .quoted) (tagOf (p .0)) (kc .0) (kc .1) ho hn ht
-          (omega (arith, i .ordered, i .inside)) (rw (i .tagged) (tag-fits v k fs)) (kc .2) in
+      (omega (arith, i .ordered, i .inside)) (rw (i .tagged) (tag-fits v k fs)) (kc .2) in
       record {
         found = entry-found h table n _ t (rw (i .is) w);
         kind = place-kind kind start len (kc .1) hs hl;
@@ -416,7 +421,7 @@ module _ (lim : Limits) (packed : Packed lim) (h : Bytes) (within : length h ≤
             let q = line-part h v i e (w .kind) (w .starts) (w .long) (at .here) (kind-cases (kindOf k) .0) (at .utf8) in
             rw (w .found, q, r, fields-part s (kindNumber (kindOf k)) k fs i refl, shift-part s (fieldsStart k) fs i)
             (header-part h s (writeRecord (fields k fs)) (at .here) (at .inside) (nth fs i) (fieldPart (fieldsStart k) fs i)
-              (field-part (writeRecord (fields k fs)) (fieldsStart k) fs i (line-fields k fs)));
+            (field-part (writeRecord (fields k fs)) (fieldsStart k) fs i (line-fields k fs)));
       }
 
   -- the calls on an entry without an ID: its part, and nothing else

@@ -57,11 +57,15 @@ scan-in (suc n) m bs = elim (see-field (readField m bs)) [
   | a-field p e ↦ let t = on-some (FieldIn m bs) (field-in m bs) e .text in
       elim (see-after (after (p .1))) [
         | was-more r a ↦ rw (scan, e, a) (λ z. let d = scan-in n m r z in
-            let b : p .1 ≡ 44 ∷ r = rw a at (after-in (p .1)) in
-            (p .0, scan n m r .0, refl, t ∙ ap (writtenField (p .0) ++_) (
-              b
-              ∙ ap (44 ∷_) (d .3 ∙ sym (append-assoc (writtenField (d .0)) (writeMore (d .1)) (62 ∷ [])))
-              ∙ sym (ap (λ (gs : List Field). writeMore gs ++ 62 ∷ []) (d .2)))))
+            let b : p .1 ≡ 44 ∷ r = rw a at (after-in (p .1)) in (
+              p .0,
+              scan n m r .0,
+              refl,
+              t ∙ ap (writtenField (p .0) ++_) (
+                  b
+                  ∙ ap (44 ∷_) (d .3 ∙ sym (append-assoc (writtenField (d .0)) (writeMore (d .1)) (62 ∷ [])))
+                  ∙ sym (ap (λ (gs : List Field). writeMore gs ++ 62 ∷ []) (d .2))),
+            ))
         | was-done a ↦ rw (scan, e, a) (λ z. (p .0, [], refl, t ∙ ap (writtenField (p .0) ++_) (rw a at (after-in (p .1)))))
         | was-wrong a ↦ rw (scan, e, a) (λ z. absurd (omega arith))
       ]
@@ -91,7 +95,7 @@ unfolding readMap
 map-in v k x = elim (test (begins 60 x)) [
   | pass e ↦ let s = readFields (isMeta v k) (alwaysMap k) (tail x) in
       rw (readMap, e) (judged-ok (λ fs. x ≡ 60 ∷ (writeFields fs ++ 62 ∷ [])) (mapRefusal v k s) (s .0)
-        (λ z. tail-is 60 x e ∙ ap (60 ∷_) (fields-in (isMeta v k) (alwaysMap k) (tail x) (fine v k s z .1))))
+      (λ z. tail-is 60 x e ∙ ap (60 ∷_) (fields-in (isMeta v k) (alwaysMap k) (tail x) (fine v k s z .1))))
   | fail e ↦ rw (readMap, e) tt
 ]
 

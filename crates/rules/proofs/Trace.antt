@@ -72,7 +72,7 @@ text-steps imposed start v rs l = elim (test (starts (ascii "#CHROM") l)) [
 ]
 
 -- a line that is taken is short and UTF-8
-abbrev Taken : Limits → Option Version → ℕ → State → Bytes → State × List Entry → Type 0
+abbrev pub Taken : Limits → Option Version → ℕ → State → Bytes → State × List Entry → Type 0
 Taken lim imposed start s l q = (length l ≤ lim .line) × (isUtf8 l ≡ true) × (stepText imposed start s l ≡ ok q)
 
 pub step-taken : (lim : Limits) (imposed : Option Version) (start : ℕ) (s : State) (l : Bytes) → OnOk (Taken lim imposed start s l) (step lim imposed start s l)
@@ -200,7 +200,7 @@ module _ (lim : Limits) (imposed : Option Version) (room : ℕ) (h : Bytes) (n n
       let o = done-only lim imposed room n next k v rs c′ ps (a .number) in
       let u = same-state (sym (ap (λ (r : Reading). r .state) o) ∙ a .state) in
       let es : columnEntries start l c′ ++ run lim imposed room n next k (done v rs c′) ps .entries ≡ columnEntries start l c′
-          = ap (columnEntries start l c′ ++_) (ap (λ (r : Reading). r .entries) o) ∙ append-nil (columnEntries start l c′) in
+      = ap (columnEntries start l c′ ++_) (ap (λ (r : Reading). r .entries) o) ∙ append-nil (columnEntries start l c′) in
       subst (Traced lim h v rs w rs′ c) (sym es) (traced-column lim h v rs start l here x (u .1) (u .0) (u .2)))
 
 pub traced : (lim : Limits) (imposed : Option Version) (room : ℕ) (h : Bytes) (ps : List Bytes) (n start count : ℕ) (v : Version) (rs : List Record)
@@ -220,10 +220,10 @@ traced lim imposed room h (p ∷ ps) n start count v rs l e {w} {rs′} {c} a =
             let m = run-more lim imposed room n start count (ready v rs) p ps b t in
             subst (λ (r : Reading). Traced lim h v rs w rs′ c (r .entries)) (sym m)
             (rest-traced lim imposed room h (suc n) (start + length p) count start v rs (lineOf p) ps w rs′ c q
-              (record { here = f .here; inside = f .inside; short = k .0; utf8 = k .1 })
-              (on-ok (Stepped v rs start (lineOf p)) (text-steps imposed start v rs (lineOf p)) (k .2))
-              (λ r a′. traced lim imposed room h ps (suc n) (start + length p) (count + 1) v (rs ++ r ∷ []) (f .next) (f .left) a′)
-              (accepted-rest (q .1) m a))
+            (record { here = f .here; inside = f .inside; short = k .0; utf8 = k .1 })
+            (on-ok (Stepped v rs start (lineOf p)) (text-steps imposed start v rs (lineOf p)) (k .2))
+            (λ r a′. traced lim imposed room h ps (suc n) (start + length p) (count + 1) v (rs ++ r ∷ []) (f .next) (f .left) a′)
+            (accepted-rest (q .1) m a))
       ]
     ]
 
@@ -300,7 +300,7 @@ run-empty lim imposed room h (p ∷ ps) e {v} {rs} {c} a =
             let m = run-more lim imposed room 0 0 0 empty p ps b t in
             subst (λ (r : Reading). TracedHeader lim imposed h v rs c (r .entries)) (sym m)
             (first-traced lim imposed room h p ps v rs c q (record { here = f .here; inside = f .inside; short = k .0; utf8 = k .1 }) f
-              (on-ok (Begun imposed (lineOf p)) (begin-steps imposed (lineOf p)) (k .2)) (accepted-rest (q .1) m a))
+            (on-ok (Begun imposed (lineOf p)) (begin-steps imposed (lineOf p)) (k .2)) (accepted-rest (q .1) m a))
       ]
     ]
 

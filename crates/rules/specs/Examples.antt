@@ -5,7 +5,8 @@ use mathlib.Core.Bool.{Bool, true, false}
 use mathlib.Core.List.{List, [], _∷_, _++_, map}
 use mathlib.Core.Option.{Option, none, some}
 use lib.ListN.{length}
-use Rattle.values.specs.Bytes.{Bytes, ascii, begins, any, before, from, same}
+use Prim.Native.String.{String}
+use Rattle.values.specs.Bytes.{Bytes, LF, ascii, begins, any, before, from, same}
 use Rattle.values.specs.Utf8.{completes, followers}
 use Rattle.values.specs.Integer.{unsignedRead, withoutSign, numberOf, decimal, digitsOf}
 use Rattle.values.specs.Value.{written, unescaped, quotedText, readValues, readValue, escape}
@@ -23,10 +24,11 @@ use Rattle.rules.specs.Entry.{textNamed, recordEntry, tabbed, samplesSta
 use Rattle.rules.specs.Reading.{beside, clash, stepText, step, run, Reading, reading}
 use Rattle.rules.specs.Meaning.{knownValue, others, saying, under, without, otherKeys, groups, meaning}
 use Rattle.rules.specs.House.{closes, isQuoted, knownFields, otherFields, recordOf, recordsOf, writeMore, writeFields, writeRecord, parted, writeColumns, houseLines, houseForm, HouseReading, tooLong, formOf, house}
+use Rattle.rules.specs.Report.{report}
 
 -- what the definitions need to compute
 unfoldable pub opened : Unit {0}
-unfolding begins any before from same completes followers unsignedRead withoutSign numberOf decimal digitsOf written unescaped quotedText readValues readValue escape writtenField readKey readField first pieces ends dropEnd lineOf writeLine writeLines earlier starts readParts readVersion writeVersion isIn isTyped kindOf alwaysMap namesId nameOf letters types readNumber lookRow reserved after scan readFields fieldRefusal checkFields fieldNamed missing misdeclared mapRefusal readMap looksMap readRecordValue readKeyed readRecord split afterColumns distinct readColumns textNamed recordEntry tabbed samplesStart sampleEntries columnEntries words beside clash stepText step run reading knownValue others saying under without otherKeys groups meaning closes isQuoted knownFields otherFields recordOf recordsOf writeMore writeFields writeRecord parted writeColumns houseLines houseForm tooLong formOf house
+unfolding begins any before from same completes followers unsignedRead withoutSign numberOf decimal digitsOf written unescaped quotedText readValues readValue escape writtenField readKey readField first pieces ends dropEnd lineOf writeLine writeLines earlier starts readParts readVersion writeVersion isIn isTyped kindOf alwaysMap namesId nameOf letters types readNumber lookRow reserved after scan readFields fieldRefusal checkFields fieldNamed missing misdeclared mapRefusal readMap looksMap readRecordValue readKeyed readRecord split afterColumns distinct readColumns textNamed recordEntry tabbed samplesStart sampleEntries columnEntries words beside clash stepText step run reading knownValue others saying under without otherKeys groups meaning closes isQuoted knownFields otherFields recordOf recordsOf writeMore writeFields writeRecord parted writeColumns houseLines houseForm tooLong formOf house report
 opened = tt
 
 -- a header, the version imposed, the table's words and the output's bytes
@@ -36,35 +38,32 @@ pub record Case : Type 0 where
   pub room : ℕ
   pub output : ℕ
 
--- number, line, start, the words kept, and the form
+-- number, line, start, the words kept, the form, and what the program prints
 pub record Expected : Type 0 where
   pub number : ℕ
   pub line : ℕ
   pub start : ℕ
   pub words : List ℕ
   pub form : Bytes
+  pub printed : Bytes
 
--- a house-form call on a case, with the words of its reading
+-- a house-form call on a case, with the words of its reading and what the program prints of it
 abbrev pub answer : Case → Expected
 answer c =
     let h = house limits (c .imposed) (c .room) (c .output) (c .header) in
-    record {
-      number = h .number;
-      line = h .line;
-      start = h .start;
-      words = words (reading limits (c .imposed) (c .room) (c .header) .entries);
-      form = h .form;
-    }
+    let r = reading limits (c .imposed) (c .room) (c .header) in
+    record { number = h .number; line = h .line; start = h .start; words = words (r .entries); form = h .form; printed = report r }
 
--- as document 01 has them: no version imposed, and a program's table and buffer
+-- as document 01 has them: no version imposed, and the program's table and buffer
 abbrev pub given : Bytes → Case
 given h = record { header = h; imposed = none; room = 8192; output = 65536 }
 
-abbrev pub refused : ℕ → ℕ → ℕ → List ℕ → Expected
-refused n l s ws = record { number = n; line = l; start = s; words = ws; form = [] }
+-- refused, with what the program prints
+abbrev pub refused : ℕ → ℕ → ℕ → List ℕ → String → Expected
+refused n l s ws p = record { number = n; line = l; start = s; words = ws; form = []; printed = ascii p ++ LF ∷ [] }
 
-abbrev pub accepted : ℕ → ℕ → List ℕ → Bytes → Expected
-accepted l s ws f = record { number = 0; line = l; start = s; words = ws; form = f }
+abbrev pub accepted : ℕ → ℕ → List ℕ → Bytes → String → Expected
+accepted l s ws f p = record { number = 0; line = l; start = s; words = ws; form = f; printed = ascii p ++ LF ∷ [] }
 
 abbrev pub F : Bytes
 F = ascii "##fileformat=VCFv4.3\n"
@@ -83,36 +82,86 @@ W = 0x1000000014000000 ∷ 0 ∷ []
 abbrev pub cell : Bytes
 cell = F ++ (ascii "##cell=<ID=W07,K=0.98>\n" ++ COLS)
 
+-- the FILTER lines with one ID, spelled in two ways
+abbrev pub filters : Bytes
+filters = F ++ ascii "##FILTER=<ID=q,Description=x>\n##FILTER=<ID=\"q\",Description=x>\n"
+
 abbrev pub starred : List (Case × Expected)
 starred =
-    (given [], refused 25 0 0 [])
-    ∷ (given F, refused 26 1 21 W)
-    ∷ (given cell, accepted 3 83 (W ++ 0x7000150016000000 ∷ 0x000B000300000000 ∷ 0x90002C0026000000 ∷ 0 ∷ []) cell)
-    ∷ (given (F ++ (ascii "##cell=<K=\"0.98\",ID=\"W07\">\n" ++ COLS)), accepted 3 87 (W ++ 0x700015001A000000 ∷ 0x0015000380000000 ∷ 0x9000300026000000 ∷ 0 ∷ []) cell)
+    (given [], refused 25 0 0 [] "refused 25 line=0 offset=0")
+    ∷ (given F, refused 26 1 21 W "refused 26 line=1 offset=21")
+    ∷ (given cell, accepted 3 83 (W ++ 0x7000150016000000 ∷ 0x000B000300000000 ∷ 0x90002C0026000000 ∷ 0 ∷ []) cell "ok version=4.3 entries=3 samples=0")
+    ∷ (
+      given (F ++ (ascii "##cell=<K=\"0.98\",ID=\"W07\">\n" ++ COLS)),
+      accepted 3 87 (W ++ 0x700015001A000000 ∷ 0x0015000380000000 ∷ 0x9000300026000000 ∷ 0 ∷ []) cell "ok version=4.3 entries=3 samples=0",
+    )
     ∷ (
       given (F ++ (ascii "##contig=<ID=c,IDX=+5>\n" ++ COLS)),
-      accepted 3 83 (W ++ 0x6000150016000000 ∷ 0x000D000100000000 ∷ 0x90002C0026000000 ∷ 0 ∷ []) (F ++ (ascii "##contig=<ID=c,IDX=5>\n" ++ COLS)),
+      accepted 3 83 (W ++ 0x6000150016000000 ∷ 0x000D000100000000 ∷ 0x90002C0026000000 ∷ 0 ∷ []) (F ++ (ascii "##contig=<ID=c,IDX=5>\n" ++ COLS)) "ok version=4.3 entries=3 samples=0",
     )
-    ∷ (given (F ++ (ascii "##contig=<ID=c,IDX=-0>\n" ++ COLS)), refused 13 2 21 W)
-    ∷ (given (F ++ ascii "#CHROM\tPOS\tID\tREF\tALT\tQUAL\tFILTER\tINFO\tFORMAT\ta\ta\n"), refused 23 2 21 W)
+    ∷ (given (F ++ (ascii "##contig=<ID=c,IDX=-0>\n" ++ COLS)), refused 13 2 21 W "refused 13 line=2 offset=21")
+    ∷ (given (F ++ ascii "#CHROM\tPOS\tID\tREF\tALT\tQUAL\tFILTER\tINFO\tFORMAT\ta\ta\n"), refused 23 2 21 W "refused 23 line=2 offset=21")
     ∷ (
       given (F ++ ascii "#CHROM\tPOS\tID\tREF\tALT\tQUAL\tFILTER\tINFO\tFORMAT\n"),
-      accepted 2 67 (W ++ 0x900015002D000000 ∷ 0 ∷ []) (F ++ ascii "#CHROM\tPOS\tID\tREF\tALT\tQUAL\tFILTER\tINFO\tFORMAT\n"),
+      accepted 2 67 (W ++ 0x900015002D000000 ∷ 0 ∷ []) (F ++ ascii "#CHROM\tPOS\tID\tREF\tALT\tQUAL\tFILTER\tINFO\tFORMAT\n") "ok version=4.3 entries=2 samples=0",
     )
-    ∷ (given (F ++ ascii "#CHROM\tPOS\tID\tREF\tALT\tQUAL\tFILTER\tINFO\t\n"), refused 22 2 21 W)
+    ∷ (given (F ++ ascii "#CHROM\tPOS\tID\tREF\tALT\tQUAL\tFILTER\tINFO\t\n"), refused 22 2 21 W "refused 22 line=2 offset=21")
     ∷ (
       given (F ++ (ascii "##META=<ID=x,Values=[a,b]>\n" ++ COLS)),
-      accepted 3 87 (W ++ 0x700015001A000000 ∷ 0x000B000100000000 ∷ 0x9000300026000000 ∷ 0 ∷ []) (F ++ (ascii "##META=<ID=x,Values=[a,b]>\n" ++ COLS)),
+      accepted 3 87 (W ++ 0x700015001A000000 ∷ 0x000B000100000000 ∷ 0x9000300026000000 ∷ 0 ∷ []) (F ++ (ascii "##META=<ID=x,Values=[a,b]>\n" ++ COLS)) "ok version=4.3 entries=3 samples=0",
     )
-    ∷ (given (F2 ++ (ascii "##META=<ID=x,Values=[a,b]>\n" ++ COLS)), refused 9 2 21 W)
-    ∷ (given (F2 ++ (ascii "##PEDIGREE=<Child=x,Derived=y>\n" ++ COLS)), refused 10 2 21 W)
-    ∷ (given (F ++ (ascii "##PEDIGREE=<Child=x,Derived=y>\n" ++ COLS)), refused 14 2 21 W)
-    ∷ (
-      given (F ++ ascii "##FILTER=<ID=q,Description=x>\n##FILTER=<ID=\"q\",Description=x>\n"),
-      refused 19 3 51 (W ++ 0x300015001D000000 ∷ 0x000D000100000000 ∷ []),
-    )
+    ∷ (given (F2 ++ (ascii "##META=<ID=x,Values=[a,b]>\n" ++ COLS)), refused 9 2 21 W "refused 9 line=2 offset=21")
+    ∷ (given (F2 ++ (ascii "##PEDIGREE=<Child=x,Derived=y>\n" ++ COLS)), refused 10 2 21 W "refused 10 line=2 offset=21")
+    ∷ (given (F ++ (ascii "##PEDIGREE=<Child=x,Derived=y>\n" ++ COLS)), refused 14 2 21 W "refused 14 line=2 offset=21")
+    ∷ (given filters, refused 19 3 51 (W ++ 0x300015001D000000 ∷ 0x000D000100000000 ∷ []) "refused 19 line=3 offset=51")
     ∷ []
 
 pub starred-cases : map (λ (e : Case × Expected). answer (e .0)) starred ≡ map (λ (e : Case × Expected). e .1) starred
 unfolding opened
 starred-cases = refl
+
+-- Cases that pin what no theorem does: the order of refusals, their places, and single rules
+
+abbrev pub at2 : Bytes → Case
+at2 l = given (F ++ l)
+
+abbrev pub pinned : List (Case × Expected)
+pinned =
+    -- a bad Number before the missing separator behind it; a second ID too; a missing separator before what follows it
+    (at2 (ascii "##INFO=<Number=\"Q\"z>\n"), refused 11 2 21 W "refused 11 line=2 offset=21")
+    ∷ (at2 (ascii "##a=<ID=x,ID=\"y\"z>\n"), refused 10 2 21 W "refused 10 line=2 offset=21")
+    ∷ (at2 (ascii "##INFO=<ID=\"x\"y,Number=Q>\n"), refused 8 2 21 W "refused 8 line=2 offset=21")
+    -- a META needs a field, another map does not
+    ∷ (at2 (ascii "##META=<>\n"), refused 9 2 21 W "refused 9 line=2 offset=21")
+    -- a line that is not UTF-8 before its grammar, and before the column line's
+    ∷ (at2 (0xFF ∷ LF ∷ []), refused 3 2 21 W "refused 3 line=2 offset=21")
+    -- the first line is a record under 4.5: a reserved ID declared otherwise is 18 and not 4
+    ∷ (given (ascii "##INFO=<ID=DP,Number=2,Type=Integer,Description=x>\n"), refused 18 1 0 [] "refused 18 line=1 offset=0")
+    -- before 4.3 reserved IDs are unchecked
+    ∷ (
+      given (F2 ++ ascii "##INFO=<ID=DP,Number=2,Type=Integer,Description=x>\n"),
+      refused 26 2 72 (W ++ 0x2000150032000000 ∷ 0x000B000200000000 ∷ []) "refused 26 line=2 offset=72",
+    )
+    -- room for one entry: the line's own check comes first, then 24
+    ∷ (record { header = F ++ COLS; imposed = none; room = 3; output = 0 }, refused 24 2 21 W "refused 24 line=2 offset=21")
+    -- an imposed version is in force, and the file's own is no part of the meaning
+    ∷ (
+      record { header = F2 ++ COLS; imposed = some (version 4 10); room = 4; output = 99 },
+      accepted 2 60 (W ++ 0x9000150026000000 ∷ 0 ∷ []) (ascii "##fileformat=VCFv4.10\n" ++ COLS) "ok version=4.10 entries=2 samples=0",
+    )
+    -- a form that the output cannot hold
+    ∷ (
+      record { header = cell; imposed = none; room = 6; output = 82 },
+      record { number = 28; line = 0; start = 0; words = W ++ 0x7000150016000000 ∷ 0x000B000300000000 ∷ 0x90002C0026000000 ∷ 0 ∷ []; form = []; printed = ascii "ok version=4.3 entries=3 samples=0\n" },
+    )
+    -- the form's order, quotes, Values, and a text that ends in CR
+    ∷ (
+      given (F ++ (ascii "##META=<Values=\"[a\",K=\"]\",ID=x>\n##n=t\r\r\n##ALT=<Description=d,ID=\"a,b\">\n#CHROM\tPOS\tID\tREF\tALT\tQUAL\tFILTER\tINFO\tFORMAT\ts")),
+      accepted 5 139 (W ++ 0x700015001F000000 ∷ 0x001D000100000000 ∷ 0x8000350006000000 ∷ 0 ∷ 0x50003D001E000000 ∷ 0x0019000380000000 ∷ 0x90005C002F000000 ∷ 0 ∷ 0xA0008A0001000000 ∷ 0 ∷ [])
+          (F ++ ascii "##ALT=<ID=\"a,b\",Description=\"d\">\n##META=<ID=x,Values=\"[a\",K=]>\n##n=t\r\r\n#CHROM\tPOS\tID\tREF\tALT\tQUAL\tFILTER\tINFO\tFORMAT\ts\n") "ok version=4.3 entries=6 samples=1",
+    )
+    ∷ []
+
+pub pinned-cases : map (λ (e : Case × Expected). answer (e .0)) pinned ≡ map (λ (e : Case × Expected). e .1) pinned
+unfolding opened
+pinned-cases = refl

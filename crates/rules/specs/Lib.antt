@@ -12,4 +12,5 @@ pub mod Reading
 pub mod Shown
 pub mod Meaning
 pub mod House
+pub mod Report
 pub mod Examples

@@ -1,0 +1,250 @@
+-- What is refused, as facts: a second equal ID, a line after the column line; and what a refused header keeps. Assumes nothing.
+use Prim.Native.Nat.{ℕ, zero, suc, _+_, _-_, _*_, _≤_, _<_}
+use native.Mathlib.Omega.{arith}
+use mathlib.Core.Path.{_≡_, refl, sym, ap, ap₂, subst, _∙_}
+use mathlib.Core.Bool.{Bool, true, false, true≢false}
+use mathlib.Core.Logic.{_⊎_, inl, inr, ⊎-elim}
+use mathlib.Core.List.{List, [], _∷_, _++_, append-nil}
+use mathlib.Core.Option.{Option, none, some}
+use lib.Dec.{leb}
+use lib.ListN.{length, take, length-take}
+use lib.Seq.{take-append-add, take-nil}
+use borrow.Author.Tests.{le-leb, leb-true}
+use Rattle.values.specs.Bytes.{Bytes, ascii, same}
+use Rattle.values.specs.Utf8.{isUtf8}
+use Rattle.values.specs.Field.{Field}
+use Rattle.values.proofs.Tests.{Test, pass, fail, test, both}
+use Rattle.rules.specs.Answer.{Answer, ok, refuse, _>>=_, first, judged}
+use Rattle.rules.specs.Sizes.{Limits}
+use Rattle.rules.specs.Lines.{pieces, lineOf}
+use Rattle.rules.specs.Version.{Version, v4-5, starts}
+use Rattle.rules.specs.Known.{isTyped}
+use Rattle.rules.specs.Map.{valueNamed}
+use Rattle.rules.specs.Record.{Record, fileformat, fields, text, readRecord}
+use Rattle.rules.specs.Columns.{Columns, readColumns}
+use Rattle.rules.specs.Entry.{Entry, recordEntry}
+use Rattle.rules.specs.Reading.{keyOf, idOf, isFields, besideOf, beside, clash, State, empty, ready, done, begin, enter, finish, stepText, isDone, step, Reading, stop, following, atEnd, run, reading}
+use Rattle.rules.proofs.Firsts.{OnOk, on-ok, judged-ok, Seen, was, not-read, see}
+use Rattle.rules.proofs.Sames.{same-self, same-sound}
+use Rattle.rules.proofs.Alls.{All, all-map}
+use Rattle.rules.proofs.Pieces.{Cut, nothing, cut, cut-first}
+use Rattle.rules.proofs.Groups.{Apart}
+use Rattle.rules.proofs.Records.{Entered}
+use Rattle.rules.proofs.Sound.{Good, run-refused, run-full, run-more}
+use Rattle.rules.proofs.Back.{reading-short}
+use Rattle.rules.proofs.Trace.{Taken, step-taken}
+
+-- a record among others
+pub data Among (r : Record) : List Record → Type 0 where
+  first-one : {rs : List Record} → Among r (r ∷ rs)
+  later-one : {s : Record} {rs : List Record} → Among r rs → Among r (s ∷ rs)
+
+all-among : (P : Record → Type 0) {x : Record} {rs : List Record} → Among x rs → All P rs → P x
+all-among P first-one h = h .0
+all-among P (later-one a) h = all-among P a (h .1)
+
+-- 19 under a typed key, 21 under another
+abbrev pub second : Bytes → ℕ
+second k = elim (isTyped k) [ true ↦ 19 | false ↦ 21 ]
+
+-- the same key as that of a map: no text
+abbrev Textless : Bytes → Record → Type 0
+Textless k s = isFields s ≡ false → same (keyOf s) k ≡ false
+
+beside-text : (v : Version) (k : Bytes) (gs : List Field) (s : Record) → beside v (fields k gs) s ≡ 0 → Textless k s
+unfolding beside
+beside-text v k gs s b t = elim (test (same (keyOf s) k)) [ pass e ↦ absurd (omega (arith, rw (e, t) at b)) | fail e ↦ e ]
+
+text-beside : (v : Version) (k : Bytes) (gs : List Field) (s : Record) → beside v s (fields k gs) ≡ 0 → Textless k s
+unfolding beside
+text-beside v k gs s b t = elim (test (same (keyOf s) k)) [
+  | pass e ↦ let q : same k (keyOf s) ≡ true = rw (same-sound (keyOf s) k e) (same-self k) in absurd (omega (arith, rw (q, t) at b))
+  | fail e ↦ e
+]
+
+textless : (v : Version) (k : Bytes) (gs : List Field) (rs : List Record) → Among (fields k gs) rs → Apart v rs → All (Textless k) rs
+textless v k gs (_ ∷ rs) first-one p = ((λ t. absurd (true≢false t)), all-map (λ s. beside v s (fields k gs) ≡ 0) (Textless k) rs (text-beside v k gs) (p .0))
+textless v k gs (s ∷ rs) (later-one a) p = (beside-text v k gs s (all-among (λ x. beside v x s ≡ 0) a (p .0)), textless v k gs rs a (p .1))
+
+-- beside any of them, a map is refused as a second one or not at all
+beside-maps : (v : Version) (k : Bytes) (fs : List Field) (s : Record) → Textless k s → (beside v (fields k fs) s ≡ 0) ⊎ (beside v (fields k fs) s ≡ second k)
+unfolding beside
+beside-maps v k fs s h = elim (test (same (keyOf s) k)) [
+  | fail e ↦ inl (rw e)
+  | pass e ↦ elim (test (isFields s)) [
+    | fail f ↦ both e (h f)
+    | pass f ↦ elim (test (same (idOf v s) (valueNamed v k (ascii "ID") fs))) [
+      | fail i ↦ inl (rw (e, f, i))
+      | pass i ↦ elim (test (isTyped k)) [ pass t ↦ inr (rw (e, f, i, second, t)) | fail t ↦ inr (rw (e, f, i, second, t)) ]
+    ]
+  ]
+]
+
+clash-second : (v : Version) (r : Record) (n : ℕ) (rs : List Record) {x : Record} → Among x rs → beside v r x ≡ suc n → All (λ s. (beside v r s ≡ 0) ⊎ (beside v r s ≡ suc n)) rs → clash v r rs ≡ suc n
+unfolding clash first
+clash-second v r n (x ∷ rs) first-one e h = rw e
+clash-second v r n (s ∷ rs) (later-one a) e h = ⊎-elim (λ z. rw z (rw (clash-second v r n rs a e (h .1)))) (λ z. rw z) (h .0)
+
+abbrev secondOf : Bool → ℕ
+secondOf true = 19
+secondOf false = 21
+
+beside-same : (v : Version) (k : Bytes) (fs gs : List Field) → same (valueNamed v k (ascii "ID") gs) (valueNamed v k (ascii "ID") fs) ≡ true → (t : Bool) → isTyped k ≡ t
+    → beside v (fields k fs) (fields k gs) ≡ secondOf t
+unfolding beside
+beside-same v k fs gs e true t = rw (same-self k, e, t)
+beside-same v k fs gs e false t = rw (same-self k, e, t)
+
+-- a second map of an ID by meaning, under a key among whose maps it stands, whatever stands between and however it is spelled
+pub second-clash : (v : Version) (k : Bytes) (fs gs : List Field) (rs : List Record) → Among (fields k gs) rs → Apart v rs
+    → same (valueNamed v k (ascii "ID") gs) (valueNamed v k (ascii "ID") fs) ≡ true → clash v (fields k fs) rs ≡ second k
+second-clash v k fs gs rs a p e = elim (test (isTyped k)) [
+  | pass t ↦ rw (second, t) (clash-second v (fields k fs) 18 rs a (beside-same v k fs gs e true t) (all-map (Textless k) _ rs (λ s h. rw (second, t) at (beside-maps v k fs s h)) (textless v k gs rs a p)))
+  | fail t ↦ rw (second, t) (clash-second v (fields k fs) 20 rs a (beside-same v k fs gs e false t) (all-map (Textless k) _ rs (λ s h. rw (second, t) at (beside-maps v k fs s h)) (textless v k gs rs a p)))
+]
+
+-- a line that holds one is refused
+pub second-refused : (lim : Limits) (imposed : Option Version) (start : ℕ) (v : Version) (rs : List Record) (l k : Bytes) (fs gs : List Field) → Good v rs
+    → length l ≤ lim .line → isUtf8 l ≡ true → starts (ascii "#CHROM") l ≡ false → readRecord v l ≡ ok (fields k fs) → Among (fields k gs) rs
+    → same (valueNamed v k (ascii "ID") gs) (valueNamed v k (ascii "ID") fs) ≡ true → step lim imposed start (ready v rs) l ≡ refuse (second k)
+unfolding step stepText
+second-refused lim imposed start v rs l k fs gs g n u c r a e =
+    rw (le-leb (length l) (lim .line) n, u, step, c, stepText, r, second-clash v k fs gs rs a (g .apart) e) (two (isTyped k) refl)
+  where
+    two : (t : Bool) → isTyped k ≡ t → judged {A = State × List Entry} (second k) (ready v (rs ++ fields k fs ∷ []), recordEntry v start l (fields k fs) ∷ []) ≡ refuse (second k)
+    two true t = rw (second, t)
+    two false t = rw (second, t)
+
+-- a line after the column line
+pub after-column : (lim : Limits) (imposed : Option Version) (start : ℕ) (v : Version) (rs : List Record) (c : Columns) (l : Bytes) → step lim imposed start (done v rs c) l ≡ refuse 1
+unfolding step
+after-column lim imposed start v rs c l = refl
+
+-- What a refused header keeps
+
+-- after a line the machine has begun
+abbrev Begun : State → Type 0
+Begun empty = ⊥
+Begun (ready v rs) = Unit {0}
+Begun (done v rs c) = Unit {0}
+
+begin-begun : (imposed : Option Version) (start : ℕ) (l : Bytes) (r : Record) → OnOk (λ q. Begun (q .0)) (begin imposed start l r)
+begin-begun imposed start l (fileformat w) = tt
+begin-begun imposed start l (fields k fs) = tt
+begin-begun imposed start l (text k t) = tt
+
+enter-begun : (v : Version) (rs : List Record) (start : ℕ) (l : Bytes) (r : Record) → OnOk (λ q. Begun (q .0)) (enter v rs start l r)
+enter-begun v rs start l (fileformat w) = tt
+enter-begun v rs start l (fields k fs) = judged-ok (λ (q : State × List Entry). Begun (q .0)) (clash v (fields k fs) rs) _ (λ z. tt)
+enter-begun v rs start l (text k t) = judged-ok (λ (q : State × List Entry). Begun (q .0)) (clash v (text k t) rs) _ (λ z. tt)
+
+text-begun : (imposed : Option Version) (start : ℕ) (s : State) (l : Bytes) → OnOk (λ q. Begun (q .0)) (stepText imposed start s l)
+unfolding stepText
+text-begun imposed start empty l = elim (see (readRecord v4-5 l)) [ was r e ↦ rw e (begin-begun imposed start l r) | not-read m e ↦ rw e tt ]
+text-begun imposed start (ready v rs) l = elim (test (starts (ascii "#CHROM") l)) [
+  | pass e ↦ elim (see (readColumns l)) [ was c a ↦ rw (stepText, e, a) tt | not-read m a ↦ rw (stepText, e, a) tt ]
+  | fail e ↦ elim (see (readRecord v l)) [ was r a ↦ rw (stepText, e, a) (enter-begun v rs start l r) | not-read m a ↦ rw (stepText, e, a) tt ]
+]
+text-begun imposed start (done v rs c) l = tt
+
+step-begun : (lim : Limits) (imposed : Option Version) (start : ℕ) (s : State) (l : Bytes) {q : State × List Entry} → step lim imposed start s l ≡ ok q → Begun (q .0)
+step-begun lim imposed start s l a =
+    on-ok (λ q. Begun (q .0)) (text-begun imposed start s l) (on-ok (Taken lim imposed start s l) (step-taken lim imposed start s l) a .2)
+
+-- the pieces of a beginning that holds the first piece
+first-kept : (h p r : Bytes) (j : ℕ) → h ≡ p ++ r → pieces h ≡ p ∷ pieces r → ((x : Bytes) → (r ≡ [] → ⊥) → pieces (p ++ x) ≡ p ∷ pieces x)
+    → pieces (take (length p + j) h) ≡ p ∷ pieces (take j r)
+first-kept h p r j a q t = ap (λ (x : Bytes). pieces (take (length p + j) x)) a ∙ ap pieces (take-append-add p r j) ∙ go r a q t
+  where
+    go : (r : Bytes) → h ≡ p ++ r → pieces h ≡ p ∷ pieces r → ((x : Bytes) → (r ≡ [] → ⊥) → pieces (p ++ x) ≡ p ∷ pieces x) → pieces (p ++ take j r) ≡ p ∷ pieces (take j r)
+    go [] a q t = rw (take-nil j) (sym (ap pieces a) ∙ q)
+    go (b ∷ r) a q t = t (take j (b ∷ r)) (λ e. let z : _≡_ {A = ℕ} 0 1 = cc in omega arith)
+
+-- a run that stops at a place has the entries of the run that ends there
+module _ (lim : Limits) (imposed : Option Version) (room : ℕ) where
+  abbrev runs : ℕ → ℕ → ℕ → State → List Bytes → Reading
+  runs = run lim imposed room
+
+  abbrev Prefix : ℕ → ℕ → ℕ → State → Bytes → Reading → Type 0
+  Prefix n start count s h r = (start ≤ r .start) × (r .entries ≡ runs n start count s (pieces (take (r .start - start) h)) .entries)
+
+  stopped : (n start count m k : ℕ) (s : State) (h : Bytes) → Begun s → Prefix n start count s h (stop m k start s)
+  unfolding run pieces
+  stopped n start count m k s h b = (omega arith, nothing-left s b)
+    where
+      z : start - start ≡ 0
+      z = omega arith
+
+      nothing-left : (s : State) → Begun s → [] ≡ runs n start count s (pieces (take (start - start) h)) .entries
+      nothing-left empty b = absurd b
+      nothing-left (ready v rs) b = rw z
+      nothing-left (done v rs c) b = rw z
+
+  more-prefix : (h p : Bytes) (ps : List Bytes) (n start count : ℕ) (s : State) (q : State × List Entry) → step lim imposed start s (lineOf p) ≡ ok q
+      → leb (2 * (count + length (q .1))) room ≡ true → pieces h ≡ p ∷ ps
+      → ((r : Bytes) → pieces r ≡ ps → Prefix (suc n) (start + length p) (count + length (q .1)) (q .0) r (runs (suc n) (start + length p) (count + length (q .1)) (q .0) ps))
+      → Prefix n start count s h (following (q .1) (runs (suc n) (start + length p) (count + length (q .1)) (q .0) ps))
+  unfolding pieces
+  more-prefix h p ps n start count s q a t e ih = elim (cut-first h) [
+    | nothing z ↦ let f : _≡_ {A = List Bytes} [] (p ∷ ps) = rw z at e in let z′ : _≡_ {A = ℕ} 0 1 = cc in absurd (omega arith)
+    | cut p′ r x y w ↦
+        let f : p′ ∷ pieces r ≡ p ∷ ps = sym y ∙ e in
+        let i : p′ ≡ p = cc in
+        let g : pieces r ≡ ps = cc in
+        let R = runs (suc n) (start + length p) (count + length (q .1)) (q .0) ps in
+        let d = ih r g in
+        let j : R .start - start ≡ length p + (R .start - (start + length p)) = omega (arith, d .0) in
+        let k : pieces (take (R .start - start) h) ≡ p ∷ pieces (take (R .start - (start + length p)) r)
+        = rw j (subst (λ (z : Bytes). pieces (take (length z + (R .start - (start + length p))) h) ≡ z ∷ pieces (take (R .start - (start + length p)) r)) i (first-kept h p′ r _ x y w)) in (
+          omega (arith, d .0),
+          ap (q .1 ++_) (d .1)
+              ∙ sym (ap (λ (x : List Bytes). runs n start count s x .entries) k
+              ∙ ap (λ (r : Reading). r .entries) (run-more lim imposed room n start count s p (pieces (take (R .start - (start + length p)) r)) a t)),
+        )
+  ]
+
+  run-prefix : (ps : List Bytes) (h : Bytes) (n start count : ℕ) (s : State) → Begun s → pieces h ≡ ps → Prefix n start count s h (runs n start count s ps)
+  unfolding run
+  run-prefix [] h n start count empty b e = absurd b
+  run-prefix [] h n start count (ready v rs) b e = stopped n start count 26 n (ready v rs) h b
+  run-prefix [] h n start count (done v rs c) b e = stopped n start count 0 n (done v rs c) h b
+  run-prefix (p ∷ ps) h n start count s b e = elim (see (step lim imposed start s (lineOf p))) [
+    | not-read m a ↦ subst (Prefix n start count s h) (sym (run-refused lim imposed room n start count s p ps a)) (stopped n start count m (suc n) s h b)
+    | was q a ↦ elim (test (leb (2 * (count + length (q .1))) room)) [
+      | fail t ↦ subst (Prefix n start count s h) (sym (run-full lim imposed room n start count s p ps a t)) (stopped n start count 24 (suc n) s h b)
+      | pass t ↦ subst (Prefix n start count s h) (sym (run-more lim imposed room n start count s p ps a t))
+          (more-prefix h p ps n start count s q a t e (λ r f. run-prefix ps r (suc n) (start + length p) (count + length (q .1)) (q .0) (step-begun lim imposed start s (lineOf p) a) f))
+    ]
+  ]
+
+  from-empty : (ps : List Bytes) (h : Bytes) → pieces h ≡ ps → runs 0 0 0 empty ps .entries ≡ runs 0 0 0 empty (pieces (take (runs 0 0 0 empty ps .start) h)) .entries
+  unfolding run pieces
+  from-empty [] h e = refl
+  from-empty (p ∷ ps) h e = elim (see (step lim imposed 0 empty (lineOf p))) [
+    | not-read m a ↦ rw (run-refused lim imposed room 0 0 0 empty p ps a)
+    | was q a ↦ elim (test (leb (2 * (0 + length (q .1))) room)) [
+      | fail t ↦ rw (run-full lim imposed room 0 0 0 empty p ps a t)
+      | pass t ↦
+          let d = more-prefix h p ps 0 0 0 empty q a t e
+          (λ r f. run-prefix ps r 1 (0 + length p) (0 + length (q .1)) (q .0) (step-begun lim imposed 0 empty (lineOf p) a) f) in
+          subst (λ (r : Reading). r .entries ≡ runs 0 0 0 empty (pieces (take (r .start) h)) .entries) (sym (run-more lim imposed room 0 0 0 empty p ps a t)) (start-zero (following (q .1) (runs 1 (0 + length p) (0 + length (q .1)) (q .0) ps)) h (d .1))
+    ]
+  ]
+    where
+      start-zero : (r : Reading) (h : Bytes) → r .entries ≡ runs 0 0 0 empty (pieces (take (r .start - 0) h)) .entries → r .entries ≡ runs 0 0 0 empty (pieces (take (r .start) h)) .entries
+      start-zero r h q = let z : r .start - 0 ≡ r .start = omega arith in rw z at q
+
+  reading-long : (h : Bytes) → leb (length h) (lim .header) ≡ false → reading lim imposed room h ≡ stop 27 0 0 empty
+  unfolding reading
+  reading-long h e = rw (reading, e)
+
+  -- a refused header keeps exactly the entries that reading the bytes before the refused line gives
+  pub refused-keeps : (h : Bytes) → reading lim imposed room h .entries ≡ reading lim imposed room (take (reading lim imposed room h .start) h) .entries
+  unfolding run pieces
+  refused-keeps h = elim (test (leb (length h) (lim .header))) [
+    | pass e ↦
+        let n = leb-true (length h) (lim .header) e in
+        let k = runs 0 0 0 empty (pieces h) .start in
+        rw (reading-short lim imposed room h n) (from-empty (pieces h) h refl ∙ sym (ap (λ (r : Reading). r .entries) (reading-short lim imposed room (take k h) (omega (arith, length-take k h)))))
+    | fail e ↦ rw (reading-long h e) (sym (ap (λ (r : Reading). r .entries) (reading-short lim imposed room [] (omega arith))))
+  ]

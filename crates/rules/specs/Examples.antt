@@ -142,6 +142,11 @@ pinned =
       given (F2 ++ ascii "##INFO=<ID=DP,Number=2,Type=Integer,Description=x>\n"),
       refused 26 2 72 (W ++ 0x2000150032000000 ∷ 0x000B000200000000 ∷ []) "refused 26 line=2 offset=72",
     )
+    -- IDs are compared by meaning
+    ∷ (
+      at2 (ascii "##a=<ID=x\\y>\n##a=<ID=\"x\\\\y\">\n"),
+      refused 21 3 34 (W ++ 0x700015000C000000 ∷ 0x0008000300000000 ∷ []) "refused 21 line=3 offset=34",
+    )
     -- room for one entry: the line's own check comes first, then 24
     ∷ (record { header = F ++ COLS; imposed = none; room = 3; output = 0 }, refused 24 2 21 W "refused 24 line=2 offset=21")
     -- an imposed version is in force, and the file's own is no part of the meaning

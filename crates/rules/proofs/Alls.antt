@@ -5,7 +5,7 @@ use mathlib.Core.List.{List, [], _∷_, _++_, map}
 use Rattle.values.specs.Bytes.{Bytes, same}
 use Rattle.values.proofs.Tests.{or-on}
 use Rattle.rules.specs.Known.{isIn}
-use Rattle.rules.proofs.Sames.{same-self}
+use Rattle.values.proofs.Sames.{same-self}
 
 abbrev pub All : {A : Type 0} → (A → Type 0) → List A → Type 0
 All P [] = Unit {0}

@@ -14,7 +14,7 @@ use Rattle.rules.specs.Version.{Version}
 use Rattle.rules.specs.Known.{Kind, kindOf, isIn, nameOf}
 use Rattle.rules.specs.Map.{Scan, fieldRefusal, checkFields, fieldNamed, missing, misdeclared, mapRefusal}
 use Rattle.rules.proofs.Firsts.{first-zero, zero-first, first-nil, zero-unless}
-use Rattle.rules.proofs.Sames.{same-sound}
+use Rattle.values.proofs.Sames.{same-sound}
 use Rattle.rules.proofs.Alls.{All}
 use Rattle.rules.proofs.Names.{Fresh}
 

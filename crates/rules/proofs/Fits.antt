@@ -21,7 +21,7 @@ use Rattle.rules.specs.Map.{isSome, isValue, isField, isMeta, fieldRefus
 use Rattle.rules.specs.Meaning.{Known, number, word, numeric, knownValue, knownOf, tagIn, others}
 use Rattle.rules.specs.House.{closes, needsQuotes, isValues, isQuoted, writeField, writeKnown, tagName, keyNamed, knownFields, otherFields}
 use Rattle.rules.proofs.Firsts.{first-zero, zero-first, first-nil, first-one, unless-zero, zero-unless}
-use Rattle.rules.proofs.Sames.{same-sound, same-self}
+use Rattle.values.proofs.Sames.{same-sound, same-self}
 use Rattle.rules.proofs.Alls.{All, all-map, all-append, map-same, all-in}
 use Rattle.rules.proofs.Pure.{Pure, pure-unescaped, pure-escape, pure-decimal}
 use Rattle.rules.proofs.Names.{Fresh, Within, fresh-less, name-is, id-key}

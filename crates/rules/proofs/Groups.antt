@@ -16,7 +16,8 @@ use Rattle.rules.specs.Reading.{keyOf, idOf, isFields, besideOf, beside,
 use Rattle.rules.specs.Meaning.{Saying, saying, under, without, otherKeys, groups}
 use Rattle.rules.specs.House.{recordOf, recordsOf}
 use Rattle.rules.proofs.Firsts.{first-zero, zero-first, first-nil}
-use Rattle.rules.proofs.Sames.{same-sound, same-self, in-append}
+use Rattle.values.proofs.Sames.{same-sound, same-self}
+use Rattle.rules.proofs.Sames.{in-append}
 use Rattle.rules.proofs.Alls.{All, all-map, all-append, all-in}
 use Rattle.rules.proofs.Tidy.{tidied, saying-tidied}
 use Rattle.rules.proofs.Fits.{id-tidy}

@@ -8,7 +8,7 @@ use Rattle.values.proofs.Tests.{Test, pass, fail, test, or-l, or-r, and-l, and-
 use Rattle.rules.specs.Version.{Version, v4-3, earlier}
 use Rattle.rules.specs.Known.{Kind, INFO, FILTER, FORMAT, ALT, contig, other, isIn, known, namesId, nameOf, tagOf}
 use Rattle.rules.specs.House.{tagName, keyNamed}
-use Rattle.rules.proofs.Sames.{same-sound, same-self}
+use Rattle.values.proofs.Sames.{same-sound, same-self}
 use Rattle.rules.proofs.Alls.{All}
 
 pub name-id : (v : Version) (k field : Bytes) → namesId v k field ≡ true → nameOf v k field ≡ ascii "ID"

@@ -8,7 +8,7 @@ use mathlib.Core.Option.{Option, none, some}
 use lib.Dec.{eqb}
 use lib.ListN.{length, drop}
 use borrow.Author.Tests.{eqb-true}
-use Rattle.values.specs.Bytes.{Bytes, LF, ascii, is, empty, begins, any, before, from, same}
+use Rattle.values.specs.Bytes.{Bytes, LF, ascii, is, empty, begins, any, before, from, same, starts}
 use Rattle.values.specs.Utf8.{completes, followers}
 use Rattle.values.specs.Value.{Value, quoted, bare, textOf, written, meaningOf}
 use Rattle.values.specs.Field.{Field, writtenField}
@@ -16,14 +16,14 @@ use Rattle.values.proofs.Tests.{Test, pass, fail, test, or-l, or-r, or-on, and-
 use Rattle.values.proofs.Lists.{OnSome, on-some, before-none, before-stop, from-stop}
 use Rattle.values.proofs.Fields.{tail-is}
 use Rattle.rules.specs.Answer.{Answer, ok, refuse, _>>=_, unless, first, judged}
-use Rattle.rules.specs.Version.{Version, v4-3, since, earlier, starts, readVersion}
+use Rattle.rules.specs.Version.{Version, v4-3, since, earlier, readVersion}
 use Rattle.rules.specs.Known.{Kind, INFO, FILTER, FORMAT, ALT, contig, other, kindOf, isTyped, alwaysMap, required, known, nameOf, namesId, tagOf}
 use Rattle.rules.specs.Map.{Scan, isSome, isMeta, readFields, fieldNamed, missing, mapRefusal, readMap}
 use Rattle.rules.specs.Record.{Record, fileformat, fields, text, looksMap, isMap, formatOf, readValue, readKeyed, readRecord}
 use Rattle.rules.specs.Meaning.{Known, knownValue, knownOf, tagIn, others, saying}
 use Rattle.rules.specs.House.{writeField, writeKnown, tagName, keyNamed, knownFields, otherFields, recordOf, writeMore, writeFields, writeRecord}
 use Rattle.rules.proofs.Firsts.{OnOk, on-ok, bind-ok, judged-ok, judged-zero, first-zero, zero-unless, Seen, was, not-read, see}
-use Rattle.rules.proofs.Sames.{same-sound, same-self}
+use Rattle.values.proofs.Sames.{same-sound, same-self}
 use Rattle.rules.proofs.Alls.{All, all-map}
 use Rattle.rules.proofs.Pure.{Pure, pure-nil, Plain, pure-cons, pure-append, pure-join, pure-split, pure-rest, pure-tail, pure-cut}
 use Rattle.rules.proofs.Versions.{Sized, version-sized, version-back, version-pure}

@@ -10,14 +10,14 @@ use lib.Dec.{leb}
 use lib.ListN.{length, take, length-take}
 use lib.Seq.{take-append-add, take-nil}
 use borrow.Author.Tests.{le-leb, leb-true}
-use Rattle.values.specs.Bytes.{Bytes, ascii, same}
+use Rattle.values.specs.Bytes.{Bytes, ascii, same, starts}
 use Rattle.values.specs.Utf8.{isUtf8}
 use Rattle.values.specs.Field.{Field}
 use Rattle.values.proofs.Tests.{Test, pass, fail, test, both}
 use Rattle.rules.specs.Answer.{Answer, ok, refuse, _>>=_, first, judged}
 use Rattle.rules.specs.Sizes.{Limits}
 use Rattle.rules.specs.Lines.{pieces, lineOf}
-use Rattle.rules.specs.Version.{Version, v4-5, starts}
+use Rattle.rules.specs.Version.{Version, v4-5}
 use Rattle.rules.specs.Known.{isTyped}
 use Rattle.rules.specs.Map.{valueNamed}
 use Rattle.rules.specs.Record.{Record, fileformat, fields, text, readRecord}
@@ -25,7 +25,7 @@ use Rattle.rules.specs.Columns.{Columns, readColumns}
 use Rattle.rules.specs.Entry.{Entry, recordEntry}
 use Rattle.rules.specs.Reading.{keyOf, idOf, isFields, besideOf, beside, clash, State, empty, ready, done, begin, enter, finish, stepText, isDone, step, Reading, stop, following, atEnd, run, reading}
 use Rattle.rules.proofs.Firsts.{OnOk, on-ok, judged-ok, Seen, was, not-read, see}
-use Rattle.rules.proofs.Sames.{same-self, same-sound}
+use Rattle.values.proofs.Sames.{same-self, same-sound}
 use Rattle.rules.proofs.Alls.{All, all-map}
 use Rattle.rules.proofs.Pieces.{Cut, nothing, cut, cut-first}
 use Rattle.rules.proofs.Groups.{Apart}

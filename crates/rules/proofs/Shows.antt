@@ -29,7 +29,7 @@ use Rattle.rules.specs.Entry.{Entry, place, bit, identity, kindNumber, f
 use Rattle.rules.specs.Shown.{bits, kindIn, startIn, lengthIn, offsetIn, idLengthIn, tagIn, Part, hasId, wellFormed, entryAt, entryPart, shownEntry, idPart, shownId, fieldPart, fieldsPart, linePart, shownField}
 use Rattle.rules.specs.House.{writeMore, writeFields, writeRecord}
 use Rattle.rules.specs.Meaning.{tagIn as tagInField}
-use Rattle.rules.proofs.Sames.{same-sound}
+use Rattle.values.proofs.Sames.{same-sound}
 use Rattle.rules.proofs.Tidy.{tag}
 use Rattle.rules.proofs.Records.{tag-none, id-given, GoodMap, Entered}
 use Rattle.rules.proofs.Texts.{LineOf, record-in}

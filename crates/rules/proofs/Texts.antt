@@ -7,14 +7,14 @@ use mathlib.Core.List.{List, [], _∷_, _++_, tail, append-assoc}
 use mathlib.Core.Option.{Option, none, some}
 use lib.ListN.{length, drop}
 use borrow.Author.Tests.{eqb-true}
-use Rattle.values.specs.Bytes.{Bytes, ascii, is, empty, begins, before, from, same}
+use Rattle.values.specs.Bytes.{Bytes, ascii, is, empty, begins, before, from, same, starts}
 use Rattle.values.specs.Field.{Field, writtenField, readField}
 use Rattle.values.proofs.Tests.{Test, pass, fail, test, and-l, and-r, both}
 use Rattle.values.proofs.Lists.{OnSome, on-some, before-from}
 use Rattle.values.proofs.Fields.{tail-is}
 use Rattle.values.proofs.Places.{FieldIn, field-in}
 use Rattle.rules.specs.Answer.{Answer, ok, refuse, _>>=_, judged}
-use Rattle.rules.specs.Version.{Version, starts, readVersion}
+use Rattle.rules.specs.Version.{Version, readVersion}
 use Rattle.rules.specs.Known.{alwaysMap}
 use Rattle.rules.specs.Map.{After, more, done, wrong, after, Scan, scan, closing, readFields, isMeta, mapRefusal, readMap}
 use Rattle.rules.specs.Record.{Record, fileformat, fields, text, isMap, formatOf, readValue, readKeyed, readRecord}

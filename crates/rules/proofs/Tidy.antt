@@ -22,7 +22,7 @@ use Rattle.rules.specs.Record.{Record, fileformat, fields, text}
 use Rattle.rules.specs.Reading.{keyOf}
 use Rattle.rules.specs.Meaning.{Known, number, word, numberOr, numeric, knownValue, knownOf, tagIn, others, saying}
 use Rattle.rules.specs.House.{isQuoted, writeField, writeKnown, tagName, keyNamed, knownFields, otherFields, recordOf}
-use Rattle.rules.proofs.Sames.{same-sound, same-self}
+use Rattle.values.proofs.Sames.{same-sound, same-self}
 use Rattle.rules.proofs.Alls.{All, all-map, all-append, map-same, all-in}
 use Rattle.rules.proofs.Names.{Fresh, name-plain, id-key}
 use Rattle.rules.proofs.Checks.{named-yes, named-no, on-named}

@@ -10,14 +10,14 @@ use lib.Dec.{leb}
 use lib.ListN.{length, take, drop, length-append, length-drop}
 use lib.Seq.{drop-drop}
 use borrow.Author.Tests.{leb-true}
-use Rattle.values.specs.Bytes.{Bytes, LF, ascii, is, any}
+use Rattle.values.specs.Bytes.{Bytes, LF, ascii, is, any, starts}
 use Rattle.values.specs.Utf8.{isUtf8}
 use Rattle.values.proofs.Tests.{Test, pass, fail, test}
 use Rattle.values.proofs.Fields.{part, text-here}
 use Rattle.rules.specs.Answer.{Answer, ok, refuse, _>>=_, judged}
 use Rattle.rules.specs.Sizes.{Limits}
 use Rattle.rules.specs.Lines.{pieces, lineOf}
-use Rattle.rules.specs.Version.{Version, v4-5, inForce, starts}
+use Rattle.rules.specs.Version.{Version, v4-5, inForce}
 use Rattle.rules.specs.Record.{Record, fileformat, fields, text, readRecord}
 use Rattle.rules.specs.Columns.{Columns, readColumns}
 use Rattle.rules.specs.Entry.{Entry, recordEntry, columnEntries}

@@ -6,7 +6,7 @@ use mathlib.Core.Bool.{Bool, true, false}
 use mathlib.Core.List.{List, [], _∷_, _++_, tail}
 use mathlib.Core.Option.{Option, none, some}
 use lib.ListN.{drop}
-use Rattle.values.specs.Bytes.{Bytes, ascii, is, begins, any, before, from}
+use Rattle.values.specs.Bytes.{Bytes, ascii, is, begins, any, before, from, starts}
 use Rattle.values.specs.Utf8.{completes, followers}
 use Rattle.values.specs.Integer.{u32Read, decimal}
 use Rattle.values.specs.declared.integer.IntegerRead.{IntegerRead}
@@ -15,7 +15,7 @@ use Rattle.values.proofs.Tests.{Test, pass, fail, test}
 use Rattle.values.proofs.Lists.{OnSome, before-stop, from-stop}
 use Rattle.values.proofs.Integers.{read-bound}
 use Rattle.values.proofs.Decimals.{decimal-lacks, integer-decimal}
-use Rattle.rules.specs.Version.{Version, version, inForce, starts, versionOf, readParts, readVersion, writeVersion}
+use Rattle.rules.specs.Version.{Version, version, inForce, versionOf, readParts, readVersion, writeVersion}
 use Rattle.rules.proofs.Pure.{Pure, pure-append, pure-join, pure-decimal}
 
 -- its parts are below 2 to the 32

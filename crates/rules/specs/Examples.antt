@@ -6,7 +6,7 @@ use mathlib.Core.List.{List, [], _∷_, _++_, map}
 use mathlib.Core.Option.{Option, none, some}
 use lib.ListN.{length}
 use Prim.Native.String.{String}
-use Rattle.values.specs.Bytes.{Bytes, LF, ascii, begins, any, before, from, same}
+use Rattle.values.specs.Bytes.{Bytes, LF, ascii, begins, any, before, from, same, starts}
 use Rattle.values.specs.Utf8.{completes, followers}
 use Rattle.values.specs.Integer.{unsignedRead, withoutSign, numberOf, decimal, digitsOf}
 use Rattle.values.specs.Value.{written, unescaped, quotedText, readValues, readValue, escape}
@@ -14,7 +14,7 @@ use Rattle.values.specs.Field.{writtenField, readKey, readField}
 use Rattle.rules.specs.Answer.{first}
 use Rattle.rules.specs.Sizes.{limits}
 use Rattle.rules.specs.Lines.{pieces, ends, dropEnd, lineOf, writeLine, writeLines}
-use Rattle.rules.specs.Version.{Version, version, earlier, starts, readParts, readVersion, writeVersion}
+use Rattle.rules.specs.Version.{Version, version, earlier, readParts, readVersion, writeVersion}
 use Rattle.rules.specs.Known.{isIn, isTyped, kindOf, alwaysMap, namesId, nameOf, letters, types, readNumber}
 use Rattle.rules.specs.Reserved.{lookRow, reserved}
 use Rattle.rules.specs.Map.{after, scan, readFields, fieldRefusal, checkFields, fieldNamed, missing, misdeclared, mapRefusal, readMap}

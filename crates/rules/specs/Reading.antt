@@ -5,13 +5,13 @@ use mathlib.Core.List.{List, [], _∷_, _++_}
 use mathlib.Core.Option.{Option, none, some}
 use lib.Dec.{leb}
 use lib.ListN.{length}
-use Rattle.values.specs.Bytes.{Bytes, ascii, same}
+use Rattle.values.specs.Bytes.{Bytes, ascii, same, starts}
 use Rattle.values.specs.Utf8.{isUtf8}
 use Rattle.values.specs.Field.{Field}
 use Rattle.rules.specs.Answer.{Answer, ok, refuse, _>>=_, unless, first, judged}
 use Rattle.rules.specs.Sizes.{Limits}
 use Rattle.rules.specs.Lines.{pieces, lineOf}
-use Rattle.rules.specs.Version.{Version, v4-5, inForce, starts}
+use Rattle.rules.specs.Version.{Version, v4-5, inForce}
 use Rattle.rules.specs.Known.{isTyped}
 use Rattle.rules.specs.Map.{valueNamed}
 use Rattle.rules.specs.Record.{Record, fileformat, fields, text, readRecord}

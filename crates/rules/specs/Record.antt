@@ -4,10 +4,10 @@ use mathlib.Core.Bool.{Bool, true, false, not, _||_, _&&_}
 use mathlib.Core.List.{List, [], _∷_, _++_, tail}
 use mathlib.Core.Option.{Option, none, some}
 use lib.ListN.{drop}
-use Rattle.values.specs.Bytes.{Bytes, ascii, is, empty, begins, before, from, same}
+use Rattle.values.specs.Bytes.{Bytes, ascii, is, empty, begins, before, from, same, starts}
 use Rattle.values.specs.Field.{Field}
 use Rattle.rules.specs.Answer.{Answer, ok, refuse, _>>=_}
-use Rattle.rules.specs.Version.{Version, v4-3, since, starts, readVersion}
+use Rattle.rules.specs.Version.{Version, v4-3, since, readVersion}
 use Rattle.rules.specs.Known.{isTyped, alwaysMap}
 use Rattle.rules.specs.Map.{readMap}
 

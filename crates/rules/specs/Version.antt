@@ -5,7 +5,7 @@ use mathlib.Core.List.{List, [], _∷_, _++_, tail}
 use mathlib.Core.Option.{Option, none, some}
 use lib.Dec.{eqb, ltb}
 use lib.ListN.{drop}
-use Rattle.values.specs.Bytes.{Bytes, ascii, is, begins, before, from}
+use Rattle.values.specs.Bytes.{Bytes, ascii, is, begins, before, from, starts}
 use Rattle.values.specs.Integer.{u32Read, decimal}
 use Rattle.values.specs.declared.integer.IntegerRead.{IntegerRead}
 use Rattle.values.specs.declared.integer.IntegerRead.the-variants.{Value, Refused}
@@ -35,12 +35,6 @@ since w v = not (earlier v w)
 abbrev pub inForce : Option Version → Version → Version
 inForce none v = v
 inForce (some w) v = w
-
--- the text begins with p
-unfoldable pub starts : Bytes → Bytes → Bool
-starts [] bs = true
-starts (c ∷ p) [] = false
-starts (c ∷ p) (b ∷ bs) = elim (eqb b c) [ true ↦ starts p bs | false ↦ false ]
 
 abbrev pub versionOf : IntegerRead → IntegerRead → Option Version
 versionOf (Value a) (Value b) = some (version a b)

@@ -1,5 +1,6 @@
 pub mod Tests
 pub mod Lists
+pub mod Sames
 pub mod Rows
 pub mod Texts
 pub mod Integers
@@ -12,3 +13,4 @@ pub mod Values
 pub mod Fields
 pub mod Places
 pub mod Escapes
+pub mod Raws

@@ -15,6 +15,7 @@ use Rattle.values.specs.declared.cursor.Cursor.{Cursor}
 use Rattle.values.specs.declared.cursor.ByteRead.{ByteRead}
 use Rattle.values.specs.declared.cursor.ByteRead.the-variants.{Byte, End}
 use Rattle.values.proofs.Tests.{not-true, not-false}
+use Rattle.values.proofs.Sames.{same-hit, same-miss}
 use Rattle.values.proofs.Cursors.{Shows, shows}
 use Rattle.values.proofs.Outputs.{wrote-nothing, wrote-length, wrote-capped, then}
 
@@ -32,14 +33,6 @@ module _ (q : Bool) (s : Bytes) (i : ℕ) {r : ByteRead} (a : r ≡ unescapedAt 
 
     pub told-less : length s - c .at < length s - i
     told-less = let t = told e in omega arith
-
-same-hit : (x y : ℕ) (xs ys : Bytes) → x ≡ y → same (x ∷ xs) (y ∷ ys) ≡ same xs ys
-unfolding same
-same-hit x y xs ys e = rw (eq-eqb x y e, same)
-
-same-miss : (x y : ℕ) (xs ys : Bytes) → (x ≡ y → ⊥) → same (x ∷ xs) (y ∷ ys) ≡ false
-unfolding same
-same-miss x y xs ys ne = rw (ne-eqb x y ne, same)
 
 -- the meanings before i and j are the same
 pub record Comparing (a : Bytes) (aq : Bool) (b : Bytes) (bq : Bool) (i j : ℕ) : Type 0 where

@@ -48,6 +48,12 @@ unfoldable pub from : (ℕ → Bool) → Bytes → Bytes
 from t [] = []
 from t (b ∷ bs) = elim (t b) [ true ↦ b ∷ bs | false ↦ from t bs ]
 
+-- the text begins with p
+unfoldable pub starts : Bytes → Bytes → Bool
+starts [] bs = true
+starts (c ∷ p) [] = false
+starts (c ∷ p) (b ∷ bs) = elim (eqb b c) [ true ↦ starts p bs | false ↦ false ]
+
 -- byte by byte equal
 unfoldable pub same : Bytes → Bytes → Bool
 same [] [] = true

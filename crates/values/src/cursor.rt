@@ -1,8 +1,5 @@
 // A place in a slice, by value: each step hands the moved cursor back with its answer.
 ghost use mathlib.Core.Path.{_≡_};
-ghost use Prim.Native.Nat.{_+_};
-ghost use lib.ListN.{length, drop};
-ghost use Rattle.values.specs.Bytes.{is, before};
 ghost use Rattle.values.specs.Places.{byteAt, unescapedAt};
 
 pub struct Cursor {
@@ -41,18 +38,4 @@ impl Cursor {
         }
         ByteRead::Byte(b, next)
     }
-}
-
-// The place of the first x from `start` on, or the end.
-pub fn find(s: &[u8], start: usize, x: u8) -> usize
-    ensures { λ r. ⌜ r ≡ start + length (before (is x) (drop start (now (s .entry)))) ⌝ }
-{
-    let mut i = start;
-    while i < s.len() {
-        if s[i] == x {
-            return i;
-        }
-        i += 1;
-    }
-    i
 }

@@ -1,7 +1,7 @@
 // A field of a map: key, `=`, value.
+use crate::bytes;
 use crate::cursor::ByteRead;
 use crate::cursor::Cursor;
-use crate::string;
 use crate::string::Text;
 use crate::string::ValueRead;
 ghost use mathlib.Core.Path.{_≡_};
@@ -67,7 +67,7 @@ fn may_bracket(key: &[u8], brackets: bool) -> bool
     if !brackets {
         return false;
     }
-    string::same_meaning(key, false, b"Values", false)
+    bytes::same(key, b"Values")
 }
 
 impl Cursor {

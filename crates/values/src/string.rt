@@ -1,5 +1,5 @@
 // A value of a map's field: bare, quoted or bracketed; its meaning, and how it is written.
-use crate::cursor;
+use crate::bytes;
 use crate::cursor::ByteRead;
 use crate::cursor::Cursor;
 use crate::output;
@@ -127,7 +127,7 @@ impl Cursor {
         if s[start] != b'[' {
             return self.parse_raw_string(s);
         }
-        let close = cursor::find(s, start, b']');
+        let close = bytes::find(s, start, b']');
         if s.len() <= close {
             return self.parse_raw_string(s);
         }

@@ -6,15 +6,14 @@ use Rattle.values.proofs.field.may_bracket.Tie as tie
 returns : tie.Need-returns
 returns c = search (may, needs)
 
-slice-aggregate-same-meaning : tie.Need-slice-aggregate-same-meaning
-slice-aggregate-same-meaning c = search needs
+slice-aggregate-same : tie.Need-slice-aggregate-same
+slice-aggregate-same c = search needs
 
-same-meaning-requires : tie.Need-same-meaning-requires
-same-meaning-requires c κs = search needs
+same-requires : tie.Need-same-requires
+same-requires c κs = search needs
 
 returns-2 : tie.Need-returns-2
 returns-2 c = search (may, needs)
 
 pub may-bracket-spec : {M : Type 1} → statement M
-may-bracket-spec =
-    tie.close (tie.spec returns slice-aggregate-same-meaning same-meaning-requires returns-2)
+may-bracket-spec = tie.close (tie.spec returns slice-aggregate-same same-requires returns-2)

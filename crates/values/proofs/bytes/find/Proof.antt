@@ -3,8 +3,8 @@ use Prim.Native.Nat.{_-_}
 use lib.ListN.{length}
 use Rattle.values.specs.Bytes.{is}
 use Rattle.values.proofs.Scans.{Scanning, finds}
-use Rattle.values.proofs.cursor.find.Statement.{statement}
-use Rattle.values.proofs.cursor.find.Tie as tie
+use Rattle.values.proofs.bytes.find.Statement.{statement}
+use Rattle.values.proofs.bytes.find.Tie as tie
 
 abbrev Inv-loop : tie.InvT-loop
 Inv-loop s start x i₀ i = Scanning (is x) s start i

@@ -1,0 +1,52 @@
+// Runs of bytes: where one stands, and whether two are equal.
+ghost use mathlib.Core.Path.{_≡_};
+ghost use Prim.Native.Nat.{_+_};
+ghost use lib.ListN.{length, drop};
+ghost use Rattle.values.specs.Bytes.{is, before, starts, same};
+
+// The place of the first x from `start` on, or the end.
+pub fn find(s: &[u8], start: usize, x: u8) -> usize
+    ensures { λ r. ⌜ r ≡ start + length (before (is x) (drop start (now (s .entry)))) ⌝ }
+{
+    let mut i = start;
+    while i < s.len() {
+        if s[i] == x {
+            return i;
+        }
+        i += 1;
+    }
+    i
+}
+
+pub fn starts_with(s: &[u8], p: &[u8]) -> bool
+    ensures { λ r. ⌜ r ≡ starts (now (p .entry)) (now (s .entry)) ⌝ }
+{
+    if s.len() < p.len() {
+        return false;
+    }
+    let mut i: usize = 0;
+    while i < p.len() {
+        if s[i] != p[i] {
+            return false;
+        }
+        i += 1;
+    }
+    true
+}
+
+// Byte by byte from the last one on, since names of one kind mostly differ there.
+pub fn same(a: &[u8], b: &[u8]) -> bool
+    ensures { λ r. ⌜ r ≡ same (now (a .entry)) (now (b .entry)) ⌝ }
+{
+    if a.len() != b.len() {
+        return false;
+    }
+    let mut i = a.len();
+    while 0 < i {
+        i -= 1;
+        if a[i] != b[i] {
+            return false;
+        }
+    }
+    true
+}

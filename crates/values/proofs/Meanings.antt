@@ -34,6 +34,11 @@ module _ (q : Bool) (s : Bytes) (i : ℕ) {r : ByteRead} (a : r ≡ unescapedAt 
     pub told-less : length s - c .at < length s - i
     told-less = let t = told e in omega arith
 
+-- two bare texts mean their bytes
+pub both-bare : (a : Bytes) (aq : Bool) (b : Bytes) (bq : Bool) → not aq ≡ true → not bq ≡ true → {q : Bool} → q ≡ same a b
+    → q ≡ same (meaning aq a) (meaning bq b)
+both-bare a aq b bq e f g = rw (not-true aq e, not-true bq f) g
+
 -- the meanings before i and j are the same
 pub record Comparing (a : Bytes) (aq : Bool) (b : Bytes) (bq : Bool) (i j : ℕ) : Type 0 where
   pub still : same (meaning aq a) (meaning bq b) ≡ same (meaning aq (drop i a)) (meaning bq (drop j b))
@@ -67,7 +72,7 @@ module _ {a : Bytes} {aq : Bool} {b : Bytes} {bq : Bool} {i j : ℕ} (g : Compar
       agree e = record { still = turn ∙ same-hit x y _ _ e }
 
 -- what answers the needs of `same_meaning`
-pub ruleset compares = (compare, both-end, right-longer, left-longer, differ, agree, told-less)
+pub ruleset compares = (both-bare, compare, both-end, right-longer, left-longer, differ, agree, told-less)
 
 escape-cons : (b : ℕ) (bs : Bytes) → escape (b ∷ bs) ≡ escapedByte b ++ escape bs
 unfolding escape

@@ -126,9 +126,15 @@ text-of-value s j (bare t) r e h =
     let l = sym (length-drop j s) ∙ ap length e ∙ length-append t r in
     record { value = ap bare (text-here s j t r e .0); begun = omega arith; ordered = omega arith; ended = omega arith; inside = omega arith }
 
--- a field that the code was told of: its parts are those of the field that was read
+-- a field that the code was told of, and where its parts stand
 pub record FieldHere (m : Bool) (s : Bytes) (i e : ℕ) (t : Text) (n : Cursor) : Type 0 where
-  pub read : readField m (drop i s) ≡ some (record { key = part s i e; value = valueIn s t }, drop (n .at) s)
+  pub field : Field
+  pub read : readField m (drop i s) ≡ some (field, drop (n .at) s)
+  pub equals : e ≡ i + length (field .key)
+  pub text : t ≡ textAt (i + length (field .key) + 1) (field .value)
+  pub next : n .at ≡ i + length (writtenField field)
+  pub key : part s i e ≡ field .key
+  pub value : valueIn s t ≡ field .value
   pub keyed : i < e
   pub begun : e < t .start
   pub ordered : t .start ≤ t .end
@@ -159,7 +165,13 @@ field-here m s i {e} {t} {n} q = go (readField m (drop i s)) refl q
         let whole = text-here s i (k ++ 61 ∷ written v) (p .1) (h .text) in
         let size : i + length (k ++ 61 ∷ written v) ≡ j + length (written v) = rw (length-append k (61 ∷ written v)) (omega arith) in
         rw (← we, ← wt, ← wn) (record {
-          read = a ∙ rw (kh .0, vh .value, whole .1);
+          field = p .0;
+          read = a ∙ rw (whole .1);
+          equals = refl;
+          text = refl;
+          next = refl;
+          key = kh .0;
+          value = vh .value;
           keyed = omega (arith, key-some k (h .legal));
           begun = omega (arith, vh .begun);
           ordered = vh .ordered;

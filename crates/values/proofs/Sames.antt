@@ -5,7 +5,8 @@ use mathlib.Core.Path.{_≡_, refl, sym, ap, ap₂, _∙_}
 use mathlib.Core.Bool.{Bool, true, false}
 use mathlib.Core.List.{List, [], _∷_}
 use lib.Dec.{eqb}
-use lib.ListN.{length, getD, drop, drop-of-length-le}
+use lib.ListN.{length, getD, drop, take, length-drop, drop-of-length-le}
+use lib.Seq.{take-all, take-nil}
 use borrow.Author.Tests.{eqb-true, eq-eqb, ne-eqb}
 use Rattle.values.specs.Bytes.{Bytes, starts, same}
 use Rattle.values.proofs.Tests.{Test, pass, fail, test, both}
@@ -126,3 +127,19 @@ module _ {p s : Bytes} {i : ℕ} (g : Starting p s i) where
   starts-all h = sym (g .still ∙ rw (drop-of-length-le p h))
 
 pub ruleset prefixes = (too-short, start-same, start-differs, start-agrees, starts-all)
+
+-- A part of a slice, as far as there is any
+
+module _ (s : Bytes) (start end : ℕ) where
+  pub part-past : length s ≤ start → take 0 s ≡ take (end - start) (drop start s)
+  part-past h = rw (drop-of-length-le s h, take-nil (end - start))
+
+  pub part-none : end ≤ start → take 0 s ≡ take (end - start) (drop start s)
+  part-none h = let z : end - start ≡ 0 = omega arith in rw z
+
+  pub part-rest : length s < end → take (length s - start) (drop start s) ≡ take (end - start) (drop start s)
+  part-rest h =
+      let l = length-drop start s in
+      take-all (length s - start) (drop start s) (omega arith) ∙ sym (take-all (end - start) (drop start s) (omega arith))
+
+pub ruleset parts = (part-past, part-none, part-rest)

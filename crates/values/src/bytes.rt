@@ -1,7 +1,7 @@
 // Runs of bytes: where one stands, and whether two are equal.
 ghost use mathlib.Core.Path.{_≡_};
-ghost use Prim.Native.Nat.{_+_};
-ghost use lib.ListN.{length, drop};
+ghost use Prim.Native.Nat.{_+_, _-_};
+ghost use lib.ListN.{length, drop, take};
 ghost use Rattle.values.specs.Bytes.{is, before, starts, same};
 
 // The place of the first x from `start` on, or the end.
@@ -49,4 +49,20 @@ pub fn same(a: &[u8], b: &[u8]) -> bool
         }
     }
     true
+}
+
+// The bytes from `start` to `end`, as far as there are any.
+pub fn part(s: &[u8], start: usize, end: usize) -> &[u8]
+    ensures { λ r. ⌜ now r ≡ take (end - start) (drop start (now (s .entry))) ⌝ }
+{
+    if s.len() <= start {
+        return &s[..0];
+    }
+    if end <= start {
+        return &s[..0];
+    }
+    if s.len() < end {
+        return &s[start..];
+    }
+    &s[start..end]
 }

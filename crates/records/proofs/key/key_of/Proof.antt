@@ -10,7 +10,7 @@ same-requires : tie.Need-same-requires
 same-requires c κs = search needs
 
 returns : tie.Need-returns
-returns c = search (tried, needs) depth 12 fits 3000
+returns c = search (tried, needs) depth 9
 
 slice-aggregate-same-2 : tie.Need-slice-aggregate-same-2
 slice-aggregate-same-2 c = search needs
@@ -19,7 +19,7 @@ same-requires-2 : tie.Need-same-requires-2
 same-requires-2 c κs = search needs
 
 returns-2 : tie.Need-returns-2
-returns-2 c = search (tried, needs) depth 12 fits 3000
+returns-2 c = search (tried, needs) depth 9
 
 slice-aggregate-same-3 : tie.Need-slice-aggregate-same-3
 slice-aggregate-same-3 c = search needs
@@ -28,7 +28,7 @@ same-requires-3 : tie.Need-same-requires-3
 same-requires-3 c κs = search needs
 
 returns-3 : tie.Need-returns-3
-returns-3 c = search (tried, needs) depth 12 fits 3000
+returns-3 c = search (tried, needs) depth 9
 
 slice-aggregate-same-4 : tie.Need-slice-aggregate-same-4
 slice-aggregate-same-4 c = search needs
@@ -37,7 +37,7 @@ same-requires-4 : tie.Need-same-requires-4
 same-requires-4 c κs = search needs
 
 returns-4 : tie.Need-returns-4
-returns-4 c = search (tried, needs) depth 12 fits 3000
+returns-4 c = search (tried, needs) depth 9
 
 slice-aggregate-same-5 : tie.Need-slice-aggregate-same-5
 slice-aggregate-same-5 c = search needs
@@ -46,13 +46,13 @@ same-requires-5 : tie.Need-same-requires-5
 same-requires-5 c κs = search needs
 
 returns-5 : tie.Need-returns-5
-returns-5 c = search (tried, needs) depth 12 fits 3000
+returns-5 c = search (tried, needs) depth 9
 
 untyped-key-of-requires : tie.Need-untyped-key-of-requires
 untyped-key-of-requires c κs = search needs
 
 returns-6 : tie.Need-returns-6
-returns-6 c = search (tried, needs) depth 12 fits 3000
+returns-6 c = search (tried, needs) depth 9
 
 pub key-of-spec : {M : Type 1} → statement M
 key-of-spec =

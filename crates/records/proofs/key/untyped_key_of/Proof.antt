@@ -10,7 +10,7 @@ same-requires : tie.Need-same-requires
 same-requires c κs = search needs
 
 returns : tie.Need-returns
-returns c = search (tried, needs) depth 12 fits 3000
+returns c = search (tried, needs) depth 9
 
 slice-aggregate-same-2 : tie.Need-slice-aggregate-same-2
 slice-aggregate-same-2 c = search needs
@@ -19,7 +19,7 @@ same-requires-2 : tie.Need-same-requires-2
 same-requires-2 c κs = search needs
 
 returns-2 : tie.Need-returns-2
-returns-2 c = search (tried, needs) depth 12 fits 3000
+returns-2 c = search (tried, needs) depth 9
 
 slice-aggregate-same-3 : tie.Need-slice-aggregate-same-3
 slice-aggregate-same-3 c = search needs
@@ -28,10 +28,10 @@ same-requires-3 : tie.Need-same-requires-3
 same-requires-3 c κs = search needs
 
 returns-3 : tie.Need-returns-3
-returns-3 c = search (tried, needs) depth 12 fits 3000
+returns-3 c = search (tried, needs) depth 9
 
 returns-4 : tie.Need-returns-4
-returns-4 c = search (tried, needs) depth 12 fits 3000
+returns-4 c = search (tried, needs) depth 9
 
 pub untyped-key-of-spec : {M : Type 1} → statement M
 untyped-key-of-spec =

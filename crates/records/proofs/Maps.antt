@@ -1,0 +1,171 @@
+-- Maps: the code's tests of what stands around the fields. Assumes nothing.
+use Prim.Native.Nat.{ℕ, suc, _+_, _-_, _≤_, _<_}
+use native.Mathlib.Omega.{arith}
+use mathlib.Core.Path.{_≡_, refl, sym, ap, _∙_}
+use mathlib.Core.Bool.{Bool, true, false, not, _||_, _&&_}
+use mathlib.Core.List.{List, [], _∷_}
+use lib.Dec.{eqb}
+use lib.ListN.{length, drop, take, getD, drop-of-length-le}
+use borrow.Author.Tests.{eq-eqb, ne-eqb, eqb-true}
+use Rattle.values.specs.Bytes.{Bytes, ascii, is, empty, begins, starts}
+use Rattle.values.specs.Places.{to, separatorAt, separatorPlaced}
+use Rattle.values.specs.declared.field.Separator.{Separator}
+use Rattle.values.specs.declared.field.Separator.the-variants as separator
+use Rattle.values.specs.declared.cursor.Cursor.{Cursor}
+use Rattle.values.proofs.Tests.{not-true, not-false}
+use Rattle.values.proofs.Lists.{here, rest, Stands, there, past, stands}
+use Rattle.rules.specs.Version.{Version, v4-3, v4-5, earlier, since}
+use Rattle.rules.specs.Map.{After, more, done, wrong, after}
+use Rattle.rules.specs.Record.{looksMap}
+use Rattle.records.specs.Maps.{opened, opensAt, closes, closesAt, afterPlaced, afterAt, checkNumber, tagRefusal, get, put}
+use Rattle.values.specs.Value.{meaning}
+use Rattle.rules.specs.Answer.{unless}
+use Rattle.rules.specs.Known.{isIn}
+use Rattle.records.specs.Refusals.{number}
+use Rattle.records.specs.Numbers.{isCount, lettersOf, typesOf}
+use Rattle.records.specs.declared.refusal.Refusal.{Refusal}
+use Rattle.records.specs.declared.refusal.Refusal.the-variants.{InvalidNumber, InvalidType, InvalidInteger}
+use Rattle.records.specs.declared.tag.Known.{Known}
+use Rattle.records.specs.declared.tag.Tag.{Tag}
+use Rattle.records.specs.declared.tag.Tag.the-variants.{Number, ValueType, Idx, Length}
+use Rattle.records.specs.declared.map.Slot.{Slot}
+use Rattle.records.specs.declared.map.Slots.{Slots}
+use Rattle.records.specs.declared.map.Check.the-variants as check
+use Rattle.records.specs.declared.map.Prefix.the-variants as prefix
+use Rattle.records.specs.declared.map.After.the-variants as afters
+
+begins-starts : (x : Bytes) → starts (ascii "<") x ≡ begins 60 x
+unfolding starts begins
+begins-starts [] = refl
+begins-starts (b ∷ bs) = go (eqb b 60)
+  where
+    go : (q : Bool) → elim q [ true ↦ true | false ↦ false ] ≡ q
+    go true = refl
+    go false = refl
+
+module _ (s : Bytes) (at : ℕ) (v : Version) {p : Bytes} (a : p ≡ take (length s - at) (drop at s)) {e : Bool} (b : e ≡ earlier v v4-3) where
+  pub older-map : e ≡ true → {q : Bool} → q ≡ starts (ascii "<ID=") p → q ≡ looksMap v (drop at s)
+  unfolding looksMap
+  older-map f c = rw (looksMap, sym b ∙ f, ← rest s at, ← a) c
+
+  pub newer-map : e ≡ false → {q : Bool} → q ≡ starts (ascii "<") p → q ≡ looksMap v (drop at s)
+  unfolding looksMap
+  newer-map f c = rw (looksMap, sym b ∙ f, ← rest s at, ← a, ← begins-starts p) c
+
+pub ruleset looks = (older-map, newer-map)
+
+module _ (s : Bytes) (at : ℕ) where
+  pub open-past : length s ≤ at → prefix.Missing ≡ opensAt s at
+  unfolding begins
+  open-past h = rw (drop-of-length-le s h)
+
+  pub open-here : at < length s → getD s at 0 ≡ 60 → prefix.Consumed (to (at + 1)) ≡ opensAt s at
+  unfolding begins
+  open-here h e = rw (here s at h, begins, eq-eqb (getD s at 0) 60 e)
+
+  pub open-other : at < length s → (getD s at 0 ≡ 60 → ⊥) → prefix.Missing ≡ opensAt s at
+  unfolding begins
+  open-other h n = rw (here s at h, begins, ne-eqb (getD s at 0) 60 n)
+
+  pub close-past : length s ≤ at → false ≡ closesAt s at
+  close-past h = rw (drop-of-length-le s h)
+
+  pub close-other : at < length s → (getD s at 0 ≡ 62 → ⊥) → false ≡ closesAt s at
+  close-other h n = rw (here s at h, ne-eqb (getD s at 0) 62 n)
+
+  pub close-last : at < length s → getD s at 0 ≡ 62 → eqb (at + 1) (length s) ≡ closesAt s at
+  close-last h e = rw (here s at h, eq-eqb (getD s at 0) 62 e) (last (stands s (at + 1)))
+    where
+      last : Stands s (at + 1) → eqb (at + 1) (length s) ≡ empty (drop (at + 1) s)
+      last (there l) = rw (here s (at + 1) l) (ne-eqb (at + 1) (length s) (λ z. absurd (omega arith)))
+      last (past l) = rw (drop-of-length-le s l) (eq-eqb (at + 1) (length s) (omega arith))
+
+pub ruleset opens = (open-past, open-here, open-other)
+
+pub ruleset closings = (close-past, close-other, close-last)
+
+comma-after : (at : ℕ) (x : Bytes) → begins 44 x ≡ true → afters.More (to (at + 1)) ≡ afterPlaced at (after x)
+unfolding after begins
+comma-after at [] e = cc
+comma-after at (b ∷ x) e = rw (after, e)
+
+no-comma : (at : ℕ) (x : Bytes) → begins 44 x ≡ false → afterPlaced at (after x) ≡ elim (closes x) [ true ↦ afters.Closed | false ↦ afters.Other ]
+unfolding after begins
+no-comma at [] e = refl
+no-comma at (b ∷ x) e = rw (after, e) (go (is 62 b && empty x))
+  where
+    go : (q : Bool) → afterPlaced at (elim q [ true ↦ done | false ↦ wrong ]) ≡ elim q [ true ↦ afters.Closed | false ↦ afters.Other ]
+    go true = refl
+    go false = refl
+
+placed-comma : (at : ℕ) (q : Bool) {d : Cursor} → separatorPlaced at q ≡ separator.Comma d → (q ≡ true) × (to (at + 1) ≡ d)
+placed-comma at true e = (refl, cc)
+placed-comma at false e = let z : _≡_ {A = ℕ} 0 1 = cc in absurd (omega arith)
+
+placed-other : (at : ℕ) (q : Bool) → separatorPlaced at q ≡ separator.Other → q ≡ false
+placed-other at true e = cc
+placed-other at false e = refl
+
+module _ (s : Bytes) (c : Cursor) {r : Separator} (a : r ≡ separatorAt s (c .at)) where
+  pub after-comma : {d : Cursor} → r ≡ separator.Comma d → afters.More d ≡ afterAt s (c .at)
+  unfolding separatorAt
+  after-comma e =
+      let p = placed-comma (c .at) (begins 44 (drop (c .at) s)) (sym a ∙ e) in
+      rw (← p .1) (comma-after (c .at) (drop (c .at) s) (p .0))
+
+  module _ (e : r ≡ separator.Other) {q : Bool} (b : q ≡ closesAt s (c .at)) where
+    uncomma : afterAt s (c .at) ≡ elim (closes (drop (c .at) s)) [ true ↦ afters.Closed | false ↦ afters.Other ]
+    unfolding separatorAt
+    uncomma = no-comma (c .at) (drop (c .at) s) (placed-other (c .at) (begins 44 (drop (c .at) s)) (sym a ∙ e))
+
+    pub after-closed : q ≡ true → afters.Closed ≡ afterAt s (c .at)
+    after-closed f = rw (uncomma, sym b ∙ f)
+
+    pub after-other : q ≡ false → afters.Other ≡ afterAt s (c .at)
+    after-other f = rw (uncomma, sym b ∙ f)
+
+pub ruleset afters-field = (after-comma, after-closed, after-other)
+
+-- Checks and slots
+
+pub check-passed : (x : Refusal) (b : Bool) → b ≡ true → checkNumber check.Passed ≡ unless b (number x)
+check-passed x b e = rw e
+
+pub check-refused : (x : Refusal) (b : Bool) → b ≡ false → checkNumber (check.Refused x) ≡ unless b (number x)
+check-refused x b e = rw e
+
+pub ruleset checks = (check-passed, check-refused)
+
+pub not-format : (n : Known) (v : Version) → not (n .format) ≡ true → false ≡ (n .format && since v4-5 v)
+not-format n v e = rw (not-true (n .format) e)
+
+pub format-since : (n : Known) (v : Version) → not (n .format) ≡ false → {e : Bool} → e ≡ earlier v v4-5 → not e ≡ (n .format && since v4-5 v)
+format-since n v e a = rw (not-false (n .format) e, a)
+
+pub ruleset locals = (not-format, format-since)
+
+module _ (n : Known) (v : Version) (t : Tag) (s : Bytes) (q : Bool) where
+  pub value-passed : {x : Tag} → t ≡ x → 0 ≡ tagRefusal n v x s q → checkNumber check.Passed ≡ tagRefusal n v t s q
+  value-passed e f = rw e f
+
+  pub number-checked : t ≡ Number → {l : Bool} → l ≡ (n .format && since v4-5 v) → {b : Bool} → b ≡ (isCount s || isIn (meaning q s) (lettersOf l)) → {r : ℕ}
+      → r ≡ unless b (number InvalidNumber) → r ≡ tagRefusal n v t s q
+  number-checked e f g h = rw (e, ← f, ← g) h
+
+  pub type-checked : t ≡ ValueType → {b : Bool} → b ≡ isIn (meaning q s) (typesOf (n .info)) → {r : ℕ}
+      → r ≡ unless b (number InvalidType) → r ≡ tagRefusal n v t s q
+  type-checked e g h = rw (e, ← g) h
+
+  pub idx-checked : t ≡ Idx → {b : Bool} → b ≡ isCount s → {r : ℕ} → r ≡ unless b (number InvalidInteger) → r ≡ tagRefusal n v t s q
+  idx-checked e g h = rw (e, ← g) h
+
+  pub length-checked : t ≡ Length → {b : Bool} → b ≡ isCount s → {r : ℕ} → r ≡ unless b (number InvalidInteger) → r ≡ tagRefusal n v t s q
+  length-checked e g h = rw (e, ← g) h
+
+pub ruleset values = (value-passed, number-checked, type-checked, idx-checked, length-checked)
+
+pub get-told : (t : Tag) (x : Slots) {y : Tag} → t ≡ y → {z : Slot} → z ≡ get y x → z ≡ get t x
+get-told t x e f = rw e f
+
+pub put-told : (t : Tag) (z : Slot) (x : Slots) {y : Tag} → t ≡ y → {w : Slots} → w ≡ put y z x → w ≡ put t z x
+put-told t z x e f = rw e f

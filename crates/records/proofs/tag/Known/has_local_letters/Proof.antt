@@ -1,0 +1,16 @@
+use Rattle.records.proofs.Maps.{locals}
+use borrow.Author.Needs.{needs}
+use Rattle.records.proofs.tag.Known.has_local_letters.Statement.{statement}
+use Rattle.records.proofs.tag.Known.has_local_letters.Tie as tie
+
+returns : tie.Need-returns
+returns c = search (locals, needs)
+
+lt-requires : tie.Need-lt-requires
+lt-requires c κs = search needs
+
+returns-2 : tie.Need-returns-2
+returns-2 c = search (locals, needs)
+
+pub has-local-letters-spec : {M : Type 1} → statement M
+has-local-letters-spec = tie.close (tie.spec returns lt-requires returns-2)

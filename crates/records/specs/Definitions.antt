@@ -1,0 +1,61 @@
+-- Reserved IDs as the code lists them. Assumes nothing.
+use Prim.Native.Nat.{ℕ}
+use mathlib.Core.List.{List, [], _∷_}
+use mathlib.Core.Option.{Option, none, some}
+use Rattle.values.specs.Bytes.{Bytes, ascii}
+use Rattle.rules.specs.Known.{count, letter}
+use Rattle.rules.specs.Known.{Number as Asked}
+use Rattle.rules.specs.Reserved.{Row, row}
+use Rattle.records.specs.Lists.{listed}
+use Rattle.records.specs.Numbers.{typeName}
+use Rattle.records.specs.declared.number.Number.{Number}
+use Rattle.records.specs.declared.number.Number.the-variants.{Count, A, R, G}
+use Rattle.records.specs.declared.definition.Definition.{Definition}
+use Rattle.records.specs.declared.definition.Definition.the-variants.{Of, Unreserved}
+
+abbrev pub asked : Number → Asked
+asked (Count n) = count n
+asked A = letter (ascii "A")
+asked R = letter (ascii "R")
+asked G = letter (ascii "G")
+
+-- the Number and Type that an ID must have
+abbrev pub definitionMeans : Definition → Option (Asked × Bytes)
+definitionMeans (Of n t) = some (asked n, typeName t)
+definitionMeans Unreserved = none
+
+abbrev pub outline : Option Row → Option (Asked × Bytes)
+outline none = none
+outline (some r) = some (r .number, r .type)
+
+abbrev pub infoCounts : List Row
+infoCounts =
+    row (listed (ascii "AA")) (count 1) (ascii "String")
+    ∷ row (listed (ascii "AN,DP,END,MQ0,NS")) (count 1) (ascii "Integer")
+    ∷ row (listed (ascii "BQ,MQ")) (count 1) (ascii "Float")
+    ∷ row (listed (ascii "SB")) (count 4) (ascii "Integer")
+    ∷ row (listed (ascii "DB,H2,H3,SOMATIC,VALIDATED,1000G")) (count 0) (ascii "Flag")
+    ∷ []
+
+abbrev pub infoList : List Row
+infoList =
+    row (listed (ascii "AC")) (letter (ascii "A")) (ascii "Integer")
+    ∷ row (listed (ascii "CIGAR")) (letter (ascii "A")) (ascii "String")
+    ∷ row (listed (ascii "AF")) (letter (ascii "A")) (ascii "Float")
+    ∷ row (listed (ascii "AD,ADF,ADR")) (letter (ascii "R")) (ascii "Integer")
+    ∷ infoCounts
+
+abbrev pub formatScores : List Row
+formatScores =
+    row (listed (ascii "HQ")) (count 2) (ascii "Integer")
+    ∷ row (listed (ascii "GL,GP")) (letter (ascii "G")) (ascii "Float")
+    ∷ row (listed (ascii "PL,PP")) (letter (ascii "G")) (ascii "Integer")
+    ∷ []
+
+abbrev pub formatList : List Row
+formatList =
+    row (listed (ascii "AD,ADF,ADR")) (letter (ascii "R")) (ascii "Integer")
+    ∷ row (listed (ascii "EC")) (letter (ascii "A")) (ascii "Integer")
+    ∷ row (listed (ascii "DP,GQ,MQ,PQ,PS")) (count 1) (ascii "Integer")
+    ∷ row (listed (ascii "FT,GT")) (count 1) (ascii "String")
+    ∷ formatScores

@@ -1,0 +1,10 @@
+-- Names with `,`, 44, between them. Assumes nothing.
+use Prim.Native.Nat.{ℕ}
+use mathlib.Core.Bool.{true, false}
+use mathlib.Core.List.{List, [], _∷_}
+use Rattle.values.specs.Bytes.{Bytes, is}
+use Rattle.rules.specs.Columns.{add}
+
+unfoldable pub listed : Bytes → List Bytes
+listed [] = [] ∷ []
+listed (b ∷ bs) = elim (is 44 b) [ true ↦ [] ∷ listed bs | false ↦ add b (listed bs) ]

@@ -1,0 +1,232 @@
+// A map: `<`, fields parted by `,`, then `>` as the last byte of the line.
+use crate::file_format::FileFormat;
+use crate::key::Key;
+use crate::number;
+use crate::refusal::Refusal;
+use crate::tag;
+use crate::tag::Known;
+use crate::tag::Tag;
+use values::bytes;
+use values::cursor::Cursor;
+use values::field::FieldRead;
+use values::field::Separator;
+use values::integer;
+use values::integer::IntegerRead;
+use values::string::Text;
+ghost use mathlib.Core.Path.{_≡_};
+ghost use mathlib.Core.Bool.{_&&_};
+ghost use mathlib.Core.List.{List};
+ghost use lib.ListN.{drop};
+ghost use Rattle.values.specs.Bytes.{Bytes};
+ghost use Rattle.values.specs.Field.{Field};
+ghost use Rattle.rules.specs.Known.{isIn};
+ghost use Rattle.rules.specs.Record.{looksMap};
+ghost use Rattle.records.specs.Formats.{versionOf};
+ghost use Rattle.rules.specs.Answer.{unless};
+ghost use Rattle.rules.specs.Version.{v4-5, since};
+ghost use Rattle.records.specs.Refusals.{number};
+ghost use Rattle.records.specs.Maps.{opensAt, closesAt, afterAt, checkNumber, tagRefusal, noSlots, get, put};
+
+// A text that was read, and which name stood for the ID.
+pub enum Slot {
+    Empty,
+    Filled(Text, u8),
+}
+
+// The fields that are kept while a map is read.
+pub struct Slots {
+    pub id: Slot,
+    pub number: Slot,
+    pub kind: Slot,
+    pub description: Slot,
+}
+
+pub enum Check {
+    Passed,
+    Refused(Refusal),
+}
+
+pub enum Prefix {
+    Consumed(Cursor),
+    Missing,
+}
+
+// What follows a value.
+pub enum After {
+    More(Cursor),
+    Closed,
+    Other,
+}
+
+pub enum FieldStep {
+    Next(Cursor, Slots),
+    Last(Slots),
+    Refused(Refusal),
+}
+
+pub enum FieldsRead {
+    Fields(Slots),
+    Refused(Refusal),
+}
+
+// The ID of a map, and which name stands for it.
+pub enum MapRead {
+    Map(Text, u8),
+    Refused(Refusal),
+}
+
+// Whether the value of an untyped key is a map.
+pub fn is_map(s: &[u8], c: Cursor, version: FileFormat) -> bool
+    ensures { λ r. ⌜ r ≡ looksMap (versionOf version) (drop (c .at) (now (s .entry))) ⌝ }
+{
+    let rest = bytes::part(s, c.at, s.len());
+    if version.lt(FileFormat::V4_3) {
+        return bytes::starts_with(rest, b"<ID=");
+    }
+    bytes::starts_with(rest, b"<")
+}
+
+pub fn consume_prefix(s: &[u8], c: Cursor) -> Prefix
+    ensures { λ r. ⌜ r ≡ opensAt (now (s .entry)) (c .at) ⌝ }
+{
+    let at = c.at;
+    if s.len() <= at {
+        return Prefix::Missing;
+    }
+    if s[at] == b'<' {
+        return Prefix::Consumed(Cursor { at: at + 1 });
+    }
+    Prefix::Missing
+}
+
+// `>` as the last byte of the line.
+pub fn consume_suffix(s: &[u8], c: Cursor) -> bool
+    ensures { λ r. ⌜ r ≡ closesAt (now (s .entry)) (c .at) ⌝ }
+{
+    let at = c.at;
+    if s.len() <= at {
+        return false;
+    }
+    if s[at] != b'>' {
+        return false;
+    }
+    at + 1 == s.len()
+}
+
+fn after_field(s: &[u8], c: Cursor) -> After
+    ensures { λ r. ⌜ r ≡ afterAt (now (s .entry)) (c .at) ⌝ }
+{
+    match c.consume_separator(s) {
+        Separator::Comma(next) => After::More(next),
+        Separator::Other => {
+            if consume_suffix(s, c) {
+                return After::Closed;
+            }
+            After::Other
+        }
+    }
+}
+
+fn pass_or(passed: bool, refusal: Refusal) -> Check
+    ensures { λ r. ⌜ checkNumber r ≡ unless passed (number refusal) ⌝ }
+{
+    if passed {
+        return Check::Passed;
+    }
+    Check::Refused(refusal)
+}
+
+impl Known {
+    // FORMAT from 4.5 has more letters.
+    fn has_local_letters(self, version: FileFormat) -> bool
+        ensures { λ r. ⌜ r ≡ (self .format && since v4-5 (versionOf version)) ⌝ }
+    {
+        if !self.format {
+            return false;
+        }
+        !version.lt(FileFormat::V4_5)
+    }
+
+    // Number, Type, IDX and length have rules of their own.
+    fn check_value(self, version: FileFormat, tag: Tag, s: &[u8], quoted: bool) -> Check
+        ensures { λ r. ⌜ checkNumber r ≡ tagRefusal self (versionOf version) tag (now (s .entry)) quoted ⌝ }
+    {
+        match tag {
+            Tag::Id => Check::Passed,
+            Tag::Number => {
+                let local = self.has_local_letters(version);
+                pass_or(number::is_number(s, quoted, local), Refusal::InvalidNumber)
+            }
+            Tag::ValueType => pass_or(number::is_type(s, quoted, self.info), Refusal::InvalidType),
+            Tag::Description => Check::Passed,
+            Tag::Idx => pass_or(number::is_count(s), Refusal::InvalidInteger),
+            Tag::Length => pass_or(number::is_count(s), Refusal::InvalidInteger),
+            Tag::Other => Check::Passed,
+        }
+    }
+}
+
+impl Slots {
+    pub fn empty() -> Slots
+        ensures { λ r. ⌜ r ≡ noSlots ⌝ }
+    {
+        Slots {
+            id: Slot::Empty,
+            number: Slot::Empty,
+            kind: Slot::Empty,
+            description: Slot::Empty,
+        }
+    }
+
+    fn get(self, tag: Tag) -> Slot
+        ensures { λ r. ⌜ r ≡ get tag self ⌝ }
+    {
+        match tag {
+            Tag::Id => self.id,
+            Tag::Number => self.number,
+            Tag::ValueType => self.kind,
+            Tag::Description => self.description,
+            Tag::Idx => Slot::Empty,
+            Tag::Length => Slot::Empty,
+            Tag::Other => Slot::Empty,
+        }
+    }
+
+    fn put(self, tag: Tag, slot: Slot) -> Slots
+        ensures { λ r. ⌜ r ≡ put tag slot self ⌝ }
+    {
+        let id = self.id;
+        let number = self.number;
+        let kind = self.kind;
+        let description = self.description;
+        match tag {
+            Tag::Id => Slots {
+                id: slot,
+                number,
+                kind,
+                description,
+            },
+            Tag::Number => Slots {
+                id,
+                number: slot,
+                kind,
+                description,
+            },
+            Tag::ValueType => Slots {
+                id,
+                number,
+                kind: slot,
+                description,
+            },
+            Tag::Description => Slots {
+                id,
+                number,
+                kind,
+                description: slot,
+            },
+            Tag::Idx => self,
+            Tag::Length => self,
+            Tag::Other => self,
+        }
+    }
+}

@@ -1,0 +1,92 @@
+// The Number and Type of a field's values.
+use crate::list;
+use values::integer;
+use values::integer::IntegerRead;
+use values::string;
+ghost use mathlib.Core.Path.{_≡_};
+ghost use mathlib.Core.Bool.{_||_};
+ghost use Rattle.values.specs.Bytes.{same};
+ghost use Rattle.values.specs.Value.{meaning};
+ghost use Rattle.rules.specs.Known.{isIn};
+ghost use Rattle.records.specs.Numbers.{isCount, lettersOf, typesOf, isNumberOf, typeName};
+
+// What a reserved ID asks of a Number.
+pub enum Number {
+    Count(u64),
+    A,
+    R,
+    G,
+}
+
+pub enum ValueType {
+    Integer,
+    Float,
+    Flag,
+    Character,
+    String,
+}
+
+// IDX, length and a numeric Number.
+pub fn is_count(s: &[u8]) -> bool
+    ensures { λ r. ⌜ r ≡ isCount (now (s .entry)) ⌝ }
+{
+    match integer::parse_u64(s) {
+        IntegerRead::Value(_) => true,
+        IntegerRead::Refused => false,
+    }
+}
+
+// A count, or a letter; `local`: FORMAT from 4.5, which has more letters.
+pub fn is_number(s: &[u8], quoted: bool, local: bool) -> bool
+    ensures { λ r. ⌜ r ≡ (isCount (now (s .entry)) || isIn (meaning quoted (now (s .entry))) (lettersOf local)) ⌝ }
+{
+    if is_count(s) {
+        return true;
+    }
+    if local {
+        return list::is_listed(b"A,R,G,.,LA,LR,LG,P,M", s, quoted);
+    }
+    list::is_listed(b"A,R,G,.", s, quoted)
+}
+
+// `flag`: INFO, which has Flag too.
+pub fn is_type(s: &[u8], quoted: bool, flag: bool) -> bool
+    ensures { λ r. ⌜ r ≡ isIn (meaning quoted (now (s .entry))) (typesOf flag) ⌝ }
+{
+    if flag {
+        return list::is_listed(b"Integer,Float,Character,String,Flag", s, quoted);
+    }
+    list::is_listed(b"Integer,Float,Character,String", s, quoted)
+}
+
+impl Number {
+    pub fn is(self, s: &[u8], quoted: bool) -> bool
+        ensures { λ r. ⌜ r ≡ isNumberOf self (now (s .entry)) quoted ⌝ }
+    {
+        match self {
+            Number::Count(n) => {
+                let IntegerRead::Value(m) = integer::parse_u64(s) else {
+                    return false;
+                };
+                m == n
+            }
+            Number::A => string::same_meaning(b"A", false, s, quoted),
+            Number::R => string::same_meaning(b"R", false, s, quoted),
+            Number::G => string::same_meaning(b"G", false, s, quoted),
+        }
+    }
+}
+
+impl ValueType {
+    pub fn is(self, s: &[u8], quoted: bool) -> bool
+        ensures { λ r. ⌜ r ≡ same (typeName self) (meaning quoted (now (s .entry))) ⌝ }
+    {
+        match self {
+            ValueType::Integer => string::same_meaning(b"Integer", false, s, quoted),
+            ValueType::Float => string::same_meaning(b"Float", false, s, quoted),
+            ValueType::Flag => string::same_meaning(b"Flag", false, s, quoted),
+            ValueType::Character => string::same_meaning(b"Character", false, s, quoted),
+            ValueType::String => string::same_meaning(b"String", false, s, quoted),
+        }
+    }
+}

@@ -1,3 +1,4 @@
+pub mod Refusals
 pub mod Formats
 pub mod Keys
 pub mod Lists
@@ -5,3 +6,8 @@ pub mod Numbers
 pub mod Definitions
 pub mod Tags
 pub mod Maps
+pub mod Names
+pub mod Checks
+pub mod Walks
+pub mod Steps
+pub mod Searches

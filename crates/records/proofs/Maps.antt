@@ -98,11 +98,11 @@ no-comma at (b ∷ x) e = rw (after, e) (go (is 62 b && empty x))
     go true = refl
     go false = refl
 
-placed-comma : (at : ℕ) (q : Bool) {d : Cursor} → separatorPlaced at q ≡ separator.Comma d → (q ≡ true) × (to (at + 1) ≡ d)
+pub placed-comma : (at : ℕ) (q : Bool) {d : Cursor} → separatorPlaced at q ≡ separator.Comma d → (q ≡ true) × (to (at + 1) ≡ d)
 placed-comma at true e = (refl, cc)
 placed-comma at false e = let z : _≡_ {A = ℕ} 0 1 = cc in absurd (omega arith)
 
-placed-other : (at : ℕ) (q : Bool) → separatorPlaced at q ≡ separator.Other → q ≡ false
+pub placed-other : (at : ℕ) (q : Bool) → separatorPlaced at q ≡ separator.Other → q ≡ false
 placed-other at true e = cc
 placed-other at false e = refl
 

@@ -13,12 +13,14 @@ use Rattle.values.specs.Places.{to}
 use Rattle.values.specs.declared.string.Text.{Text}
 use Rattle.rules.specs.Answer.{Answer, ok, refuse, unless, first}
 use Rattle.rules.specs.Version.{Version, v4-5, since}
-use Rattle.rules.specs.Known.{isIn, kindOf, tagOf, alwaysMap}
+use Rattle.rules.specs.Known.{isIn, kindOf, nameOf, tagOf, alwaysMap}
 use Rattle.rules.specs.Map.{After, more, done, wrong, after, Scan, scan, readFields, isMeta, checkFields, isValue, readMap}
 use Rattle.rules.specs.Entry.{textNamed}
 use Rattle.records.specs.Refusals.{number}
+use Rattle.records.specs.Keys.{Named}
+use Rattle.records.specs.declared.key.Key.{Key}
 use Rattle.records.specs.Numbers.{isCount, lettersOf, typesOf}
-use Rattle.records.specs.Tags.{tagName, isKept}
+use Rattle.records.specs.Tags.{knownBy, tagName, knows, tagBy, isKept, Suits}
 use Rattle.records.specs.declared.tag.Known.{Known}
 use Rattle.records.specs.declared.tag.Tag.{Tag}
 use Rattle.records.specs.declared.tag.Tag.the-variants.{Id, Number, ValueType, Description, Idx, Length, Other}
@@ -31,6 +33,8 @@ use Rattle.records.specs.declared.map.Prefix.{Prefix}
 use Rattle.records.specs.declared.map.Prefix.the-variants as prefix
 use Rattle.records.specs.declared.map.After.{After as AfterRead}
 use Rattle.records.specs.declared.map.After.the-variants as afters
+use Rattle.records.specs.declared.map.FieldTaken.{FieldTaken}
+use Rattle.records.specs.declared.map.FieldTaken.the-variants as taken
 use Rattle.records.specs.declared.map.FieldStep.{FieldStep}
 use Rattle.records.specs.declared.map.FieldStep.the-variants as step
 use Rattle.records.specs.declared.map.FieldsRead.{FieldsRead}
@@ -97,3 +101,99 @@ put Description t x = record { id = x .id; number = x .number; kind = x .kind; d
 put Idx t x = x
 put Length t x = x
 put Other t x = x
+
+-- a field that stands at a place, with a `,` after it
+abbrev pub FieldThen : Bool → Bytes → ℕ → Field → Type 0
+FieldThen m s at f = readField m (drop at s) ≡ some (f, 44 ∷ drop (at + length (writtenField f) + 1) s)
+
+-- fields one after the other from a place on, up to another
+abbrev pub FieldsFrom : Bool → Bytes → ℕ → List Field → ℕ → Type 0
+FieldsFrom m s at [] upto = at ≡ upto
+FieldsFrom m s at (f ∷ fs) upto = FieldThen m s at f × FieldsFrom m s (at + length (writtenField f) + 1) fs upto
+
+abbrev pub keysOf : List Field → List Bytes
+keysOf fs = map (λ (f : Field). f .key) fs
+
+-- whether one of these fields has the key
+pub record HasKey (m : Bool) (s : Bytes) (start upto : ℕ) (key : Bytes) (r : Bool) : Type 0 where
+  pub among : (fs : List Field) → FieldsFrom m s start fs upto → r ≡ isIn key (keysOf fs)
+
+-- the text of a field, and which name stood for the ID
+abbrev pub slotted : Option (Bytes × Text) → Slot
+slotted none = slot.Empty
+slotted (some p) = slot.Filled (p .1) (tagOf (p .0))
+
+abbrev pub namesOf : Version → Bytes → List Field → List Bytes
+namesOf v k fs = map (λ (f : Field). nameOf v k (f .key)) fs
+
+-- the texts that are kept of the fields that stand at `start`
+pub record Held (n : Known) (v : Version) (k : Bytes) (start : ℕ) (fs : List Field) (slots : Slots) : Type 0 where
+  pub each : (t : Tag) → isKept t ≡ true → knows n t ≡ true → get t slots ≡ slotted (textNamed v k (tagName t) start fs)
+
+-- the fields from `start` up to `at` were read, and none was refused
+pub record Walk (n : Known) (v : Version) (k : Bytes) (m : Bool) (s : Bytes) (start : ℕ) (before : List Field) (at : ℕ) (slots : Slots) : Type 0 where
+  pub fields : FieldsFrom m s start before at
+  pub fine : checkFields v k [] before ≡ 0
+  pub held : Held n v k start before slots
+
+-- whether a field of this name stood before
+pub record Repeats (m : Bool) (s : Bytes) (start at : ℕ) (field : Bytes) (t : Tag) (slots : Slots) (r : Bool) : Type 0 where
+  pub is : (n : Known) (v : Version) (k : Bytes) (before : List Field) → Suits n k → t ≡ tagBy n v field → Walk n v k m s start before at slots
+      → r ≡ isIn (nameOf v k field) (namesOf v k before)
+
+-- the refusal of fields, and of what ended them
+abbrev pub scanRefusal : Version → Bytes → Scan → ℕ
+scanRefusal v k x = first (checkFields v k [] (x .0) ∷ x .1 ∷ [])
+
+-- these fields in front of those that are scanned from a place on
+abbrev pub scannedFrom : Bool → Bytes → List Field → ℕ → ℕ → Scan
+scannedFrom m s before at fuel = (before ++ scan fuel m (drop at s) .0, scan fuel m (drop at s) .1)
+
+-- a field that passed, and what is to be kept of it
+pub record Taken (n : Known) (v : Version) (k : Bytes) (m : Bool) (s : Bytes) (start : ℕ) (before : List Field) (at : ℕ) (slots : Slots) (g : Tag) (t : Slot) (next : ℕ) : Type 0 where
+  pub field : Field
+  pub read : readField m (drop at s) ≡ some (field, drop next s)
+  pub size : next ≡ at + length (writtenField field)
+  pub fine : checkFields v k [] (before ++ field ∷ []) ≡ 0
+  pub held : Held n v k start (before ++ field ∷ []) (put g t slots)
+
+abbrev pub TakenIs : Known → Version → Bytes → Bool → Bytes → ℕ → List Field → ℕ → Slots → FieldTaken → Type 0
+TakenIs n v k m s start before at slots (taken.Field g t next) = Taken n v k m s start before at slots g t (next .at)
+TakenIs n v k m s start before at slots (taken.Refused x) = (fuel : ℕ) → length (drop at s) ≤ fuel → scanRefusal v k (scannedFrom m s before at fuel) ≡ number x
+
+abbrev pub TakenMoves : Bytes → ℕ → FieldTaken → Type 0
+TakenMoves s at (taken.Field g t next) = (at < next .at) × (next .at ≤ length s)
+TakenMoves s at (taken.Refused x) = Unit {0}
+
+pub record Takes (n : Known) (v : Version) (m : Bool) (s : Bytes) (start at : ℕ) (slots : Slots) (r : FieldTaken) : Type 0 where
+  pub moves : TakenMoves s at r
+  pub is : (k : Bytes) (before : List Field) → Suits n k → Walk n v k m s start before at slots → TakenIs n v k m s start before at slots r
+
+-- one field more
+abbrev pub StepIs : Known → Version → Bytes → Bool → Bytes → ℕ → List Field → ℕ → FieldStep → Type 0
+StepIs n v k m s start before at (step.Next d slots) = (f : Field) × Walk n v k m s start (before ++ f ∷ []) (d .at) slots
+StepIs n v k m s start before at (step.Last slots) =
+    (f : Field) × Held n v k start (before ++ f ∷ []) slots × (checkFields v k [] (before ++ f ∷ []) ≡ 0)
+    × ((fuel : ℕ) → length (drop at s) ≤ fuel → scan fuel m (drop at s) ≡ (f ∷ [], 0))
+StepIs n v k m s start before at (step.Refused x) = (fuel : ℕ) → length (drop at s) ≤ fuel → scanRefusal v k (scannedFrom m s before at fuel) ≡ number x
+
+abbrev pub StepMoves : Bytes → ℕ → FieldStep → Type 0
+StepMoves s at (step.Next d slots) = (at < d .at) × (d .at ≤ length s)
+StepMoves s at (step.Last slots) = Unit {0}
+StepMoves s at (step.Refused x) = Unit {0}
+
+pub record Steps (n : Known) (v : Version) (m : Bool) (s : Bytes) (start at : ℕ) (slots : Slots) (r : FieldStep) : Type 0 where
+  pub moves : StepMoves s at r
+  pub is : (k : Bytes) (before : List Field) → Suits n k → Walk n v k m s start before at slots → StepIs n v k m s start before at r
+
+-- the fields of a map, and what is kept of them
+abbrev pub ScanIs : Known → Version → Bytes → ℕ → Scan → FieldsRead → Type 0
+ScanIs n v k start x (fields.Fields slots) = (scanRefusal v k x ≡ 0) × Held n v k start (x .0) slots
+ScanIs n v k start x (fields.Refused y) = scanRefusal v k x ≡ number y
+
+pub record Scans (n : Known) (v : Version) (m : Bool) (s : Bytes) (start : ℕ) (r : FieldsRead) : Type 0 where
+  pub is : (k : Bytes) → Suits n k → ScanIs n v k start (scan (length (drop start s)) m (drop start s)) r
+
+-- the fields after the `<` of a map under a key of this case
+pub record FieldsAre (v : Version) (key : Key) (s : Bytes) (start : ℕ) (r : FieldsRead) : Type 0 where
+  pub is : (k : Bytes) → Named k key → ScanIs (knownBy key) v k start (readFields (isMeta v k) (alwaysMap k) (drop start s)) r

@@ -3,6 +3,8 @@ use mathlib.Core.Bool.{Bool, true, false, _||_, _&&_}
 use mathlib.Core.List.{List, [], _∷_}
 use Rattle.values.specs.Bytes.{Bytes, ascii, same}
 use Rattle.rules.specs.Version.{Version, v4-3, earlier}
+use mathlib.Core.Path.{_≡_}
+use Rattle.records.specs.Keys.{Named}
 use Rattle.records.specs.declared.key.Key.{Key}
 use Rattle.records.specs.declared.key.Key.the-variants as key
 use Rattle.records.specs.declared.tag.Tag.{Tag}
@@ -70,3 +72,9 @@ isKept Description = true
 isKept Idx = false
 isKept Length = false
 isKept Other = false
+
+-- the known fields are those of the map's key
+pub record Suits (n : Known) (k : Bytes) : Type 0 where
+  pub key : Key
+  pub is : n ≡ knownBy key
+  pub named : Named k key

@@ -25,7 +25,7 @@ ghost use Rattle.records.specs.Formats.{versionOf};
 ghost use Rattle.rules.specs.Answer.{unless};
 ghost use Rattle.rules.specs.Version.{v4-5, since};
 ghost use Rattle.records.specs.Refusals.{number};
-ghost use Rattle.records.specs.Maps.{opensAt, closesAt, afterAt, checkNumber, tagRefusal, noSlots, get, put};
+ghost use Rattle.records.specs.Maps.{opensAt, closesAt, afterAt, checkNumber, tagRefusal, noSlots, get, put, HasKey, Repeats, Takes, Steps};
 
 // A text that was read, and which name stood for the ID.
 pub enum Slot {
@@ -56,6 +56,11 @@ pub enum After {
     More(Cursor),
     Closed,
     Other,
+}
+
+pub enum FieldTaken {
+    Field(Tag, Slot, Cursor),
+    Refused(Refusal),
 }
 
 pub enum FieldStep {
@@ -227,6 +232,102 @@ impl Slots {
             Tag::Idx => self,
             Tag::Length => self,
             Tag::Other => self,
+        }
+    }
+}
+
+// Whether a field from `start` on, before `upto`, has this key.
+fn has_key(s: &[u8], start: usize, upto: usize, brackets: bool, key: &[u8]) -> bool
+    ensures { λ r. ⌜ HasKey brackets (now (s .entry)) start upto (now (key .entry)) r ⌝ }
+{
+    let mut c = Cursor { at: start };
+    while c.at < upto {
+        let at = c.at;
+        let FieldRead::Field(equals, _, next) = c.split_field(s, brackets) else {
+            return false;
+        };
+        if bytes::same(bytes::part(s, at, equals), key) {
+            return true;
+        }
+        let Separator::Comma(d) = next.consume_separator(s) else {
+            return false;
+        };
+        c = d;
+    }
+    false
+}
+
+// Whether a field of the same name stands before `at`: the kept ones are at hand, others are looked for.
+fn is_repeated(
+    s: &[u8],
+    start: usize,
+    at: usize,
+    brackets: bool,
+    field: &[u8],
+    tag: Tag,
+    slots: Slots,
+) -> bool
+    ensures { λ r. ⌜ Repeats brackets (now (s .entry)) start at (now (field .entry)) tag slots r ⌝ }
+{
+    if tag.is_kept() {
+        return match slots.get(tag) {
+            Slot::Empty => false,
+            Slot::Filled(_, _) => true,
+        };
+    }
+    has_key(s, start, at, brackets, field)
+}
+
+// The field at the cursor: its tag, what is to be kept of it, and past it.
+fn take_field(
+    s: &[u8],
+    start: usize,
+    c: Cursor,
+    known: Known,
+    version: FileFormat,
+    brackets: bool,
+    slots: Slots,
+) -> FieldTaken
+    ensures { λ r. ⌜ Takes known (versionOf version) brackets (now (s .entry)) start (c .at) slots r ⌝ }
+{
+    let at = c.at;
+    let FieldRead::Field(equals, text, next) = c.split_field(s, brackets) else {
+        return FieldTaken::Refused(Refusal::InvalidField);
+    };
+    let field = bytes::part(s, at, equals);
+    let tag = known.tag(version, field);
+    let value = bytes::part(s, text.start, text.end);
+    match known.check_value(version, tag, value, text.quoted) {
+        Check::Refused(x) => return FieldTaken::Refused(x),
+        Check::Passed => {}
+    }
+    if is_repeated(s, start, at, brackets, field, tag, slots) {
+        return FieldTaken::Refused(Refusal::DuplicateTag);
+    }
+    FieldTaken::Field(tag, Slot::Filled(text, tag::id_tag(field)), next)
+}
+
+// The same, and what follows it.
+fn read_field(
+    s: &[u8],
+    start: usize,
+    c: Cursor,
+    known: Known,
+    version: FileFormat,
+    brackets: bool,
+    slots: Slots,
+) -> FieldStep
+    ensures { λ r. ⌜ Steps known (versionOf version) brackets (now (s .entry)) start (c .at) slots r ⌝ }
+{
+    match take_field(s, start, c, known, version, brackets, slots) {
+        FieldTaken::Refused(x) => FieldStep::Refused(x),
+        FieldTaken::Field(tag, slot, next) => {
+            let kept = slots.put(tag, slot);
+            match after_field(s, next) {
+                After::More(d) => FieldStep::Next(d, kept),
+                After::Closed => FieldStep::Last(kept),
+                After::Other => FieldStep::Refused(Refusal::InvalidMap),
+            }
         }
     }
 }

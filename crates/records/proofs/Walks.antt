@@ -1,0 +1,201 @@
+-- Fields one after the other: their checks, their texts and their scan. Assumes nothing.
+use Prim.Native.Nat.{ℕ, zero, suc, _+_, _-_, _≤_, _<_}
+use native.Mathlib.Omega.{arith}
+use mathlib.Core.Path.{_≡_, refl, sym, ap, ap₂, _∙_}
+use mathlib.Core.Bool.{Bool, true, false, not, _||_, _&&_}
+use mathlib.Core.List.{List, [], _∷_, _++_, append-assoc}
+use mathlib.Core.Option.{Option, none, some}
+use lib.ListN.{length, drop, length-append}
+use borrow.Author.Tests.{eqb-true}
+use Rattle.values.specs.Bytes.{Bytes, ascii, same, is, empty}
+use Rattle.values.specs.Value.{meaningOf}
+use Rattle.values.specs.Field.{Field, writtenField, readField}
+use Rattle.values.specs.Places.{textAt}
+use Rattle.values.specs.declared.string.Text.{Text}
+use Rattle.values.proofs.Tests.{Test, pass, fail, test, both}
+use Rattle.values.proofs.Lists.{on-some}
+use Rattle.values.proofs.Places.{FieldIn, field-in}
+use Rattle.rules.specs.Answer.{unless, first}
+use Rattle.rules.specs.Version.{Version}
+use Rattle.rules.specs.Known.{isIn, kindOf, nameOf}
+use Rattle.rules.specs.Map.{After, more, done, wrong, after, Scan, scan, isSome, fieldRefusal, checkFields}
+use Rattle.rules.specs.Entry.{textNamed}
+use Rattle.rules.proofs.Fields.{SeenAfter, was-more, was-done, was-wrong, see-after}
+use Rattle.records.specs.Maps.{FieldThen, FieldsFrom, namesOf}
+
+-- The first refusal
+
+pub first-zero-left : (ns : List ℕ) → first (0 ∷ ns) ≡ first ns
+unfolding first
+first-zero-left ns = refl
+
+pub first-suc : (m : ℕ) (ns : List ℕ) → first (suc m ∷ ns) ≡ suc m
+unfolding first
+first-suc m ns = refl
+
+pub first-alone : (n : ℕ) → first (n ∷ []) ≡ n
+unfolding first
+first-alone zero = refl
+first-alone (suc n) = refl
+
+first-three : (a b c d : ℕ) → first (a ∷ b ∷ first (c ∷ d ∷ []) ∷ []) ≡ first (first (a ∷ b ∷ c ∷ []) ∷ d ∷ [])
+unfolding first
+first-three (suc a) b c d = refl
+first-three zero (suc b) c d = refl
+first-three zero zero (suc c) d = refl
+first-three zero zero zero zero = refl
+first-three zero zero zero (suc d) = refl
+
+-- the names that were seen, after these fields
+abbrev seenAfter : Version → Bytes → List Bytes → List Field → List Bytes
+seenAfter v k seen [] = seen
+seenAfter v k seen (f ∷ fs) = seenAfter v k (nameOf v k (f .key) ∷ seen) fs
+
+check-append : (v : Version) (k : Bytes) (seen : List Bytes) (xs ys : List Field)
+    → checkFields v k seen (xs ++ ys) ≡ first (checkFields v k seen xs ∷ checkFields v k (seenAfter v k seen xs) ys ∷ [])
+unfolding checkFields
+check-append v k seen [] ys = sym (first-zero-left (checkFields v k seen ys ∷ []) ∙ first-alone (checkFields v k seen ys))
+check-append v k seen (x ∷ xs) ys =
+    rw (check-append v k (nameOf v k (x .key) ∷ seen) xs ys)
+    (first-three (fieldRefusal v (kindOf k) (x .key) (meaningOf (x .value))) (unless (not (isIn (nameOf v k (x .key)) seen)) 10)
+    (checkFields v k (nameOf v k (x .key) ∷ seen) xs) (checkFields v k (seenAfter v k (nameOf v k (x .key) ∷ seen) xs) ys))
+
+seen-in : (v : Version) (k x : Bytes) (seen : List Bytes) (fs : List Field) → isIn x (seenAfter v k seen fs) ≡ (isIn x seen || isIn x (namesOf v k fs))
+unfolding isIn
+seen-in v k x seen [] = sym (or-false (isIn x seen))
+  where
+    or-false : (b : Bool) → b || false ≡ b
+    or-false true = refl
+    or-false false = refl
+seen-in v k x seen (f ∷ fs) = seen-in v k x (nameOf v k (f .key) ∷ seen) fs ∙ swap (same (nameOf v k (f .key)) x) (isIn x seen) (isIn x (namesOf v k fs))
+  where
+    swap : (a b c : Bool) → (a || b) || c ≡ b || (a || c)
+    swap true true c = refl
+    swap true false c = refl
+    swap false b c = refl
+
+-- one field after fields that passed
+module _ (v : Version) (k : Bytes) (before : List Field) (fine : checkFields v k [] before ≡ 0) (f : Field) where
+  passed : (ys : List Field) → checkFields v k [] (before ++ f ∷ ys)
+      ≡ first (fieldRefusal v (kindOf k) (f .key) (meaningOf (f .value)) ∷ unless (not (isIn (nameOf v k (f .key)) (namesOf v k before))) 10
+      ∷ checkFields v k (nameOf v k (f .key) ∷ seenAfter v k [] before) ys ∷ [])
+  unfolding checkFields isIn
+  passed ys =
+      check-append v k [] before (f ∷ ys)
+      ∙ rw (
+        fine,
+        first-zero-left (checkFields v k (seenAfter v k [] before) (f ∷ ys) ∷ []),
+        first-alone (checkFields v k (seenAfter v k [] before) (f ∷ ys)),
+        checkFields,
+        seen-in v k (nameOf v k (f .key)) [] before,
+      )
+
+  pub value-refused : {m : ℕ} → fieldRefusal v (kindOf k) (f .key) (meaningOf (f .value)) ≡ suc m → (ys : List Field) → checkFields v k [] (before ++ f ∷ ys) ≡ suc m
+  value-refused e ys = passed ys ∙ rw (e, first-suc)
+
+  module _ (e : fieldRefusal v (kindOf k) (f .key) (meaningOf (f .value)) ≡ 0) where
+    pub name-refused : isIn (nameOf v k (f .key)) (namesOf v k before) ≡ true → (ys : List Field) → checkFields v k [] (before ++ f ∷ ys) ≡ 10
+    unfolding first
+    name-refused i ys = passed ys ∙ rw (e, i)
+
+    pub field-fine : isIn (nameOf v k (f .key)) (namesOf v k before) ≡ false → checkFields v k [] (before ++ f ∷ []) ≡ 0
+    unfolding first checkFields
+    field-fine i = passed [] ∙ rw (e, i)
+
+-- Texts
+
+abbrev pub orElse : {A : Type 0} → Option A → Option A → Option A
+orElse none y = y
+orElse (some x) y = some x
+
+pub text-snoc : (v : Version) (k name : Bytes) (m : Bool) (s : Bytes) (start : ℕ) (before : List Field) (at : ℕ) (f : Field) → FieldsFrom m s start before at
+    → textNamed v k name start (before ++ f ∷ []) ≡ orElse (textNamed v k name start before) (textNamed v k name at (f ∷ []))
+unfolding textNamed
+text-snoc v k name m s start [] at f w = ap (λ (i : ℕ). textNamed v k name i (f ∷ [])) w
+text-snoc v k name m s start (g ∷ gs) at f w = elim (test (same (nameOf v k (g .key)) name)) [
+  | pass e ↦ rw (textNamed, e)
+  | fail e ↦ rw (textNamed, e) (text-snoc v k name m s (start + length (writtenField g) + 1) gs at f (w .1))
+]
+
+pub text-in : (v : Version) (k name : Bytes) (start : ℕ) (fs : List Field) → isSome (textNamed v k name start fs) ≡ isIn name (namesOf v k fs)
+unfolding textNamed isIn
+text-in v k name start [] = refl
+text-in v k name start (f ∷ fs) = elim (test (same (nameOf v k (f .key)) name)) [
+  | pass e ↦ rw (textNamed, e)
+  | fail e ↦ rw (textNamed, e) (text-in v k name (start + length (writtenField f) + 1) fs)
+]
+
+-- The scan
+
+pub scan-none : (fuel : ℕ) (m : Bool) (bs : Bytes) → readField m bs ≡ none → scan fuel m bs ≡ ([], 9)
+unfolding scan
+scan-none zero m bs e = refl
+scan-none (suc n) m bs e = rw (scan, e)
+
+-- a field that was read has bytes
+field-long : (m : Bool) (bs : Bytes) {f : Field} {r : Bytes} → readField m bs ≡ some (f, r) → length bs ≡ length (writtenField f) + length r
+field-long m bs {f} {r} e = ap length (on-some (FieldIn m bs) (field-in m bs) e .text) ∙ length-append (writtenField f) r
+
+written-long : (f : Field) → 0 < length (writtenField f)
+unfolding writtenField
+written-long f = rw (length-append (f .key) _) (omega arith)
+
+pub after-more : (r : Bytes) {t : Bytes} → after r ≡ more t → r ≡ 44 ∷ t
+unfolding after
+after-more [] e = let z : _≡_ {A = ℕ} 0 1 = cc in absurd (omega arith)
+after-more (b ∷ bs) e = elim (test (is 44 b)) [
+  | pass q ↦ ap₂ _∷_ (eqb-true b 44 q) (more-is (rw (after, q) at e))
+  | fail q ↦ elim (test (is 62 b && empty bs)) [
+    | pass x ↦ let y = rw (after, q, x) at e in let z : _≡_ {A = ℕ} 0 1 = cc in absurd (omega arith)
+    | fail x ↦ let y = rw (after, q, x) at e in let z : _≡_ {A = ℕ} 0 1 = cc in absurd (omega arith)
+  ]
+]
+  where
+    more-is : {x y : Bytes} → more x ≡ more y → x ≡ y
+    more-is e = cc
+
+-- some fuel is left
+data Fuel (fuel : ℕ) : Type 0 where
+  left : (n : ℕ) → fuel ≡ suc n → Fuel fuel
+
+some-fuel : (fuel : ℕ) → 0 < fuel → Fuel fuel
+some-fuel zero h = absurd (omega arith)
+some-fuel (suc n) h = left n refl
+
+module _ (m : Bool) (bs : Bytes) {f : Field} {r : Bytes} (e : readField m bs ≡ some (f, r)) (fuel : ℕ) (h : length bs ≤ fuel) where
+  fuelled : Fuel fuel
+  fuelled = let a = field-long m bs e in let b = written-long f in some-fuel fuel (omega arith)
+
+  pub scan-wrong : after r ≡ wrong → scan fuel m bs ≡ (f ∷ [], 8)
+  unfolding scan
+  scan-wrong w = go fuelled
+    where
+      go : Fuel fuel → scan fuel m bs ≡ (f ∷ [], 8)
+      go (left n i) = rw (i, scan, e, w)
+
+  pub scan-done : after r ≡ done → scan fuel m bs ≡ (f ∷ [], 0)
+  unfolding scan
+  scan-done w = go fuelled
+    where
+      go : Fuel fuel → scan fuel m bs ≡ (f ∷ [], 0)
+      go (left n i) = rw (i, scan, e, w)
+
+  pub scan-more : {t : Bytes} → after r ≡ more t → (n : ℕ) × (length t ≤ n) × (scan fuel m bs ≡ (f ∷ scan n m t .0, scan n m t .1))
+  unfolding scan
+  scan-more {t} w = go fuelled
+    where
+      go : Fuel fuel → (n : ℕ) × (length t ≤ n) × (scan fuel m bs ≡ (f ∷ scan n m t .0, scan n m t .1))
+      go (left n i) =
+          let a = field-long m bs e in
+          let b = written-long f in
+          let c = ap length (after-more r w) in
+          (n, omega arith, rw (i, scan, e, w))
+
+  -- whatever follows, the field comes first
+  pub scan-first : (rest : List Field) × (scan fuel m bs .0 ≡ f ∷ rest)
+  scan-first = go (see-after (after r))
+    where
+      go : SeenAfter (after r) → (rest : List Field) × (scan fuel m bs .0 ≡ f ∷ rest)
+      go (was-more t w) = let x = scan-more w in (scan (x .0) m t .0, ap (λ (y : Scan). y .0) (x .2))
+      go (was-done w) = ([], ap (λ (y : Scan). y .0) (scan-done w))
+      go (was-wrong w) = ([], ap (λ (y : Scan). y .0) (scan-wrong w))

@@ -10,4 +10,5 @@ pub mod Names
 pub mod Checks
 pub mod Walks
 pub mod Steps
+pub mod Loops
 pub mod Searches

@@ -1,7 +1,7 @@
 -- A map as the code reads it: one field after the other, with the texts that are kept. Assumes nothing.
 use Prim.Native.Nat.{ℕ, suc, _+_, _≤_, _<_}
 use mathlib.Core.Path.{_≡_}
-use mathlib.Core.Bool.{Bool, true, false, _||_, _&&_}
+use mathlib.Core.Bool.{Bool, true, false, not, _||_, _&&_}
 use mathlib.Core.List.{List, [], _∷_, _++_, map, tail}
 use mathlib.Core.Option.{Option, none, some}
 use lib.ListN.{length, drop}
@@ -193,6 +193,9 @@ ScanIs n v k start x (fields.Refused y) = scanRefusal v k x ≡ number y
 
 pub record Scans (n : Known) (v : Version) (m : Bool) (s : Bytes) (start : ℕ) (r : FieldsRead) : Type 0 where
   pub is : (k : Bytes) → Suits n k → ScanIs n v k start (scan (length (drop start s)) m (drop start s)) r
+
+abbrev pub bareAt : Bytes → ℕ → Bool → Bool
+bareAt s at needed = not needed && (empty (drop at s) || begins 62 (drop at s))
 
 -- the fields after the `<` of a map under a key of this case
 pub record FieldsAre (v : Version) (key : Key) (s : Bytes) (start : ℕ) (r : FieldsRead) : Type 0 where

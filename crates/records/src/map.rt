@@ -25,7 +25,9 @@ ghost use Rattle.records.specs.Formats.{versionOf};
 ghost use Rattle.rules.specs.Answer.{unless};
 ghost use Rattle.rules.specs.Version.{v4-5, since};
 ghost use Rattle.records.specs.Refusals.{number};
-ghost use Rattle.records.specs.Maps.{opensAt, closesAt, afterAt, checkNumber, tagRefusal, noSlots, get, put, HasKey, Repeats, Takes, Steps};
+ghost use Rattle.records.specs.Maps.{opensAt, closesAt, afterAt, checkNumber, tagRefusal, noSlots, get, put, HasKey, Repeats, Takes, Steps, Scans, bareAt, FieldsAre};
+ghost use Rattle.rules.specs.Known.{alwaysMap};
+ghost use Rattle.records.specs.Keys.{bytesOf};
 
 // A text that was read, and which name stood for the ID.
 pub enum Slot {
@@ -330,4 +332,58 @@ fn read_field(
             }
         }
     }
+}
+
+// One field or more, from the cursor on.
+fn walk_fields(
+    s: &[u8],
+    from: Cursor,
+    known: Known,
+    version: FileFormat,
+    brackets: bool,
+) -> FieldsRead
+    ensures { λ r. ⌜ Scans known (versionOf version) brackets (now (s .entry)) (from .at) r ⌝ }
+{
+    let start = from.at;
+    let mut c = from;
+    let mut slots = Slots::empty();
+    loop {
+        match read_field(s, start, c, known, version, brackets, slots) {
+            FieldStep::Next(d, kept) => {
+                c = d;
+                slots = kept;
+            }
+            FieldStep::Last(kept) => return FieldsRead::Fields(kept),
+            FieldStep::Refused(x) => return FieldsRead::Refused(x),
+        }
+    }
+}
+
+// If `>` or the end follows `<`, a map has no fields, but META and PEDIGREE need one.
+fn is_bare(s: &[u8], c: Cursor, key: Key) -> bool
+    ensures { λ r. ⌜ r ≡ bareAt (now (s .entry)) (c .at) (alwaysMap (bytesOf key)) ⌝ }
+{
+    if key.is_always_map() {
+        return false;
+    }
+    let at = c.at;
+    if s.len() <= at {
+        return true;
+    }
+    s[at] == b'>'
+}
+
+// The fields after the `<`, up to the `>` at the end of the line.
+pub fn parse_fields(s: &[u8], c: Cursor, key: Key, version: FileFormat) -> FieldsRead
+    ensures { λ r. ⌜ FieldsAre (versionOf version) key (now (s .entry)) (c .at) r ⌝ }
+{
+    if !is_bare(s, c, key) {
+        let known = tag::known_of(key);
+        let brackets = key.has_brackets(version);
+        return walk_fields(s, c, known, version, brackets);
+    }
+    if consume_suffix(s, c) {
+        return FieldsRead::Fields(Slots::empty());
+    }
+    FieldsRead::Refused(Refusal::InvalidMap)
 }

@@ -11,4 +11,5 @@ pub mod Checks
 pub mod Walks
 pub mod Steps
 pub mod Loops
+pub mod Required
 pub mod Searches

@@ -13,11 +13,12 @@ use Rattle.values.specs.Places.{to}
 use Rattle.values.specs.declared.string.Text.{Text}
 use Rattle.rules.specs.Answer.{Answer, ok, refuse, unless, first}
 use Rattle.rules.specs.Version.{Version, v4-5, since}
-use Rattle.rules.specs.Known.{isIn, kindOf, nameOf, tagOf, alwaysMap}
+use Rattle.rules.specs.Known.{isIn, kindOf, required, nameOf, tagOf, alwaysMap}
+use Rattle.rules.specs.Reserved.{tableOf}
 use Rattle.rules.specs.Map.{After, more, done, wrong, after, Scan, scan, readFields, isMeta, checkFields, isValue, readMap}
 use Rattle.rules.specs.Entry.{textNamed}
 use Rattle.records.specs.Refusals.{number}
-use Rattle.records.specs.Keys.{Named}
+use Rattle.records.specs.Keys.{bytesOf, Named}
 use Rattle.records.specs.declared.key.Key.{Key}
 use Rattle.records.specs.Numbers.{isCount, lettersOf, typesOf}
 use Rattle.records.specs.Tags.{knownBy, tagName, knows, tagBy, isKept, Suits}
@@ -200,3 +201,29 @@ bareAt s at needed = not needed && (empty (drop at s) || begins 62 (drop at s))
 -- the fields after the `<` of a map under a key of this case
 pub record FieldsAre (v : Version) (key : Key) (s : Bytes) (start : ℕ) (r : FieldsRead) : Type 0 where
   pub is : (k : Bytes) → Named k key → ScanIs (knownBy key) v k start (readFields (isMeta v k) (alwaysMap k) (drop start s)) r
+
+-- a map from its `<` on, before the required fields and the reserved IDs are looked at
+abbrev pub OpenIs : Version → Key → Bytes → Bytes → ℕ → FieldsRead → Type 0
+OpenIs v key k s at (fields.Fields slots) = (begins 60 (drop at s) ≡ true) × ScanIs (knownBy key) v k (at + 1) (readFields (isMeta v k) (alwaysMap k) (drop (at + 1) s)) (fields.Fields slots)
+OpenIs v key k s at (fields.Refused x) = readMap v k (drop at s) ≡ refuse (number x)
+
+pub record OpenAre (v : Version) (key : Key) (s : Bytes) (at : ℕ) (r : FieldsRead) : Type 0 where
+  pub is : (k : Bytes) → Named k key → OpenIs v key k s at r
+
+-- a map: the place of its ID, and which name stands for it
+abbrev pub MapIs : Version → Bytes → Bytes → ℕ → MapRead → Type 0
+MapIs v k s at (maps.Map id tag) = (fs : List Field) × (readMap v k (drop at s) ≡ ok fs) × (slotted (textNamed v k (ascii "ID") (at + 1) fs) ≡ slot.Filled id tag)
+MapIs v k s at (maps.Refused x) = readMap v k (drop at s) ≡ refuse (number x)
+
+pub record MapAre (v : Version) (key : Key) (s : Bytes) (at : ℕ) (r : MapRead) : Type 0 where
+  pub is : (k : Bytes) → Named k key → MapIs v k s at r
+
+-- the kinds in which the ID alone is required, and those with a Description too; neither has reserved IDs
+pub record Identified (key : Key) : Type 0 where
+  pub needs : required (kindOf (bytesOf key)) ≡ (ascii "ID", 14) ∷ []
+  pub free : tableOf (kindOf (bytesOf key)) ≡ []
+
+pub record Described (key : Key) : Type 0 where
+  pub needs : required (kindOf (bytesOf key)) ≡ (ascii "ID", 14) ∷ (ascii "Description", 17) ∷ []
+  pub free : tableOf (kindOf (bytesOf key)) ≡ []
+  pub known : knownBy key .described ≡ true

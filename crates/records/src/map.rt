@@ -25,7 +25,7 @@ ghost use Rattle.records.specs.Formats.{versionOf};
 ghost use Rattle.rules.specs.Answer.{unless};
 ghost use Rattle.rules.specs.Version.{v4-5, since};
 ghost use Rattle.records.specs.Refusals.{number};
-ghost use Rattle.records.specs.Maps.{opensAt, closesAt, afterAt, checkNumber, tagRefusal, noSlots, get, put, HasKey, Repeats, Takes, Steps, Scans, bareAt, FieldsAre};
+ghost use Rattle.records.specs.Maps.{opensAt, closesAt, afterAt, checkNumber, tagRefusal, noSlots, get, put, HasKey, Repeats, Takes, Steps, Scans, bareAt, FieldsAre, OpenAre, Identified, Described, MapAre};
 ghost use Rattle.rules.specs.Known.{alwaysMap};
 ghost use Rattle.records.specs.Keys.{bytesOf};
 
@@ -386,4 +386,50 @@ pub fn parse_fields(s: &[u8], c: Cursor, key: Key, version: FileFormat) -> Field
         return FieldsRead::Fields(Slots::empty());
     }
     FieldsRead::Refused(Refusal::InvalidMap)
+}
+
+// A map from its `<` on, up to the end of the line.
+pub fn parse_map(s: &[u8], c: Cursor, key: Key, version: FileFormat) -> FieldsRead
+    ensures { λ r. ⌜ OpenAre (versionOf version) key (now (s .entry)) (c .at) r ⌝ }
+{
+    let Prefix::Consumed(d) = consume_prefix(s, c) else {
+        return FieldsRead::Refused(Refusal::InvalidMap);
+    };
+    parse_fields(s, d, key, version)
+}
+
+// A map of a kind in which the ID alone is required.
+pub fn parse_identified(s: &[u8], c: Cursor, key: Key, version: FileFormat) -> MapRead
+    ensures { λ r. ⌜ (Identified key → MapAre (versionOf version) key (now (s .entry)) (c .at) r) ⌝ }
+{
+    match parse_map(s, c, key, version) {
+        FieldsRead::Refused(x) => MapRead::Refused(x),
+        FieldsRead::Fields(slots) => {
+            let named = slots.id;
+            let Slot::Filled(id, tag) = named else {
+                return MapRead::Refused(Refusal::MissingId);
+            };
+            MapRead::Map(id, tag)
+        }
+    }
+}
+
+// A map of a kind in which the ID and a Description are required.
+pub fn parse_described(s: &[u8], c: Cursor, key: Key, version: FileFormat) -> MapRead
+    ensures { λ r. ⌜ (Described key → MapAre (versionOf version) key (now (s .entry)) (c .at) r) ⌝ }
+{
+    match parse_map(s, c, key, version) {
+        FieldsRead::Refused(x) => MapRead::Refused(x),
+        FieldsRead::Fields(slots) => {
+            let named = slots.id;
+            let Slot::Filled(id, tag) = named else {
+                return MapRead::Refused(Refusal::MissingId);
+            };
+            let described = slots.description;
+            let Slot::Filled(_, _) = described else {
+                return MapRead::Refused(Refusal::MissingDescription);
+            };
+            MapRead::Map(id, tag)
+        }
+    }
 }

@@ -72,7 +72,7 @@ scan-in (suc n) m bs = elim (see-field (readField m bs)) [
 ]
 
 -- the fields of a map with nothing refused, and its `>`
-fields-in : (m needed : Bool) (bs : Bytes) → readFields m needed bs .1 ≡ 0 → bs ≡ writeFields (readFields m needed bs .0) ++ 62 ∷ []
+pub fields-in : (m needed : Bool) (bs : Bytes) → readFields m needed bs .1 ≡ 0 → bs ≡ writeFields (readFields m needed bs .0) ++ 62 ∷ []
 unfolding readFields writeFields
 fields-in m needed bs = elim (test (not needed && (empty bs || begins 62 bs))) [
   | pass e ↦ rw (readFields, e) (λ z. closed (after bs) (after-in bs) z)

@@ -33,6 +33,9 @@ offsetIn = bits 48 16
 abbrev pub idLengthIn : ℕ → ℕ
 idLengthIn = bits 32 16
 
+abbrev pub quotedIn : ℕ → Bool
+quotedIn w = eqb (bits 31 1 w) 1
+
 abbrev pub tagIn : ℕ → ℕ
 tagIn = bits 29 2
 

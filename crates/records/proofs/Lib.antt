@@ -12,4 +12,5 @@ pub mod Walks
 pub mod Steps
 pub mod Loops
 pub mod Required
+pub mod Typed
 pub mod Searches

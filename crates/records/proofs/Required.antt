@@ -1,14 +1,14 @@
 -- Maps by what their kind requires. Assumes nothing.
-use Prim.Native.Nat.{ℕ, zero, suc, _+_, _-_, _≤_, _<_}
+use Prim.Native.Nat.{ℕ, zero, suc, _+_, _-_, _^_, _≤_, _<_}
 use native.Mathlib.Omega.{arith}
 use mathlib.Core.Path.{_≡_, refl, sym, ap, ap₂, subst, _∙_}
-use mathlib.Core.Bool.{Bool, true, false, not, _||_, _&&_}
+use mathlib.Core.Bool.{Bool, true, false, not, _||_, _&&_, false≢true}
 use mathlib.Core.List.{List, [], _∷_, _++_, map, tail}
 use mathlib.Core.Option.{Option, none, some}
 use lib.ListN.{length, drop}
 use lib.Seq.{drop-drop}
-use Rattle.values.specs.Bytes.{Bytes, ascii, begins, same}
-use Rattle.values.specs.Field.{Field, writtenField}
+use Rattle.values.specs.Bytes.{Bytes, ascii, empty, begins, same}
+use Rattle.values.specs.Field.{Field, writtenField, readField}
 use Rattle.values.specs.Places.{to}
 use Rattle.values.specs.declared.cursor.Cursor.{Cursor}
 use Rattle.values.specs.declared.string.Text.{Text}
@@ -17,9 +17,15 @@ use Rattle.rules.specs.Answer.{Answer, ok, refuse, unless, first, judged}
 use Rattle.rules.specs.Version.{Version, v4-3, since}
 use Rattle.rules.specs.Known.{kindOf, nameOf, required, alwaysMap, readNumber}
 use Rattle.rules.specs.Reserved.{tableOf, lookRow, reserved, declares}
-use Rattle.rules.specs.Map.{Scan, readFields, isMeta, checkFields, isSome, fieldNamed, valueNamed, missing, misdeclared, mapRefusal, readMap}
+use Rattle.rules.specs.Map.{Scan, after, scan, readFields, isMeta, checkFields, isSome, fieldNamed, valueNamed, missing, misdeclared, mapRefusal, readMap}
 use Rattle.rules.specs.Entry.{textNamed}
-use Rattle.rules.proofs.Firsts.{first-zero}
+use Rattle.rules.specs.House.{writeFields}
+use Rattle.rules.proofs.Alls.{All}
+use Rattle.rules.proofs.Fields.{SeenAfter, was-more, was-done, was-wrong, see-after, SeenField, no-field, a-field, see-field}
+use Rattle.rules.proofs.Texts.{fields-in}
+use Rattle.rules.proofs.Shows.{AnyAt}
+use Rattle.values.proofs.Lists.{on-some}
+use Rattle.values.proofs.Raws.{Raw, field-raw}
 use Rattle.records.specs.Refusals.{number}
 use Rattle.records.specs.Keys.{bytesOf, Named}
 use Rattle.records.specs.Tags.{knownBy, isKept, knows, tagName}
@@ -98,7 +104,7 @@ pub ruleset openings = (map-unopened, map-opened)
 
 -- What is required
 
-abbrev isFilled : Slot → Bool
+abbrev pub isFilled : Slot → Bool
 isFilled slot.Empty = false
 isFilled (slot.Filled t g) = true
 
@@ -115,14 +121,14 @@ text-some v k name at (f ∷ fs) = elim (test (same (nameOf v k (f .key)) name))
 ]
 
 -- the first that is missing
-abbrev asks : Version → Bytes → List Field → Bytes × ℕ → ℕ
+abbrev pub asks : Version → Bytes → List Field → Bytes × ℕ → ℕ
 asks v k fs r = unless (isSome (fieldNamed v k (r .0) fs)) (r .1)
 
-asked-first : (b : Bool) (m : ℕ) (ns : List ℕ) → b ≡ false → first (unless b (suc m) ∷ ns) ≡ suc m
+pub asked-first : (b : Bool) (m : ℕ) (ns : List ℕ) → b ≡ false → first (unless b (suc m) ∷ ns) ≡ suc m
 unfolding first
 asked-first b m ns e = rw e
 
-asked-later : (b : Bool) (m : ℕ) (ns : List ℕ) → b ≡ true → first (unless b m ∷ ns) ≡ first ns
+pub asked-later : (b : Bool) (m : ℕ) (ns : List ℕ) → b ≡ true → first (unless b m ∷ ns) ≡ first ns
 unfolding first
 asked-later b m ns e = rw e
 
@@ -158,18 +164,59 @@ first-after : (ns : List ℕ) {n : ℕ} → n ≡ 0 → first (n ∷ ns) ≡ fir
 unfolding first
 first-after ns e = rw e
 
+-- integers may be read from the bytes of a field as they stand
+abbrev pub RawField : Field → Type 0
+RawField f = Raw true (2 ^ 64 - 1) (f .value)
+
+scan-raw : (n : ℕ) (m : Bool) (bs : Bytes) → All RawField (scan n m bs .0)
+unfolding scan
+scan-raw zero m bs = tt
+scan-raw (suc n) m bs = elim (see-field (readField m bs)) [
+  | no-field e ↦ rw (scan, e) tt
+  | a-field p e ↦ let h = on-some (λ (z : Field × Bytes). RawField (z .0)) (field-raw true (2 ^ 64 - 1) m bs) e in
+      elim (see-after (after (p .1))) [
+        | was-more r a ↦ rw (scan, e, a) (h, scan-raw n m r)
+        | was-done a ↦ rw (scan, e, a) (h, tt)
+        | was-wrong a ↦ rw (scan, e, a) (h, tt)
+      ]
+]
+
+fields-raw : (m needed : Bool) (bs : Bytes) → All RawField (readFields m needed bs .0)
+unfolding readFields
+fields-raw m needed bs = elim (test (not needed && (empty bs || begins 62 bs))) [ pass e ↦ rw (readFields, e) tt | fail e ↦ rw (readFields, e) (scan-raw (length bs) m bs) ]
+
+any-at : (s : Bytes) (at : ℕ) (fs : List Field) → drop at s ≡ writeFields fs ++ 62 ∷ [] → at ≤ length s → AnyAt s at fs
+any-at s at [] e l = tt
+any-at s at (f ∷ fs) e l = (e, l)
+
+begins-inside : (c : ℕ) (s : Bytes) (at : ℕ) → begins c (drop at s) ≡ true → at + 1 ≤ length s
+unfolding begins
+begins-inside c [] zero e = absurd (false≢true e)
+begins-inside c [] (suc at) e = absurd (false≢true e)
+begins-inside c (b ∷ s) zero e = omega arith
+begins-inside c (b ∷ s) (suc at) e = let h = begins-inside c s at e in omega arith
+
 -- a map whose fields were read
 pub record Fielded (v : Version) (key : Key) (k s : Bytes) (at : ℕ) (slots : Slots) : Type 0 where
   pub fs : List Field
   pub read : readMap v k (drop at s) ≡ judged (first (missing v k fs ∷ misdeclared v k fs ∷ [])) fs
   pub held : Held (knownBy key) v k (at + 1) fs slots
   pub named : Named k key
+  pub stand : AnyAt s (at + 1) fs
+  pub raw : All RawField fs
 
 module _ (v : Version) (key : Key) (k s : Bytes) (at : ℕ) (slots : Slots) where
   pub fielded : Named k key → OpenIs v key k s at (fields.Fields slots) → Fielded v key k s at slots
   fielded named o =
       let z = readFields (isMeta v k) (alwaysMap k) (drop (at + 1) s) in
-      record { fs = z .0; read = map-read v k s at (o .0) ∙ ap (λ (n : ℕ). judged n (z .0)) (judged-first v k z (o .1 .0)); held = o .1 .1; named = named }
+      record {
+        fs = z .0;
+        read = map-read v k s at (o .0) ∙ ap (λ (n : ℕ). judged n (z .0)) (judged-first v k z (o .1 .0));
+        held = o .1 .1;
+        named = named;
+        stand = any-at s (at + 1) (z .0) (fields-in (isMeta v k) (alwaysMap k) (drop (at + 1) s) (first-pair (checkFields v k [] (z .0)) (z .1) (o .1 .0) .1)) (begins-inside 60 s at (o .0));
+        raw = fields-raw (isMeta v k) (alwaysMap k) (drop (at + 1) s);
+      }
 
 module _ {v : Version} {key : Key} {k s : Bytes} {at : ℕ} {slots : Slots} (f : Fielded v key k s at slots) where
   pub holds : (t : Tag) → isKept t ≡ true → knows (knownBy key) t ≡ true → {x : Slot} → get t slots ≡ x → slotted (textNamed v k (tagName t) (at + 1) (f .fs)) ≡ x

@@ -1,21 +1,21 @@
 -- A map as the code reads it: one field after the other, with the texts that are kept. Assumes nothing.
-use Prim.Native.Nat.{ℕ, suc, _+_, _≤_, _<_}
+use Prim.Native.Nat.{ℕ, suc, _+_, _-_, _≤_, _<_}
 use mathlib.Core.Path.{_≡_}
 use mathlib.Core.Bool.{Bool, true, false, not, _||_, _&&_}
 use mathlib.Core.List.{List, [], _∷_, _++_, map, tail}
 use mathlib.Core.Option.{Option, none, some}
-use lib.ListN.{length, drop}
+use lib.ListN.{length, take, drop}
 use Rattle.values.specs.Bytes.{Bytes, ascii, is, empty, begins}
 use Rattle.values.specs.Value.{meaning}
 use Rattle.values.specs.Integer.{u64Read}
 use Rattle.values.specs.Field.{Field, writtenField, readField}
 use Rattle.values.specs.Places.{to}
 use Rattle.values.specs.declared.string.Text.{Text}
-use Rattle.rules.specs.Answer.{Answer, ok, refuse, unless, first}
+use Rattle.rules.specs.Answer.{Answer, ok, refuse, unless, first, judged}
 use Rattle.rules.specs.Version.{Version, v4-5, since}
 use Rattle.rules.specs.Known.{isIn, kindOf, required, nameOf, tagOf, alwaysMap}
 use Rattle.rules.specs.Reserved.{tableOf}
-use Rattle.rules.specs.Map.{After, more, done, wrong, after, Scan, scan, readFields, isMeta, checkFields, isValue, readMap}
+use Rattle.rules.specs.Map.{After, more, done, wrong, after, Scan, scan, readFields, isMeta, checkFields, isValue, valueNamed, misdeclared, readMap}
 use Rattle.rules.specs.Entry.{textNamed}
 use Rattle.records.specs.Refusals.{number}
 use Rattle.records.specs.Keys.{bytesOf, Named}
@@ -42,6 +42,8 @@ use Rattle.records.specs.declared.map.FieldsRead.{FieldsRead}
 use Rattle.records.specs.declared.map.FieldsRead.the-variants as fields
 use Rattle.records.specs.declared.map.MapRead.{MapRead}
 use Rattle.records.specs.declared.map.MapRead.the-variants as maps
+use Rattle.records.specs.declared.map.TypedRead.{TypedRead}
+use Rattle.records.specs.declared.map.TypedRead.the-variants as typed
 
 abbrev pub opened : ℕ → Bool → Prefix
 opened at true = prefix.Consumed (to (at + 1))
@@ -227,3 +229,31 @@ pub record Described (key : Key) : Type 0 where
   pub needs : required (kindOf (bytesOf key)) ≡ (ascii "ID", 14) ∷ (ascii "Description", 17) ∷ []
   pub free : tableOf (kindOf (bytesOf key)) ≡ []
   pub known : knownBy key .described ≡ true
+
+-- the bytes of a text, and what they mean
+abbrev pub textIn : Bytes → Text → Bytes
+textIn s t = take (t .end - t .start) (drop (t .start) s)
+
+abbrev pub meaningIn : Bytes → Text → Bytes
+meaningIn s t = meaning (t .quoted) (textIn s t)
+
+-- an INFO or FORMAT map whose fields are all there: where its ID, Number and Type stand; its definition is still to be looked at
+pub record Typed (v : Version) (k s : Bytes) (at : ℕ) (id : Text) (tag : ℕ) (number kind : Text) : Type 0 where
+  pub fs : List Field
+  pub read : readMap v k (drop at s) ≡ judged (misdeclared v k fs) fs
+  pub named : slotted (textNamed v k (ascii "ID") (at + 1) fs) ≡ slot.Filled id tag
+  pub id-is : valueNamed v k (ascii "ID") fs ≡ meaningIn s id
+  pub number-is : valueNamed v k (ascii "Number") fs ≡ meaningIn s number
+  pub kind-is : valueNamed v k (ascii "Type") fs ≡ meaningIn s kind
+  pub raw : u64Read (valueNamed v k (ascii "Number") fs) ≡ u64Read (textIn s number)
+
+abbrev pub TypedIs : Version → Bytes → Bytes → ℕ → TypedRead → Type 0
+TypedIs v k s at (typed.Typed id tag number kind) = Typed v k s at id tag number kind
+TypedIs v k s at (typed.Refused x) = readMap v k (drop at s) ≡ refuse (number x)
+
+pub record TypedAre (v : Version) (key : Key) (s : Bytes) (at : ℕ) (r : TypedRead) : Type 0 where
+  pub is : (k : Bytes) → Named k key → TypedIs v k s at r
+
+-- whether a definition is the one that its ID asks for
+pub record Declared (v : Version) (key : Key) (s : Bytes) (id number kind : Text) (r : Bool) : Type 0 where
+  pub is : (k : Bytes) (at tag : ℕ) → Named k key → (t : Typed v k s at id tag number kind) → misdeclared v k (t .fs) ≡ unless r 18

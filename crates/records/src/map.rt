@@ -82,6 +82,12 @@ pub enum MapRead {
     Refused(Refusal),
 }
 
+// The ID of an INFO or FORMAT map, which name stands for it, its Number and its Type.
+pub enum TypedRead {
+    Typed(Text, u8, Text, Text),
+    Refused(Refusal),
+}
+
 // Whether the value of an untyped key is a map.
 pub fn is_map(s: &[u8], c: Cursor, version: FileFormat) -> bool
     ensures { λ r. ⌜ r ≡ looksMap (versionOf version) (drop (c .at) (now (s .entry))) ⌝ }

@@ -288,7 +288,7 @@ pub record IdIn (v : Version) (k : Bytes) (fs : List Field) (l : Bytes) (p : Byt
   pub ordered : p .1 .start ≤ p .1 .end
   pub inside : p .1 .end ≤ length l
 
-value-means : (l : Bytes) (t : Text) (x : Value) → valueIn l t ≡ x → meaning (t .quoted) (part l (t .start) (t .end)) ≡ meaningOf x
+pub value-means : (l : Bytes) (t : Text) (x : Value) → valueIn l t ≡ x → meaning (t .quoted) (part l (t .start) (t .end)) ≡ meaningOf x
 value-means l t x e = go (t .quoted) e
   where
     go : (q : Bool) → valueBy q (part l (t .start) (t .end)) ≡ x → meaning q (part l (t .start) (t .end)) ≡ meaningOf x

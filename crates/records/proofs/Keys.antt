@@ -3,6 +3,7 @@ use Prim.Native.Nat.{ℕ}
 use mathlib.Core.Path.{_≡_, refl, sym, ap, _∙_}
 use mathlib.Core.Bool.{Bool, true, false, not, _||_, _&&_}
 use mathlib.Core.List.{List, [], _∷_}
+use lib.Dec.{eqb}
 use Rattle.values.specs.Bytes.{Bytes, ascii, same}
 use Rattle.values.proofs.Tests.{Test, pass, fail, test, not-true, not-false}
 use Rattle.values.proofs.Sames.{same-sound, same-sym}
@@ -44,6 +45,22 @@ key-kind Contig = refl
 key-kind Meta = refl
 key-kind Pedigree = refl
 key-kind Other = refl
+
+typed-kind : (key : Key) → not (eqb (keyKind key) 7) ≡ isTyped (bytesOf key)
+unfolding isTyped isIn same
+typed-kind FileFormat = refl
+typed-kind Info = refl
+typed-kind Filter = refl
+typed-kind Format = refl
+typed-kind AlternativeAllele = refl
+typed-kind Contig = refl
+typed-kind Meta = refl
+typed-kind Pedigree = refl
+typed-kind Other = refl
+
+-- the typed keys are those whose maps have a kind of their own
+pub typed-by-kind : (key : Key) {n : ℕ} → n ≡ keyKind key → not (eqb n 7) ≡ isTyped (bytesOf key)
+typed-by-kind key e = rw e (typed-kind key)
 
 -- a key, and its case
 known-key : (key : Key) (k : Bytes) → same k (bytesOf key) ≡ true → Named k key

@@ -13,4 +13,6 @@ pub mod Steps
 pub mod Loops
 pub mod Required
 pub mod Typed
+pub mod Declares
+pub mod Records
 pub mod Searches

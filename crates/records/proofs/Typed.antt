@@ -118,36 +118,44 @@ module _ (v : Version) (key : Key) (full : Full key) (s : Bytes) (c : Cursor) {r
       past-id k named = let f = as-fielded k named in asks-of f (full .needs) ∙ asked-later (isSome (fieldNamed v k (ascii "ID") (f .fs))) 14 _ (has f Id refl refl i)
 
       pub no-number : slots .number ≡ slot.Empty → TypedAre v key s (c .at) (typed.Refused MissingNumber)
-      no-number n = record { is = λ k named. let f = as-fielded k named in
-          lacks f (past-id k named ∙ asked-first (isSome (fieldNamed v k (ascii "Number") (f .fs))) 14 _ (has f Number refl (full .numbered) n)) }
+      no-number n = record {
+        is = λ k named. let f = as-fielded k named in
+            lacks f (past-id k named ∙ asked-first (isSome (fieldNamed v k (ascii "Number") (f .fs))) 14 _ (has f Number refl (full .numbered) n));
+      }
 
       module _ {nr : Text} {h : ℕ} (n : slots .number ≡ slot.Filled nr h) where
         past-number : (k : Bytes) (named : Named k key) → missing v k (as-fielded k named .fs) ≡ first (map (asks v k (as-fielded k named .fs)) ((ascii "Type", 16) ∷ (ascii "Description", 17) ∷ []))
         past-number k named = let f = as-fielded k named in past-id k named ∙ asked-later (isSome (fieldNamed v k (ascii "Number") (f .fs))) 15 _ (has f Number refl (full .numbered) n)
 
         pub no-type : slots .kind ≡ slot.Empty → TypedAre v key s (c .at) (typed.Refused MissingType)
-        no-type t = record { is = λ k named. let f = as-fielded k named in
-            lacks f (past-number k named ∙ asked-first (isSome (fieldNamed v k (ascii "Type") (f .fs))) 15 _ (has f ValueType refl (full .typed) t)) }
+        no-type t = record {
+          is = λ k named. let f = as-fielded k named in
+              lacks f (past-number k named ∙ asked-first (isSome (fieldNamed v k (ascii "Type") (f .fs))) 15 _ (has f ValueType refl (full .typed) t));
+        }
 
         module _ {ty : Text} {j : ℕ} (t : slots .kind ≡ slot.Filled ty j) where
           past-type : (k : Bytes) (named : Named k key) → missing v k (as-fielded k named .fs) ≡ first (map (asks v k (as-fielded k named .fs)) ((ascii "Description", 17) ∷ []))
           past-type k named = let f = as-fielded k named in past-number k named ∙ asked-later (isSome (fieldNamed v k (ascii "Type") (f .fs))) 16 _ (has f ValueType refl (full .typed) t)
 
           pub no-description : slots .description ≡ slot.Empty → TypedAre v key s (c .at) (typed.Refused MissingDescription)
-          no-description d = record { is = λ k named. let f = as-fielded k named in
-              lacks f (past-type k named ∙ asked-first (isSome (fieldNamed v k (ascii "Description") (f .fs))) 16 _ (has f Description refl (full .described) d)) }
+          no-description d = record {
+            is = λ k named. let f = as-fielded k named in
+                lacks f (past-type k named ∙ asked-first (isSome (fieldNamed v k (ascii "Description") (f .fs))) 16 _ (has f Description refl (full .described) d));
+          }
 
           pub all-given : {de : Text} {l : ℕ} → slots .description ≡ slot.Filled de l → TypedAre v key s (c .at) (typed.Typed id g nr ty)
           unfolding first
-          all-given d = record { is = λ k named. let f = as-fielded k named in record {
-            fs = f .fs;
-            read = whole f (past-type k named ∙ asked-later (isSome (fieldNamed v k (ascii "Description") (f .fs))) 17 [] (has f Description refl (full .described) d));
-            named = holds f Id refl refl i;
-            id-is = value-is f Id refl refl i;
-            number-is = value-is f Number refl (full .numbered) n;
-            kind-is = value-is f ValueType refl (full .typed) t;
-            raw = value-raw f Number refl (full .numbered) n;
-          } }
+          all-given d = record {
+            is = λ k named. let f = as-fielded k named in record {
+              fs = f .fs;
+              read = whole f (past-type k named ∙ asked-later (isSome (fieldNamed v k (ascii "Description") (f .fs))) 17 [] (has f Description refl (full .described) d));
+              named = holds f Id refl refl i;
+              id-is = value-is f Id refl refl i;
+              number-is = value-is f Number refl (full .numbered) n;
+              kind-is = value-is f ValueType refl (full .typed) t;
+              raw = value-raw f Number refl (full .numbered) n;
+            };
+          }
 
 pub ruleset all-typed = (typed-refused, no-id, no-number, no-type, no-description, all-given, full-info, full-format)
 
@@ -176,3 +184,7 @@ described-filter = record { needs = refl; free = refl; known = refl }
 pub described-alternative-allele : Described key.AlternativeAllele
 unfolding kindOf same
 described-alternative-allele = record { needs = refl; free = refl; known = refl }
+
+pub identified-file-format : Identified key.FileFormat
+unfolding kindOf same
+identified-file-format = record { needs = refl; free = refl }

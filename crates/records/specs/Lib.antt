@@ -6,3 +6,4 @@ pub mod Numbers
 pub mod Definitions
 pub mod Tags
 pub mod Maps
+pub mod Records

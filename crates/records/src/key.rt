@@ -2,7 +2,8 @@
 use crate::file_format::FileFormat;
 use values::bytes;
 ghost use mathlib.Core.Path.{_≡_};
-ghost use Rattle.rules.specs.Known.{alwaysMap};
+ghost use Rattle.values.specs.Bytes.{ascii, same};
+ghost use Rattle.rules.specs.Known.{alwaysMap, isTyped};
 ghost use Rattle.rules.specs.Map.{isMeta};
 ghost use Rattle.records.specs.Formats.{versionOf};
 ghost use Rattle.records.specs.Keys.{bytesOf, untypedKeys, among, keyNamed, keyKind};
@@ -57,6 +58,29 @@ pub fn key_of(s: &[u8]) -> Key
 }
 
 impl Key {
+    pub fn is_file_format(self) -> bool
+        ensures { λ r. ⌜ r ≡ same (bytesOf self) (ascii "fileformat") ⌝ }
+    {
+        match self {
+            Key::FileFormat => true,
+            Key::Info => false,
+            Key::Filter => false,
+            Key::Format => false,
+            Key::AlternativeAllele => false,
+            Key::Contig => false,
+            Key::Meta => false,
+            Key::Pedigree => false,
+            Key::Other => false,
+        }
+    }
+
+    // The typed kinds of maps.
+    pub fn is_typed(self) -> bool
+        ensures { λ r. ⌜ r ≡ isTyped (bytesOf self) ⌝ }
+    {
+        self.kind() != 7
+    }
+
     // META and PEDIGREE are always maps, and need a field.
     pub fn is_always_map(self) -> bool
         ensures { λ r. ⌜ r ≡ alwaysMap (bytesOf self) ⌝ }

@@ -11,5 +11,7 @@ pub mod list;
 pub mod map;
 pub mod number;
 pub mod other;
+pub mod record;
 pub mod refusal;
 pub mod tag;
+pub mod value;

@@ -1,0 +1,41 @@
+use Rattle.records.proofs.Records.{with-definition}
+use borrow.Author.Needs.{needs}
+use Rattle.records.proofs.value.parse_format_value.Statement.{statement}
+use Rattle.records.proofs.value.parse_format_value.Tie as tie
+use Rattle.records.proofs.value.parse_format_value.Reads as reads
+use Rattle.records.proofs.value.parse_format_value.Lts as lts
+use Rattle.records.proofs.format.parse_format.Reads as parse-format-reads
+use Rattle.records.proofs.value.validate_format_definition.Reads as validate-format-definition-reads
+
+parse-format-requires : tie.Need-parse-format-requires
+parse-format-requires c κs = search (with-definition, needs)
+
+enum-known-x : tie.Need-enum-known-x
+enum-known-x c = search (with-definition, needs)
+
+enum-known-id : tie.Need-enum-known-id
+enum-known-id c = search (with-definition, needs)
+
+validate-format-definition-requires : tie.Need-validate-format-definition-requires
+validate-format-definition-requires c κs = search (with-definition, needs)
+
+returns : tie.Need-returns
+returns c = search (with-definition, needs)
+
+returns-2 : tie.Need-returns-2
+returns-2 c = search (with-definition, needs)
+
+returns-3 : tie.Need-returns-3
+returns-3 c = search (with-definition, needs)
+
+pub parse-format-value-spec : {M : Type 1} → statement M
+parse-format-value-spec =
+    tie.close
+    (tie.spec
+    parse-format-requires
+    enum-known-x
+    enum-known-id
+    validate-format-definition-requires
+    returns
+    returns-2
+    returns-3)

@@ -1,0 +1,47 @@
+use Rattle.records.proofs.Declares.{declared}
+use borrow.Author.Needs.{needs}
+use Rattle.records.proofs.value.validate_info_definition.Statement.{statement}
+use Rattle.records.proofs.value.validate_info_definition.Tie as tie
+use Rattle.records.proofs.value.validate_info_definition.Reads as reads
+use Rattle.records.proofs.value.validate_info_definition.Lts as lts
+use Rattle.records.proofs.definition.info_definition.Reads as info-definition-reads
+use Rattle.records.proofs.file_format.FileFormat.lt.Reads as lt-reads
+use Rattle.records.proofs.value.is_defined.Reads as is-defined-reads
+use Rattle.values.proofs.bytes.part.Reads as part-reads
+
+lt-requires : tie.Need-lt-requires
+lt-requires c κs = search (declared, needs) depth 9
+
+returns : tie.Need-returns
+returns c = search (declared, needs) depth 9
+
+part-requires : tie.Need-part-requires
+part-requires c κs = search (declared, needs) depth 9
+
+info-definition-requires : tie.Need-info-definition-requires
+info-definition-requires c κs = search (declared, needs) depth 9
+
+part-requires-2 : tie.Need-part-requires-2
+part-requires-2 c κs = search (declared, needs) depth 9
+
+part-requires-3 : tie.Need-part-requires-3
+part-requires-3 c κs = search (declared, needs) depth 9
+
+is-defined-requires : tie.Need-is-defined-requires
+is-defined-requires c κs = search (declared, needs) depth 9
+
+returns-2 : tie.Need-returns-2
+returns-2 c = search (declared, needs) depth 9
+
+pub validate-info-definition-spec : {M : Type 1} → statement M
+validate-info-definition-spec =
+    tie.close
+    (tie.spec
+    lt-requires
+    returns
+    part-requires
+    info-definition-requires
+    part-requires-2
+    part-requires-3
+    is-defined-requires
+    returns-2)

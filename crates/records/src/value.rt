@@ -1,0 +1,161 @@
+// The value of a record, by its key.
+use crate::alternative_allele;
+use crate::contig;
+use crate::definition;
+use crate::definition::Definition;
+use crate::file_format;
+use crate::file_format::FileFormat;
+use crate::file_format::FileFormatRead;
+use crate::filter;
+use crate::format;
+use crate::info;
+use crate::key::Key;
+use crate::map;
+use crate::map::MapRead;
+use crate::map::TypedRead;
+use crate::other;
+use crate::refusal::Refusal;
+use values::bytes;
+use values::cursor::Cursor;
+use values::string::Text;
+ghost use mathlib.Core.Path.{_≡_};
+ghost use lib.ListN.{drop};
+ghost use Rattle.rules.specs.Record.{isMap};
+ghost use Rattle.records.specs.Formats.{versionOf};
+ghost use Rattle.records.specs.Keys.{bytesOf};
+ghost use Rattle.records.specs.Maps.{Declared, MapAre};
+ghost use Rattle.records.specs.Records.{fits, ValueAre};
+ghost use Rattle.records.specs.declared.key.Key.the-variants.{Info, Format};
+
+pub enum ValueParsed {
+    FileFormat(FileFormat),
+    Map(Text, u8),
+    Text,
+    Refused(Refusal),
+}
+
+fn is_defined(definition: Definition, n: &[u8], nq: bool, t: &[u8], tq: bool) -> bool
+    ensures { λ r. ⌜ r ≡ fits definition (now (n .entry)) nq (now (t .entry)) tq ⌝ }
+{
+    match definition {
+        Definition::Unreserved => true,
+        Definition::Of(x, y) => {
+            if !x.is(n, nq) {
+                return false;
+            }
+            y.is(t, tq)
+        }
+    }
+}
+
+fn validate_info_definition(
+    s: &[u8],
+    version: FileFormat,
+    id: Text,
+    number: Text,
+    kind: Text,
+) -> bool
+    ensures { λ r. ⌜ Declared (versionOf version) Info (now (s .entry)) id number kind r ⌝ }
+{
+    if version.lt(FileFormat::V4_3) {
+        return true;
+    }
+    let definition = definition::info_definition(bytes::part(s, id.start, id.end), id.quoted);
+    let n = bytes::part(s, number.start, number.end);
+    let t = bytes::part(s, kind.start, kind.end);
+    is_defined(definition, n, number.quoted, t, kind.quoted)
+}
+
+fn validate_format_definition(
+    s: &[u8],
+    version: FileFormat,
+    id: Text,
+    number: Text,
+    kind: Text,
+) -> bool
+    ensures { λ r. ⌜ Declared (versionOf version) Format (now (s .entry)) id number kind r ⌝ }
+{
+    if version.lt(FileFormat::V4_3) {
+        return true;
+    }
+    let definition = definition::format_definition(bytes::part(s, id.start, id.end), id.quoted);
+    let n = bytes::part(s, number.start, number.end);
+    let t = bytes::part(s, kind.start, kind.end);
+    is_defined(definition, n, number.quoted, t, kind.quoted)
+}
+
+fn parse_info_value(s: &[u8], c: Cursor, version: FileFormat) -> MapRead
+    ensures { λ r. ⌜ MapAre (versionOf version) Info (now (s .entry)) (c .at) r ⌝ }
+{
+    match info::parse_info(s, c, version) {
+        TypedRead::Refused(x) => MapRead::Refused(x),
+        TypedRead::Typed(id, tag, number, kind) => {
+            if !validate_info_definition(s, version, id, number, kind) {
+                return MapRead::Refused(Refusal::DefinitionMismatch);
+            }
+            MapRead::Map(id, tag)
+        }
+    }
+}
+
+fn parse_format_value(s: &[u8], c: Cursor, version: FileFormat) -> MapRead
+    ensures { λ r. ⌜ MapAre (versionOf version) Format (now (s .entry)) (c .at) r ⌝ }
+{
+    match format::parse_format(s, c, version) {
+        TypedRead::Refused(x) => MapRead::Refused(x),
+        TypedRead::Typed(id, tag, number, kind) => {
+            if !validate_format_definition(s, version, id, number, kind) {
+                return MapRead::Refused(Refusal::DefinitionMismatch);
+            }
+            MapRead::Map(id, tag)
+        }
+    }
+}
+
+fn parse_map_value(s: &[u8], c: Cursor, key: Key, version: FileFormat) -> MapRead
+    ensures { λ r. ⌜ MapAre (versionOf version) key (now (s .entry)) (c .at) r ⌝ }
+{
+    match key {
+        Key::FileFormat => map::parse_identified(s, c, Key::FileFormat, version),
+        Key::Info => parse_info_value(s, c, version),
+        Key::Filter => filter::parse_filter(s, c, version),
+        Key::Format => parse_format_value(s, c, version),
+        Key::AlternativeAllele => alternative_allele::parse_alternative_allele(s, c, version),
+        Key::Contig => contig::parse_contig(s, c, version),
+        Key::Meta => other::parse_meta(s, c, version),
+        Key::Pedigree => other::parse_pedigree(s, c, version),
+        Key::Other => other::parse_other(s, c, version),
+    }
+}
+
+// Typed keys, META and PEDIGREE are always maps; others by how their value begins.
+fn is_map_value(s: &[u8], c: Cursor, key: Key, version: FileFormat) -> bool
+    ensures { λ r. ⌜ r ≡ isMap (versionOf version) (bytesOf key) (drop (c .at) (now (s .entry))) ⌝ }
+{
+    if key.is_typed() {
+        return true;
+    }
+    if key.is_always_map() {
+        return true;
+    }
+    map::is_map(s, c, version)
+}
+
+pub fn parse_value(s: &[u8], c: Cursor, key: Key, version: FileFormat) -> ValueParsed
+    ensures { λ r. ⌜ ValueAre (versionOf version) key (now (s .entry)) (c .at) r ⌝ }
+{
+    if key.is_file_format() {
+        let value = bytes::part(s, c.at, s.len());
+        let FileFormatRead::Version(v) = file_format::parse_file_format(value) else {
+            return ValueParsed::Refused(Refusal::InvalidFileFormat);
+        };
+        return ValueParsed::FileFormat(v);
+    }
+    if !is_map_value(s, c, key, version) {
+        return ValueParsed::Text;
+    }
+    match parse_map_value(s, c, key, version) {
+        MapRead::Map(id, tag) => ValueParsed::Map(id, tag),
+        MapRead::Refused(x) => ValueParsed::Refused(x),
+    }
+}

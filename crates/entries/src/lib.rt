@@ -1,1 +1,3 @@
+// Entries of a table: their words, and what they show of the header.
+pub mod shown;
 pub mod word;

@@ -1,0 +1,22 @@
+-- The line that stands at a place of a header, by the pieces into which the rules cut it. Assumes nothing.
+use Prim.Native.Nat.{ℕ, _+_, _-_, _≤_, _<_}
+use mathlib.Core.Path.{_≡_}
+use mathlib.Core.List.{List, _∷_}
+use lib.ListN.{length, drop, take}
+use Rattle.values.specs.Bytes.{Bytes}
+use Rattle.rules.specs.Lines.{pieces, lineOf}
+use Rattle.lines.specs.declared.line.Line.{Line}
+
+-- the first of the pieces from a place on, its line, and the pieces that are left after it
+pub record PieceIs (h : Bytes) (at : ℕ) (r : Line) (p : Bytes) (ps : List Bytes) : Type 0 where
+  pub ended : r .end ≡ at + length (lineOf p)
+  pub stepped : r .next ≡ at + length p
+  pub here : take (r .end - at) (drop at h) ≡ lineOf p
+  pub left : pieces (drop (r .next) h) ≡ ps
+
+pub record LineIs (h : Bytes) (at : ℕ) (r : Line) : Type 0 where
+  pub first : (p : Bytes) (ps : List Bytes) → pieces (drop at h) ≡ p ∷ ps → PieceIs h at r p ps
+  pub begun : at ≤ r .end
+  pub ordered : r .end ≤ r .next
+  pub moves : at < length h → at < r .next
+  pub inside : at ≤ length h → r .next ≤ length h

@@ -1,0 +1,2 @@
+// How a header falls into lines.
+pub mod line;

@@ -51,7 +51,7 @@ text-by true t = refl
 text-by false t = refl
 
 module _ (s : Bytes) (x : Text) (g : ℕ) where
-  text-means : (a : Option Field) (b : Option (Bytes × Text)) → Both s a b → slotted b ≡ slot.Filled x g → valueOf a ≡ meaningIn s x
+  pub text-means : (a : Option Field) (b : Option (Bytes × Text)) → Both s a b → slotted b ≡ slot.Filled x g → valueOf a ≡ meaningIn s x
   text-means none none u e = let nope : _≡_ {A = ℕ} 0 1 = cc in absurd (omega arith)
   text-means none (some p) u e = absurd u
   text-means (some f) none u e = absurd u

@@ -54,7 +54,7 @@ samples-count at (x ∷ xs) = ap suc (samples-count (at + length x + 1) xs)
 abbrev Stepped : State → State × List Entry → Type 0
 Stepped s q = Inv (q .0) × (entriesIn (q .0) ≡ entriesIn s + length (q .1))
 
-good-snoc : (v : Version) (rs : List Record) (r : Record) → Good v rs → Entered v r → clash v r rs ≡ 0 → Good v (rs ++ r ∷ [])
+pub good-snoc : (v : Version) (rs : List Record) (r : Record) → Good v rs → Entered v r → clash v r rs ≡ 0 → Good v (rs ++ r ∷ [])
 good-snoc v rs r g h c = record { sized = g .sized; good = all-append (Entered v) rs (r ∷ []) (g .good) (h, tt); apart = apart-snoc v rs r (g .apart) c }
 
 begin-good : (imposed : Option Version) (start : ℕ) (l : Bytes) (r : Record) → SizedOption imposed → GoodRecord v4-5 r → OnOk (Stepped empty) (begin imposed start l r)

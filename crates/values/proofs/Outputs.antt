@@ -18,7 +18,7 @@ sets-past : (out : Bytes) (at : ℕ) (text : Bytes) → length out ≤ at → se
 sets-past out at [] h = refl
 sets-past out at (b ∷ text) h = rw (set-out out at b h) (sets-past out (suc at) text (omega arith))
 
-sets-append : (out : Bytes) (at : ℕ) (x y : Bytes) → sets (sets out at x) (at + length x) y ≡ sets out at (x ++ y)
+pub sets-append : (out : Bytes) (at : ℕ) (x y : Bytes) → sets (sets out at x) (at + length x) y ≡ sets out at (x ++ y)
 sets-append out at [] y = let e : at + 0 ≡ at = omega arith in rw e
 sets-append out at (b ∷ x) y = let e : at + suc (length x) ≡ suc at + length x = omega arith in rw e (sets-append (set out at b) (suc at) x y)
 

@@ -1,0 +1,6 @@
+pub mod Splits
+pub mod Names
+pub mod Prefixes
+pub mod Lines
+pub mod Stores
+pub mod Answers

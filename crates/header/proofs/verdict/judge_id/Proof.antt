@@ -1,0 +1,48 @@
+use Rattle.header.proofs.Verdicts.{ids}
+use borrow.Author.Needs.{needs}
+use Rattle.header.proofs.verdict.judge_id.Statement.{statement}
+use Rattle.header.proofs.verdict.judge_id.Tie as tie
+use Rattle.header.proofs.verdict.judge_id.Reads as reads
+use Rattle.header.proofs.verdict.judge_id.Lts as lts
+use Rattle.ids.proofs.scan.find_clash.Reads as find-clash-reads
+
+find-clash-requires : tie.Need-find-clash-requires
+find-clash-requires c κs = search (ids, needs)
+
+enum-told : tie.Need-enum-told
+enum-told c = search (ids, needs)
+
+enum-told-2 : tie.Need-enum-told-2
+enum-told-2 c = search (ids, needs)
+
+enum-told-3 : tie.Need-enum-told-3
+enum-told-3 c = search (ids, needs)
+
+enum-told-4 : tie.Need-enum-told-4
+enum-told-4 c = search (ids, needs)
+
+returns : tie.Need-returns
+returns c = search (ids, needs)
+
+returns-2 : tie.Need-returns-2
+returns-2 c = search (ids, needs)
+
+returns-3 : tie.Need-returns-3
+returns-3 c = search (ids, needs)
+
+returns-4 : tie.Need-returns-4
+returns-4 c = search (ids, needs)
+
+pub judge-id-spec : {M : Type 1} → statement M
+judge-id-spec =
+    tie.close
+    (tie.spec
+    find-clash-requires
+    enum-told
+    enum-told-2
+    enum-told-3
+    enum-told-4
+    returns
+    returns-2
+    returns-3
+    returns-4)

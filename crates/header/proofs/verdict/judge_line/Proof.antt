@@ -1,0 +1,42 @@
+use Rattle.header.proofs.Verdicts.{all-lines}
+use borrow.Author.Needs.{needs}
+use Rattle.header.proofs.verdict.judge_line.Statement.{statement}
+use Rattle.header.proofs.verdict.judge_line.Tie as tie
+use Rattle.header.proofs.verdict.judge_line.Reads as reads
+use Rattle.header.proofs.verdict.judge_line.Lts as lts
+use Rattle.header.proofs.verdict.Phase.is_done.Reads as is-done-reads
+use Rattle.header.proofs.verdict.judge_text.Reads as judge-text-reads
+use Rattle.values.proofs.utf8.utf8.Reads as utf8-reads
+
+is-done-requires : tie.Need-is-done-requires
+is-done-requires c κs = search (all-lines, needs)
+
+returns : tie.Need-returns
+returns c = search (all-lines, needs)
+
+returns-2 : tie.Need-returns-2
+returns-2 c = search (all-lines, needs)
+
+utf8-requires : tie.Need-utf8-requires
+utf8-requires c κs = search (all-lines, needs)
+
+returns-3 : tie.Need-returns-3
+returns-3 c = search (all-lines, needs)
+
+judge-text-requires : tie.Need-judge-text-requires
+judge-text-requires c κs = search (all-lines, needs)
+
+returns-4 : tie.Need-returns-4
+returns-4 c = search (all-lines, needs)
+
+pub judge-line-spec : {M : Type 1} → statement M
+judge-line-spec =
+    tie.close
+    (tie.spec
+    is-done-requires
+    returns
+    returns-2
+    utf8-requires
+    returns-3
+    judge-text-requires
+    returns-4)

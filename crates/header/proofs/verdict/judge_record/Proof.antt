@@ -1,0 +1,67 @@
+use Rattle.header.proofs.Verdicts.{records}
+use borrow.Author.Needs.{needs}
+use Rattle.header.proofs.verdict.judge_record.Statement.{statement}
+use Rattle.header.proofs.verdict.judge_record.Tie as tie
+use Rattle.header.proofs.verdict.judge_record.Reads as reads
+use Rattle.header.proofs.verdict.judge_record.Lts as lts
+use Rattle.header.proofs.verdict.judge_id.Reads as judge-id-reads
+use Rattle.header.proofs.verdict.judge_map.Reads as judge-map-reads
+use Rattle.records.proofs.record.parse_record.Reads as parse-record-reads
+use Rattle.values.proofs.bytes.part.Reads as part-reads
+
+parse-record-requires : tie.Need-parse-record-requires
+parse-record-requires c κs = search (records, needs)
+
+enum-told : tie.Need-enum-told
+enum-told c = search (records, needs)
+
+enum-known-key : tie.Need-enum-known-key
+enum-known-key c = search (records, needs)
+
+judge-map-requires : tie.Need-judge-map-requires
+judge-map-requires c κs = search (records, needs)
+
+enum-known-value : tie.Need-enum-known-value
+enum-known-value c = search (records, needs)
+
+part-requires : tie.Need-part-requires
+part-requires c κs = search (records, needs)
+
+slice-aggregate-judge-id : tie.Need-slice-aggregate-judge-id
+slice-aggregate-judge-id c = search (records, needs)
+
+judge-id-requires : tie.Need-judge-id-requires
+judge-id-requires c κs = search (records, needs)
+
+enum-known-x : tie.Need-enum-known-x
+enum-known-x c = search (records, needs)
+
+returns : tie.Need-returns
+returns c = search (records, needs)
+
+returns-2 : tie.Need-returns-2
+returns-2 c = search (records, needs)
+
+returns-3 : tie.Need-returns-3
+returns-3 c = search (records, needs)
+
+returns-4 : tie.Need-returns-4
+returns-4 c = search (records, needs)
+
+pub judge-record-spec : {M : Type 1} → statement M
+judge-record-spec =
+    tie.close
+    (tie.spec
+    parse-record-requires
+    enum-told
+    enum-known-key
+    judge-map-requires
+    enum-known-value
+    part-requires
+    slice-aggregate-judge-id
+    judge-id-requires
+    enum-known-x
+    returns
+    returns-2
+    returns-3
+    returns-4)

@@ -1,0 +1,2 @@
+// The reading of a whole header, line by line.
+pub mod verdict;

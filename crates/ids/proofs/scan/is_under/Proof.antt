@@ -1,0 +1,19 @@
+use Rattle.ids.proofs.Seen.{unders}
+use borrow.Author.Needs.{needs}
+use Rattle.ids.proofs.scan.is_under.Statement.{statement}
+use Rattle.ids.proofs.scan.is_under.Tie as tie
+
+returns : tie.Need-returns
+returns c = search (unders, needs)
+
+line-part-requires : tie.Need-line-part-requires
+line-part-requires c κs = search (unders, needs)
+
+starts-with-requires : tie.Need-starts-with-requires
+starts-with-requires c κs = search (unders, needs)
+
+returns-2 : tie.Need-returns-2
+returns-2 c = search (unders, needs)
+
+pub is-under-spec : {M : Type 1} → statement M
+is-under-spec = tie.close (tie.spec returns line-part-requires starts-with-requires returns-2)

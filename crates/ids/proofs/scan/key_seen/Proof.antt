@@ -1,0 +1,75 @@
+use Prim.Native.Nat.{_-_}
+use lib.ListN.{length}
+use Rattle.ids.proofs.Seen.{Keys, keys}
+use borrow.Author.Needs.{needs}
+use Rattle.ids.proofs.scan.key_seen.Statement.{statement}
+use Rattle.ids.proofs.scan.key_seen.Tie as tie
+
+abbrev Inv-loop : tie.InvT-loop
+Inv-loop h words prefix kind k₀ k = Keys h prefix kind words k
+
+abbrev μ-loop : tie.MeasureT-loop
+μ-loop h words prefix kind k₀ k = length words - k
+
+loop-holds : tie.Need-loop-holds Inv-loop μ-loop
+loop-holds c = search (keys, needs)
+
+add-loop : tie.Need-add-loop Inv-loop μ-loop
+add-loop c = search (keys, needs)
+
+mul-w : tie.Need-mul-w Inv-loop μ-loop
+mul-w c = search (keys, needs)
+
+shared-slice-read-w : tie.Need-shared-slice-read-w Inv-loop μ-loop
+shared-slice-read-w c = search (keys, needs)
+
+add-k : tie.Need-add-k Inv-loop μ-loop
+add-k c = search (keys, needs)
+
+kind-in-requires : tie.Need-kind-in-requires Inv-loop μ-loop
+kind-in-requires c κs = search (keys, needs)
+
+line-part-requires : tie.Need-line-part-requires Inv-loop μ-loop
+line-part-requires c κs = search (keys, needs)
+
+starts-with-requires : tie.Need-starts-with-requires Inv-loop μ-loop
+starts-with-requires c κs = search (keys, needs)
+
+returns : tie.Need-returns Inv-loop μ-loop
+returns c = search (keys, needs)
+
+loop-less : tie.Need-loop-less Inv-loop μ-loop
+loop-less c = search (keys, needs)
+
+loop-again : tie.Need-loop-again Inv-loop μ-loop
+loop-again c = search (keys, needs)
+
+loop-less-2 : tie.Need-loop-less-2 Inv-loop μ-loop
+loop-less-2 c = search (keys, needs)
+
+loop-again-2 : tie.Need-loop-again-2 Inv-loop μ-loop
+loop-again-2 c = search (keys, needs)
+
+returns-2 : tie.Need-returns-2 Inv-loop μ-loop
+returns-2 c = search (keys, needs)
+
+pub key-seen-spec : {M : Type 1} → statement M
+key-seen-spec =
+    tie.close
+    (tie.spec
+    Inv-loop
+    μ-loop
+    loop-holds
+    add-loop
+    mul-w
+    shared-slice-read-w
+    add-k
+    kind-in-requires
+    line-part-requires
+    starts-with-requires
+    returns
+    loop-less
+    loop-again
+    loop-less-2
+    loop-again-2
+    returns-2)

@@ -1,11 +1,71 @@
 """Document 01 once more, in Python, for the expected values of the recorded cases. It shares nothing with the crates:
-UTF-8 is Python's own decoder, integers Python's own, and the grammar is regular expressions."""
+UTF-8 is Python's own decoder, integers Python's own, and the grammar is regular expressions.
+A version is a pair (major, minor), so Python's order of pairs is the document's; a part of the header is (start, end)."""
 import re
+from collections import namedtuple
+
+# Sizes
+
+HEADER_LIMIT, LINE_LIMIT = 2**20 - 1, 2**16 - 1
+BUFFER, TABLE = 65536, 8192
+
+# Kinds and their known fields, in the table's order; those in MISSING are required wherever they are known.
+
+FILEFORMAT, INFO, FILTER, FORMAT, ALT, CONTIG, OTHER_MAP, OTHER_TEXT, COLUMNS, SAMPLE = range(1, 11)
+TYPED = {b'INFO': INFO, b'FILTER': FILTER, b'FORMAT': FORMAT, b'ALT': ALT, b'contig': CONTIG}
+ALWAYS_MAPS = (b'META', b'PEDIGREE')
+KNOWN = {
+    INFO: (b'ID', b'Number', b'Type', b'Description', b'IDX'),
+    FORMAT: (b'ID', b'Number', b'Type', b'Description', b'IDX'),
+    FILTER: (b'ID', b'Description', b'IDX'),
+    ALT: (b'ID', b'Description'),
+    CONTIG: (b'ID', b'length', b'md5', b'URL', b'IDX'),
+    OTHER_MAP: (b'ID',),
+}
+MISSING = {b'ID': 14, b'Number': 15, b'Type': 16, b'Description': 17}
+ID_NAMES = (b'ID', b'Child', b'Derived')
+TYPES = (b'Integer', b'Float', b'Character', b'String')
+LETTERS, LOCAL_LETTERS = (b'A', b'R', b'G', b'.'), (b'LA', b'LR', b'LG', b'P', b'M')
+COLUMN_NAMES = [b'#CHROM', b'POS', b'ID', b'REF', b'ALT', b'QUAL', b'FILTER', b'INFO']
+
+
+def reserved(*rows):
+    """'NUMBER TYPE: ID ID ..' -> what each ID must have."""
+    table = {}
+    for row in rows:
+        definition, ids = row.encode().split(b': ')
+        number, type_ = definition.split()
+        for id_ in ids.split():
+            table[id_] = (int(number) if number.isdigit() else number, type_)
+    return table
+
+
+RESERVED = {
+    INFO: reserved('A Integer: AC', 'A String: CIGAR', 'A Float: AF', 'R Integer: AD ADF ADR', '1 String: AA', '1 Integer: AN DP END MQ0 NS',
+                   '1 Float: BQ MQ', '4 Integer: SB', '0 Flag: DB H2 H3 SOMATIC VALIDATED 1000G'),
+    FORMAT: reserved('R Integer: AD ADF ADR', 'A Integer: EC', '1 Integer: DP GQ MQ PQ PS', '1 String: FT GT', '2 Integer: HQ',
+                     'G Float: GL GP', 'G Integer: PL PP'),
+}
+
+
+class Refused(Exception):
+    def __init__(self, number):
+        self.number = number
+
+
+def require(condition, number):
+    if not condition:
+        raise Refused(number)
+
+
+# Values
 
 KEY = re.compile(rb'([^,<>"=]+)=')
 QUOTED = re.compile(rb'"((?:[^"\\]|\\["\\])*)"')
 BARE = re.compile(rb'[^,>]*')
 BRACKETED = re.compile(rb'\[[^\]]*\]')
+VERSION = re.compile(rb'VCFv([0-9]+)\.([0-9]+)')
+RECORD = re.compile(rb'##([^=]+)=')
 
 
 def is_utf8(data):
@@ -20,7 +80,10 @@ def integer(data, sign, bound):
     """Rust's parse of an unsigned number, or None."""
     if not re.fullmatch(rb'\+?[0-9]+' if sign else rb'[0-9]+', data):
         return None
-    number = int(data)
+    digits = data.lstrip(b'+').lstrip(b'0')
+    if len(digits) > len(str(bound)):
+        return None
+    number = int(digits or b'0')
     return number if number <= bound else None
 
 
@@ -62,3 +125,347 @@ def field(line, start, meta):
         return value and Field(line, start, equals, value.start(1), value.end(1), True, value.end())
     value = meta and key[1] == b'Values' and BRACKETED.match(line, at) or BARE.match(line, at)
     return Field(line, start, equals, value.start(), value.end(), False, value.end())
+
+
+# Records
+
+class Record:
+    """One line as read. A map has its fields as they stand, the ID's field with its tag, and what it means: the known
+    values in the table's order (None where absent) and the other fields as (key, value)."""
+
+    def __init__(self, kind, key, version=None, text=None):
+        self.kind, self.key, self.version, self.text = kind, key, version, text
+        self.fields, self.id, self.tag, self.known, self.others = [], None, 0, {}, []
+
+    def meaning(self):
+        if self.kind == OTHER_TEXT:
+            return self.text
+        return self.tag, tuple(self.known.get(name) for name in KNOWN[self.kind]), tuple(self.others)
+
+
+def record(line, version):
+    """The record that the line is under the version, or Refused."""
+    head = RECORD.match(line)
+    require(head, 6)
+    key, value = head[1], line[head.end():]
+    if key == b'fileformat':
+        return Record(FILEFORMAT, key, version=file_format(value))
+    if key in TYPED:
+        return read_map(TYPED[key], key, line, head.end(), version)
+    if key in ALWAYS_MAPS or value.startswith(b'<' if version >= (4, 3) else b'<ID='):
+        return read_map(OTHER_MAP, key, line, head.end(), version)
+    return Record(OTHER_TEXT, key, text=value)
+
+
+def file_format(value):
+    parts = VERSION.fullmatch(value)
+    require(parts, 7)
+    version = u32(parts[1]), u32(parts[2])
+    require(None not in version, 7)
+    return version
+
+
+def read_map(kind, key, line, at, version):
+    require(line[at:at + 1] == b'<', 8)
+    r = Record(kind, key)
+    at += 1
+    if line[at:at + 1] in (b'', b'>'):
+        require(key not in ALWAYS_MAPS, 9)
+    else:
+        at = read_fields(r, line, at, version)
+    require(line[at:] == b'>', 8)
+    for name in KNOWN[kind]:
+        require(name in r.known or name not in MISSING, MISSING.get(name))
+    require(not breaks_reserved(r, version), 18)
+    return r
+
+
+def read_fields(r, line, at, version):
+    """Puts the fields into r, and answers where they end."""
+    while True:
+        f = field(line, at, r.key == b'META' and version >= (4, 3))
+        require(f, 9)
+        take_field(r, f, version)
+        at = f.end
+        if line[at:at + 1] != b',':
+            return at
+        at += 1
+
+
+def take_field(r, f, version):
+    tag = id_tag(r.key, f.key, version)
+    name = f.key if tag is None else b'ID'
+    if name in KNOWN[r.kind]:
+        value = known_value(r.kind, name, f.value, version)
+        require(name not in r.known, 10)
+        r.known[name] = value
+    else:
+        require(f.key not in [other for other, _ in r.others], 10)
+        r.others.append((f.key, f.value))
+    r.fields.append(f)
+    if tag is not None:
+        r.id, r.tag = f, tag
+
+
+def id_tag(record_key, key, version):
+    """0, 1, 2 if a field of this key names the ID, otherwise None."""
+    names = ID_NAMES if record_key == b'PEDIGREE' and version < (4, 3) else ID_NAMES[:1]
+    return names.index(key) if key in names else None
+
+
+def known_value(kind, name, value, version):
+    """What the value of a known field means, integers as numbers."""
+    if name == b'Number':
+        letters = LETTERS + (LOCAL_LETTERS if kind == FORMAT and version >= (4, 5) else ())
+        number = value if value in letters else u64(value)
+        require(number is not None, 11)
+        return number
+    if name == b'Type':
+        require(value in TYPES or kind == INFO and value == b'Flag', 12)
+    if name in (b'IDX', b'length'):
+        number = u64(value)
+        require(number is not None, 13)
+        return number
+    return value
+
+
+def breaks_reserved(r, version):
+    if version < (4, 3) or r.kind not in RESERVED:
+        return False
+    declared = r.known[b'Number'], r.known[b'Type']
+    return RESERVED[r.kind].get(r.known[b'ID'], declared) != declared
+
+
+# Lines
+
+def lines(header):
+    """(start, line) of each line, as Rust's `lines` has them."""
+    start = 0
+    while start < len(header):
+        end = header.find(b'\n', start)
+        if end < 0:
+            yield start, header[start:]
+            return
+        line = header[start:end]
+        yield start, line[:-1] if line.endswith(b'\r') else line
+        start = end + 1
+
+
+class Machine:
+    """What is known after some lines: the phase, the version in force, entries as pairs of words, and the records."""
+
+    def __init__(self, imposed, room):
+        self.imposed, self.room = imposed, room
+        self.phase, self.version = 'Empty', None
+        self.entries, self.records = [], []
+        self.format_stood, self.samples = False, []
+
+    def step(self, start, line):
+        require(self.phase != 'Done', 1)
+        require(len(line) <= LINE_LIMIT, 2)
+        require(is_utf8(line), 3)
+        if self.phase == 'Ready' and line.startswith(b'#CHROM'):
+            self.column_line(start, line)
+        else:
+            self.record_line(start, line)
+
+    def record_line(self, start, line):
+        first = self.phase == 'Empty'
+        r = record(line, (4, 5) if first else self.version)
+        require(first == (r.kind == FILEFORMAT), 4 if first else 5)
+        require_distinct(r, self.records)
+        self.keep([(word_one(r.kind, start, len(line)), word_two(r))])
+        if first:
+            self.phase, self.version = 'Ready', self.imposed or r.version
+        self.records.append(r)
+
+    def column_line(self, start, line):
+        names = line.split(b'\t')
+        require(names[:8] == COLUMN_NAMES and names[8:9] in ([], [b'FORMAT']), 22)
+        samples = names[9:]
+        require(len(set(samples)) == len(samples), 23)
+        at, entries = start + len(b'\t'.join(names[:9])) + 1, [(word_one(COLUMNS, start, len(line)), 0)]
+        for name in samples:
+            entries.append((word_one(SAMPLE, at, len(name)), 0))
+            at += len(name) + 1
+        self.keep(entries)
+        self.phase, self.format_stood, self.samples = 'Done', len(names) > 8, samples
+
+    def keep(self, entries):
+        require(2 * (len(self.entries) + len(entries)) <= self.room, 24)
+        self.entries += entries
+
+
+def require_distinct(r, records):
+    """19 to 21 against the records before."""
+    same = [other for other in records if other.key == r.key]
+    require(all(other.kind == r.kind for other in same), 20)
+    if r.id:
+        ids = [other.known[b'ID'] for other in same]
+        require(r.known[b'ID'] not in ids, 21 if r.kind == OTHER_MAP else 19)
+
+
+# Entries
+
+def word_one(kind, start, length):
+    return kind << 60 | start << 40 | length << 24
+
+
+def word_two(r):
+    if not r.id:
+        return 0
+    return r.id.text_start << 48 | (r.id.text_end - r.id.text_start) << 32 | r.id.quoted << 31 | r.tag << 29
+
+
+Reading = namedtuple('Reading', 'number line start entries version samples')
+
+
+def run(header, imposed, room):
+    """The machine after the header's lines, with the answer's number, line and start."""
+    m = Machine(imposed, room)
+    if len(header) > HEADER_LIMIT:
+        return m, (27, 0, 0)
+    count = 0
+    for start, line in lines(header):
+        count += 1
+        try:
+            m.step(start, line)
+        except Refused as refused:
+            return m, (refused.number, count, start)
+    if count == 0:
+        return m, (25, 0, 0)
+    return m, (0 if m.phase == 'Done' else 26, count, len(header))
+
+
+def read(header, imposed=None, room=TABLE):
+    """room: the table's words. Version and samples are those of the answer of an accepted header, else None and 0."""
+    m, (number, line, start) = run(header, imposed, room)
+    version, samples = (None, 0) if number else (m.version, len(m.samples))
+    return Reading(number, line, start, m.entries, version, samples)
+
+
+def report(header):
+    """The line that the check program prints, without its LF."""
+    if len(header) > BUFFER:
+        return b'refused 27 line=0 offset=0'
+    r = read(header)
+    if r.number:
+        return b'refused %d line=%d offset=%d' % (r.number, r.line, r.start)
+    return b'ok version=%d.%d entries=%d samples=%d' % (*r.version, len(r.entries), r.samples)
+
+
+Entry = namedtuple('Entry', 'kind start length offset id_length quoted tag')
+
+
+def well_formed(header, table, n):
+    """The parts of entry n of a table of words, or Refused."""
+    require(2 * n + 1 < len(table), 29)
+    one, two = table[2 * n], table[2 * n + 1]
+    e = Entry(one >> 60, one >> 40 & 0xFFFFF, one >> 24 & 0xFFFF, two >> 48, two >> 32 & 0xFFFF, two >> 31 & 1, two >> 29 & 3)
+    require(FILEFORMAT <= e.kind <= SAMPLE, 29)
+    require(one % 2**24 == 0 and two % 2**29 == 0, 29)
+    require(e.tag <= (2 if e.kind == OTHER_MAP else 0), 29)
+    require(two == 0 or e.kind in KNOWN, 29)
+    require(e.start + e.length <= len(header) and e.offset + e.id_length <= e.length, 29)
+    return e
+
+
+def entry(header, table, n):
+    e = well_formed(header, table, n)
+    return e.start, e.start + e.length
+
+
+def entry_id(header, table, n):
+    e = well_formed(header, table, n)
+    require(e.kind in KNOWN, 29)
+    return e.start + e.offset, e.start + e.offset + e.id_length
+
+
+def entry_field(header, table, n, index, version):
+    """Field number `index` of entry n, whose line is read again under the version."""
+    e = well_formed(header, table, n)
+    require(e.kind in KNOWN, 29)
+    line = header[e.start:e.start + e.length]
+    require(is_utf8(line), 29)
+    try:
+        r = record(line, version)
+    except Refused:
+        raise Refused(29) from None
+    require(r.kind == e.kind and index < len(r.fields), 29)
+    return e.start + r.fields[index].start, e.start + r.fields[index].end
+
+
+# Meaning and house form
+
+Meaning = namedtuple('Meaning', 'version groups format_stood samples')
+
+
+def meaning(header, imposed=None):
+    """Of an accepted header, whatever the table; None of a refused one."""
+    m, answer = run(header, imposed, 2 * len(header) + 2)
+    return None if answer[0] else meaning_of(m)
+
+
+def meaning_of(m):
+    """A group is a key, its kind and the meanings of its lines in order: typed kinds, then other keys by first appearance."""
+    keys = list(TYPED) + [r.key for r in m.records if r.kind in (OTHER_MAP, OTHER_TEXT)]
+    groups = []
+    for key in dict.fromkeys(keys):
+        same = [r for r in m.records if r.key == key]
+        if same:
+            groups.append((key, same[0].kind, tuple(r.meaning() for r in same)))
+    return Meaning(m.version, tuple(groups), m.format_stood, tuple(m.samples))
+
+
+def house_lines(means):
+    """The lines of the house form, without their endings."""
+    yield b'##fileformat=VCFv%d.%d' % means.version
+    for key, kind, records in means.groups:
+        for r in records:
+            yield b'##' + key + b'=' + (r if kind == OTHER_TEXT else written_map(key, kind, r, means.version))
+    yield b'\t'.join(COLUMN_NAMES + [b'FORMAT'] * means.format_stood + list(means.samples))
+
+
+def written_map(key, kind, map_meaning, version):
+    tag, known, others = map_meaning
+    names = (ID_NAMES[tag],) + KNOWN[kind][1:]
+    fields = [(name, value) for name, value in zip(names, known) if value is not None] + list(others)
+    return b'<' + b','.join(name + b'=' + written(key, name, value, version) for name, value in fields) + b'>'
+
+
+def written(record_key, name, value, version):
+    if isinstance(value, int):
+        return b'%d' % value
+    if name == b'Description':
+        return quote(value)
+    if record_key == b'META' and name == b'Values' and version >= (4, 3) and value.startswith(b'['):
+        return value if value.find(b']') == len(value) - 1 else quote(value)
+    return quote(value) if value.startswith(b'"') or b',' in value or b'>' in value else value
+
+
+def house_form(means):
+    return b''.join(line + (b'\r\n' if line.endswith(b'\r') else b'\n') for line in house_lines(means))
+
+
+House = namedtuple('House', 'number line start entries form')
+
+
+def house(header, imposed=None, room=TABLE, output=HEADER_LIMIT):
+    """output: the bytes of the output. The form is empty if refused."""
+    m, (number, line, start) = run(header, imposed, room)
+    form = b''
+    if number == 0:
+        form = house_form(meaning_of(m))
+        number, at_line, at = form_refusal(form, output)
+        if number:
+            line, start, form = at_line, at, b''
+    return House(number, line, start, m.entries, form)
+
+
+def form_refusal(form, output):
+    if len(form) > HEADER_LIMIT:
+        return 27, 0, 0
+    for count, (start, line) in enumerate(lines(form), 1):
+        if len(line) > LINE_LIMIT:
+            return 2, count, start
+    return (28 if len(form) > output else 0), 0, 0

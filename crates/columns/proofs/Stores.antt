@@ -12,26 +12,12 @@ use Rattle.values.proofs.Tests.{not-true, not-false}
 use Rattle.values.proofs.Lists.{there, past, stands}
 use Rattle.rules.specs.Columns.{Columns, TAB, split}
 use Rattle.rules.specs.Entry.{place, tabbed, samplesStart, words, sampleEntries, columnEntries}
-use Rattle.columns.specs.HeaderLines.{EntryPut, nameWords, SamplesWritten, ColumnsWritten}
+use Rattle.entries.specs.Tables.{EntryPut}
+use Rattle.entries.proofs.Tables.{next-fits}
+use Rattle.columns.specs.HeaderLines.{nameWords, SamplesWritten, ColumnsWritten}
 use Rattle.columns.proofs.Lines.{nameless, with-names, accepted}
 use Rattle.columns.proofs.Names.{name-less}
 use Rattle.columns.proofs.Splits.{name-inside, split-last, split-more}
-
--- One entry
-
-pub no-word : (t : List ℕ) (at w : ℕ) → length t ≤ at → EntryPut t at w false t
-no-word t at w h = record { stored = λ e. absurd (false≢true e); next = λ e. absurd (false≢true e); full = λ e. omega arith }
-
-pub one-word : (t : List ℕ) (at w : ℕ) → length t ≤ at + 1 → EntryPut t at w false t
-one-word t at w h = record { stored = λ e. absurd (false≢true e); next = λ e. absurd (false≢true e); full = λ e. omega arith }
-
-pub two-words : (t : List ℕ) (at w : ℕ) → at + 2 < 2 ^ 64 → EntryPut t at w true (set (set t at w) (at + 1) 0)
-two-words t at w h = record { stored = λ e. rw add-one; next = λ e. h; full = λ e. absurd (true≢false e) }
-
-pub next-fits : {t : List ℕ} {at w : ℕ} {q : Bool} {t′ : List ℕ} → EntryPut t at w q t′ → not q ≡ false → at + 2 < 2 ^ 64
-next-fits {q = q} p e = p .next (not-false q e)
-
-pub ruleset puts = (no-word, one-word)
 
 -- in range, no bits are lost
 placed : (kind start n : ℕ) → start < 1048576 → n < 65536 → place kind (start % 1048576) (n % 65536) ≡ place kind start n
@@ -75,7 +61,7 @@ pub store-all : (s : Bytes) (start at : ℕ) (t : List ℕ) → start < 1048576 
 store-all s start at t h l = record { small = h; long = l; inside = l; size = refl; room = refl; still = λ _ _. refl }
 
 module _ {s : Bytes} {start at : ℕ} {t₀ t : List ℕ} {from k : ℕ} (g : Storing s start at t₀ t from k) {end : ℕ} (a : end ≡ from + length (before (is TAB) (drop from s)))
-    {w : ℕ} (b : w ≡ place 10 ((start + from) % 1048576) ((end - from) % 65536)) {q : Bool} {t′ : List ℕ} (p : EntryPut t k w q t′) where
+    {w : ℕ} (b : w ≡ place 10 ((start + from) % 1048576) ((end - from) % 65536)) {q : Bool} {t′ : List ℕ} (p : EntryPut t k w 0 q t′) where
   pub word-is : start + length s < 1048576 → length s < 65536 → w ≡ place 10 (start + from) (end - from)
   word-is x y =
       let i = g .inside in
@@ -113,7 +99,7 @@ module _ {s : Bytes} {start at : ℕ} {t₀ t : List ℕ} {from k : ℕ} (g : St
           rw (p .stored (not-false q e), word-is x y, n) (sym (ap (sets t k) (words-more s start from a h)) ∙ g .still x y);
     }
 
-pub ruleset stores = (far-line, no-names, store-all, store-full, store-last, store-next, name-less, next-fits)
+pub ruleset stores = (far-line, no-names, store-all, store-full, store-last, store-next, name-less)
 
 -- The column line's own entry, then those of its names
 
@@ -130,7 +116,7 @@ line-named : (s : Bytes) (start : ℕ) (c : Columns) → c .samples ≡ split (d
 unfolding columnEntries words
 line-named s start c e = rw (e, names-at)
 
-module _ (s : Bytes) (start : ℕ) {at : ℕ} {t₀ : List ℕ} {w : ℕ} (b : w ≡ place 9 (start % 1048576) (length s % 65536)) {q : Bool} {t₁ : List ℕ} (p : EntryPut t₀ at w q t₁) where
+module _ (s : Bytes) (start : ℕ) {at : ℕ} {t₀ : List ℕ} {w : ℕ} (b : w ≡ place 9 (start % 1048576) (length s % 65536)) {q : Bool} {t₁ : List ℕ} (p : EntryPut t₀ at w 0 q t₁) where
   pub columns-full : not q ≡ true → ColumnsWritten s start at t₀ t₁
   unfolding columnEntries words
   columns-full e = record { is = λ c r l x y. absurd (omega (arith, p .full (not-true q e))) }
@@ -149,4 +135,4 @@ module _ (s : Bytes) (start : ℕ) {at : ℕ} {t₀ : List ℕ} {w : ℕ} (b : w
         ];
   }
 
-pub ruleset columns = (columns-full, columns-stored, next-fits)
+pub ruleset columns = (columns-full, columns-stored)

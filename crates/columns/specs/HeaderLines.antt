@@ -22,12 +22,6 @@ abbrev pub samplesRead : Bool → ℕ → ColumnsRead
 samplesRead true n = read.Columns true n
 samplesRead false n = read.DuplicateSample
 
--- a word and a zero, stored where there was room
-pub record EntryPut (t : List ℕ) (at w : ℕ) (r : Bool) (t′ : List ℕ) : Type 0 where
-  pub stored : r ≡ true → t′ ≡ sets t at (w ∷ 0 ∷ [])
-  pub next : r ≡ true → at + 2 < 2 ^ 64
-  pub full : r ≡ false → length t < at + 2
-
 -- the words of the names that stand from the place i of the line on
 abbrev pub nameWords : Bytes → ℕ → ℕ → List ℕ
 nameWords s start i = words (sampleEntries (start + i) (split (drop i s)))

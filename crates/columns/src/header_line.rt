@@ -1,4 +1,5 @@
 // The column line: its fixed columns and its sample names, and their entries.
+use entries::table;
 use entries::word;
 use values::bytes;
 ghost use mathlib.Core.Path.{_≡_};
@@ -6,7 +7,7 @@ ghost use Prim.Native.Nat.{_-_};
 ghost use lib.ListN.{length, drop, take};
 ghost use Rattle.rules.specs.Known.{isIn};
 ghost use Rattle.rules.specs.Columns.{split, distinct};
-ghost use Rattle.columns.specs.HeaderLines.{HeaderRead, samplesRead, EntryPut, SamplesWritten, ColumnsWritten};
+ghost use Rattle.columns.specs.HeaderLines.{HeaderRead, samplesRead, SamplesWritten, ColumnsWritten};
 
 // Where the fixed columns end, and where the first name stands: after these, FORMAT and two tabs.
 const FIXED_END: usize = 38;
@@ -77,21 +78,6 @@ pub fn parse_header(s: &[u8]) -> ColumnsRead
     ColumnsRead::WrongColumn
 }
 
-// An entry whose second word is 0, if there is room for both.
-fn put_entry(table: &mut [u64], at: usize, w: u64) -> bool
-    ensures { λ r. ⌜ EntryPut (now (table .entry)) at w r (now (table .exit)) ⌝ }
-{
-    if table.len() <= at {
-        return false;
-    }
-    if table.len() <= at + 1 {
-        return false;
-    }
-    table[at] = w;
-    table[at + 1] = 0;
-    true
-}
-
 // One entry for each name after FORMAT, as far as there is room. No header reaches 0x10_0000, so past it nothing is written.
 fn write_samples(s: &[u8], start: usize, at: usize, table: &mut [u64])
     ensures { λ _. ⌜ SamplesWritten (now (s .entry)) start at (now (table .entry)) (now (table .exit)) ⌝ }
@@ -106,7 +92,7 @@ fn write_samples(s: &[u8], start: usize, at: usize, table: &mut [u64])
     let mut k = at;
     loop {
         let end = bytes::find(s, from, b'\t');
-        if !put_entry(table, k, word::place(10, start + from, end - from)) {
+        if !table::put_entry(table, k, word::place(10, start + from, end - from), 0) {
             return;
         }
         if s.len() <= end {
@@ -121,7 +107,7 @@ fn write_samples(s: &[u8], start: usize, at: usize, table: &mut [u64])
 pub fn write_columns(s: &[u8], start: usize, at: usize, table: &mut [u64])
     ensures { λ _. ⌜ ColumnsWritten (now (s .entry)) start at (now (table .entry)) (now (table .exit)) ⌝ }
 {
-    if !put_entry(table, at, word::place(9, start, s.len())) {
+    if !table::put_entry(table, at, word::place(9, start, s.len()), 0) {
         return;
     }
     write_samples(s, start, at + 2, table);

@@ -30,7 +30,7 @@ use Rattle.rules.specs.House.{writeRecord}
 use Rattle.rules.proofs.Firsts.{OnOk, on-ok, judged-zero}
 use Rattle.rules.proofs.Pure.{Pure}
 use Rattle.rules.proofs.Versions.{Sized}
-use Rattle.rules.proofs.Records.{GoodRecord, record-good}
+use Rattle.rules.proofs.Records.{GoodRecord, Entered, record-good}
 use Rattle.rules.proofs.Texts.{LineOf, record-in}
 use Rattle.rules.proofs.Shows.{Packed, Both, AnyAt, named-text, line-fields}
 use Rattle.records.specs.Formats.{versionOf}
@@ -54,6 +54,7 @@ use Rattle.columns.proofs.Answers.{columns-read, column-wrong, sample-twice}
 use Rattle.ids.specs.Clashes.{clashNumber, clashIn, prefixOf, Describes}
 use Rattle.ids.specs.declared.scan.Clash.{Clash}
 use Rattle.ids.specs.declared.scan.Clash.the-variants as clashes
+use Rattle.ids.proofs.KeyKinds.{number-small}
 use Rattle.ids.proofs.Clashes.{found-clash}
 use Rattle.header.specs.Verdicts.{imposedOf, PhaseIs, isDonePhase, ReadyRows, Says, Scene, Unchecked, FirstJudged, IdJudged, MapJudged, RecordJudged, ColumnsJudged, TextJudged, LineJudged}
 use Rattle.header.specs.declared.verdict.FileFormatOption.{FileFormatOption}
@@ -85,7 +86,7 @@ module _ (imposed : Option Version) (l : Bytes) (x : RecordRead) (a : RecordAre 
 
   pub first-format : {w : FileFormat} → x ≡ read.FileFormat w → (f : FileFormat) → versionOf f ≡ inForce imposed (versionOf w) → Sized (versionOf f) → FirstJudged imposed l (verdict.Begin f)
   unfolding recordEntry
-  first-format e f g s = record { is = λ start. record { sized = s; begins = first-is (subst (RecordIs v4-5 l) e (a .is)) start ∙ rw (← g) } }
+  first-format e f g s = record { is = λ start. record { state = refl; sized = s; begins = first-is (subst (RecordIs v4-5 l) e (a .is)) start ∙ rw (← g) } }
 
   pub first-map : {k : Key} {at : ℕ} {t : Text} {n : ℕ} → x ≡ read.Map k at t n → FirstJudged imposed l (verdict.Refused MissingFileFormat)
   first-map e = record { is = λ start. first-is (subst (RecordIs v4-5 l) e (a .is) .3) start }
@@ -113,6 +114,16 @@ enter-judged v rs start l (fileformat w) prefix kind id q d = absurd d
 enter-judged v rs start l (fields k fs) prefix kind id q d = refl
 enter-judged v rs start l (text k t) prefix kind id q d = refl
 
+described-good : (v : Version) (x : Record) (prefix : Bytes) (kind : ℕ) (id : Bytes) (q : Bool) → Describes v x prefix kind id q → GoodRecord v x → Entered v x
+described-good v (fileformat w) prefix kind id q d g = absurd d
+described-good v (fields k fs) prefix kind id q d g = g
+described-good v (text k t) prefix kind id q d g = g
+
+described-small : (v : Version) (x : Record) (prefix : Bytes) (kind : ℕ) (id : Bytes) (q : Bool) → Describes v x prefix kind id q → kind < 16
+described-small v (fileformat w) prefix kind id q d = absurd d
+described-small v (fields k fs) prefix kind id q d = omega (arith, d .number, number-small (kindOf k) .1)
+described-small v (text k t) prefix kind id q d = omega (arith, d .number)
+
 module _ (h ws prefix : Bytes) (kind : ℕ) (id : Bytes) (quoted : Bool) (w : ℕ) {a : Clash} (e : a ≡ clashIn h ws prefix kind (meaning quoted id)) where
   found : (l : Bytes) (v : Version) (rs : List Record) (x : Record) → Scene h ws l (ready v rs) → Describes v x prefix kind id quoted → clashNumber a ≡ clash v x rs
   found l v rs x s d =
@@ -128,6 +139,8 @@ module _ (h ws prefix : Bytes) (kind : ℕ) (id : Bytes) (quoted : Bool) (w : �
       state = refl;
       read = g;
       fresh = sym (found l v rs x s d) ∙ ap clashNumber f;
+      entered = described-good v x prefix kind id quoted d (on-ok (GoodRecord v) (record-good v l (s .pure)) g);
+      small = described-small v x prefix kind id quoted d;
       enters = enter-judged v rs start l x prefix kind id quoted d ∙ judged-zero (ready v (rs ++ x ∷ []), recordEntry v start l x ∷ []) (sym (found l v rs x s d) ∙ ap clashNumber f);
       entry = q;
     };

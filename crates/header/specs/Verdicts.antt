@@ -1,5 +1,5 @@
 -- What a verdict says of a line, in the terms of the rules. Assumes nothing.
-use Prim.Native.Nat.{ℕ, _-_, _≤_}
+use Prim.Native.Nat.{ℕ, _≤_, _<_}
 use mathlib.Core.Path.{_≡_}
 use mathlib.Core.Bool.{Bool, true, false}
 use mathlib.Core.List.{List, [], _∷_, _++_}
@@ -18,6 +18,7 @@ use Rattle.rules.specs.Shown.{kindIn}
 use Rattle.rules.specs.Reading.{clash, State, empty, ready, done, enter, finish, stepText, step}
 use Rattle.rules.proofs.Pure.{Pure}
 use Rattle.rules.proofs.Versions.{Sized}
+use Rattle.rules.proofs.Records.{Entered}
 use Rattle.rules.proofs.Sound.{Good}
 use Rattle.rules.proofs.Trace.{Rows}
 use Rattle.records.specs.Formats.{versionOf}
@@ -79,6 +80,8 @@ pub record New (a : Answer (State × List Entry)) (start : ℕ) (s : State) (l :
   pub state : s ≡ ready v rs
   pub read : readRecord v l ≡ ok r
   pub fresh : clash v r rs ≡ 0
+  pub entered : Entered v r
+  pub small : kind < 16
   pub enters : a ≡ ok (ready v (rs ++ r ∷ []), recordEntry v start l r ∷ [])
   pub entry : recordEntry v start l r ≡ (place kind start (length l), w)
 
@@ -90,13 +93,14 @@ pub record Ended (a : Answer (State × List Entry)) (start : ℕ) (s : State) (l
   pub count : length (c .samples) ≡ n
   pub ends : a ≡ ok (done (versionOf f) rs c, columnEntries start l c)
 
-pub record Begun (a : Answer (State × List Entry)) (start : ℕ) (l : Bytes) (f : FileFormat) : Type 0 where
+pub record Begun (a : Answer (State × List Entry)) (start : ℕ) (s : State) (l : Bytes) (f : FileFormat) : Type 0 where
+  pub state : s ≡ empty
   pub sized : Sized (versionOf f)
   pub begins : a ≡ ok (ready (versionOf f) [], (place 1 start (length l), 0) ∷ [])
 
 -- a is what the rules answer of the line l, which stands at start, in the state s
 abbrev pub Says : Answer (State × List Entry) → ℕ → State → Bytes → Verdict → Type 0
-Says a start s l (verdict.Begin f) = Begun a start l f
+Says a start s l (verdict.Begin f) = Begun a start s l f
 Says a start s l (verdict.Entry kind w) = New a start s l kind w
 Says a start s l (verdict.Columns f n) = Ended a start s l f n
 Says a start s l (verdict.Refused x) = a ≡ refuse (number x)

@@ -1,31 +1,32 @@
+use Rattle.entries.proofs.Tables.{next-fits}
 use Rattle.columns.proofs.Stores.{columns}
 use borrow.Author.Needs.{needs}
 use Rattle.columns.proofs.header_line.write_columns.Statement.{statement}
 use Rattle.columns.proofs.header_line.write_columns.Tie as tie
 
 place-requires : tie.Need-place-requires
-place-requires c κs = search (columns, needs)
+place-requires c κs = search (columns, next-fits, needs)
 
 put-entry-requires : tie.Need-put-entry-requires
-put-entry-requires c κs = search (columns, needs)
+put-entry-requires c κs = search (columns, next-fits, needs)
 
 same-length : tie.Need-same-length
-same-length c = search (columns, needs)
+same-length c = search (columns, next-fits, needs)
 
 returns : tie.Need-returns
-returns c = search (columns, needs)
+returns c = search (columns, next-fits, needs)
 
 add-write-samples : tie.Need-add-write-samples
-add-write-samples c = search (columns, needs)
+add-write-samples c = search (columns, next-fits, needs)
 
 write-samples-requires : tie.Need-write-samples-requires
-write-samples-requires c κs = search (columns, needs)
+write-samples-requires c κs = search (columns, next-fits, needs)
 
 same-length-2 : tie.Need-same-length-2
-same-length-2 c = search (columns, needs)
+same-length-2 c = search (columns, next-fits, needs)
 
 returns-2 : tie.Need-returns-2
-returns-2 c = search (columns, needs)
+returns-2 c = search (columns, next-fits, needs)
 
 pub write-columns-spec : {M : Type 1} → statement M
 write-columns-spec =

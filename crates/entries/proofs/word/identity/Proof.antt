@@ -2,8 +2,6 @@ use Rattle.entries.proofs.Words.{identities}
 use borrow.Author.Needs.{needs}
 use Rattle.entries.proofs.word.identity.Statement.{statement}
 use Rattle.entries.proofs.word.identity.Tie as tie
-use Rattle.entries.proofs.word.identity.Reads as reads
-use Rattle.entries.proofs.word.identity.Lts as lts
 
 mul-upper : tie.Need-mul-upper
 mul-upper c = search (identities, needs)

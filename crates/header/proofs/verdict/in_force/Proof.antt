@@ -2,8 +2,6 @@ use Rattle.header.proofs.Verdicts.{forces}
 use borrow.Author.Needs.{needs}
 use Rattle.header.proofs.verdict.in_force.Statement.{statement}
 use Rattle.header.proofs.verdict.in_force.Tie as tie
-use Rattle.header.proofs.verdict.in_force.Reads as reads
-use Rattle.header.proofs.verdict.in_force.Lts as lts
 
 enum-told : tie.Need-enum-told
 enum-told c = search (forces, needs)

@@ -2,9 +2,6 @@ use Rattle.header.proofs.Verdicts.{all-columns}
 use borrow.Author.Needs.{needs}
 use Rattle.header.proofs.verdict.judge_columns.Statement.{statement}
 use Rattle.header.proofs.verdict.judge_columns.Tie as tie
-use Rattle.header.proofs.verdict.judge_columns.Reads as reads
-use Rattle.header.proofs.verdict.judge_columns.Lts as lts
-use Rattle.columns.proofs.header_line.parse_header.Reads as parse-header-reads
 
 parse-header-requires : tie.Need-parse-header-requires
 parse-header-requires c κs = search (all-columns, needs)

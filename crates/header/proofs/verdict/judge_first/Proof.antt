@@ -2,10 +2,6 @@ use Rattle.header.proofs.Verdicts.{firsts}
 use borrow.Author.Needs.{needs}
 use Rattle.header.proofs.verdict.judge_first.Statement.{statement}
 use Rattle.header.proofs.verdict.judge_first.Tie as tie
-use Rattle.header.proofs.verdict.judge_first.Reads as reads
-use Rattle.header.proofs.verdict.judge_first.Lts as lts
-use Rattle.header.proofs.verdict.in_force.Reads as in-force-reads
-use Rattle.records.proofs.record.parse_record.Reads as parse-record-reads
 
 parse-record-requires : tie.Need-parse-record-requires
 parse-record-requires c κs = search (firsts, needs)

@@ -2,9 +2,6 @@ use Rattle.header.proofs.Verdicts.{ids}
 use borrow.Author.Needs.{needs}
 use Rattle.header.proofs.verdict.judge_id.Statement.{statement}
 use Rattle.header.proofs.verdict.judge_id.Tie as tie
-use Rattle.header.proofs.verdict.judge_id.Reads as reads
-use Rattle.header.proofs.verdict.judge_id.Lts as lts
-use Rattle.ids.proofs.scan.find_clash.Reads as find-clash-reads
 
 find-clash-requires : tie.Need-find-clash-requires
 find-clash-requires c κs = search (ids, needs)

@@ -2,11 +2,6 @@ use Rattle.header.proofs.Verdicts.{all-lines}
 use borrow.Author.Needs.{needs}
 use Rattle.header.proofs.verdict.judge_line.Statement.{statement}
 use Rattle.header.proofs.verdict.judge_line.Tie as tie
-use Rattle.header.proofs.verdict.judge_line.Reads as reads
-use Rattle.header.proofs.verdict.judge_line.Lts as lts
-use Rattle.header.proofs.verdict.Phase.is_done.Reads as is-done-reads
-use Rattle.header.proofs.verdict.judge_text.Reads as judge-text-reads
-use Rattle.values.proofs.utf8.utf8.Reads as utf8-reads
 
 is-done-requires : tie.Need-is-done-requires
 is-done-requires c κs = search (all-lines, needs)

@@ -2,12 +2,6 @@ use Rattle.header.proofs.Verdicts.{map-judged}
 use borrow.Author.Needs.{needs}
 use Rattle.header.proofs.verdict.judge_map.Statement.{statement}
 use Rattle.header.proofs.verdict.judge_map.Tie as tie
-use Rattle.header.proofs.verdict.judge_map.Reads as reads
-use Rattle.header.proofs.verdict.judge_map.Lts as lts
-use Rattle.entries.proofs.word.identity.Reads as identity-reads
-use Rattle.header.proofs.verdict.judge_id.Reads as judge-id-reads
-use Rattle.records.proofs.key.Key.kind.Reads as kind-reads
-use Rattle.values.proofs.bytes.part.Reads as part-reads
 
 part-requires : tie.Need-part-requires
 part-requires c κs = search (map-judged, needs)

@@ -2,12 +2,6 @@ use Rattle.header.proofs.Verdicts.{records}
 use borrow.Author.Needs.{needs}
 use Rattle.header.proofs.verdict.judge_record.Statement.{statement}
 use Rattle.header.proofs.verdict.judge_record.Tie as tie
-use Rattle.header.proofs.verdict.judge_record.Reads as reads
-use Rattle.header.proofs.verdict.judge_record.Lts as lts
-use Rattle.header.proofs.verdict.judge_id.Reads as judge-id-reads
-use Rattle.header.proofs.verdict.judge_map.Reads as judge-map-reads
-use Rattle.records.proofs.record.parse_record.Reads as parse-record-reads
-use Rattle.values.proofs.bytes.part.Reads as part-reads
 
 parse-record-requires : tie.Need-parse-record-requires
 parse-record-requires c κs = search (records, needs)

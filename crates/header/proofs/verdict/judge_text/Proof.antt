@@ -2,12 +2,6 @@ use Rattle.header.proofs.Verdicts.{texts}
 use borrow.Author.Needs.{needs}
 use Rattle.header.proofs.verdict.judge_text.Statement.{statement}
 use Rattle.header.proofs.verdict.judge_text.Tie as tie
-use Rattle.header.proofs.verdict.judge_text.Reads as reads
-use Rattle.header.proofs.verdict.judge_text.Lts as lts
-use Rattle.header.proofs.verdict.judge_columns.Reads as judge-columns-reads
-use Rattle.header.proofs.verdict.judge_first.Reads as judge-first-reads
-use Rattle.header.proofs.verdict.judge_record.Reads as judge-record-reads
-use Rattle.values.proofs.bytes.starts_with.Reads as starts-with-reads
 
 enum-told : tie.Need-enum-told
 enum-told c = search (texts, needs)

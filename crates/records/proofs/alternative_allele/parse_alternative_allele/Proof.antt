@@ -2,9 +2,6 @@ use Rattle.records.proofs.Typed.{described-alternative-allele}
 use borrow.Author.Needs.{needs}
 use Rattle.records.proofs.alternative_allele.parse_alternative_allele.Statement.{statement}
 use Rattle.records.proofs.alternative_allele.parse_alternative_allele.Tie as tie
-use Rattle.records.proofs.alternative_allele.parse_alternative_allele.Reads as reads
-use Rattle.records.proofs.alternative_allele.parse_alternative_allele.Lts as lts
-use Rattle.records.proofs.map.parse_described.Reads as parse-described-reads
 
 parse-described-requires : tie.Need-parse-described-requires
 parse-described-requires c κs = search needs

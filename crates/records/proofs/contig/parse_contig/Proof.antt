@@ -2,9 +2,6 @@ use Rattle.records.proofs.Typed.{identified-contig}
 use borrow.Author.Needs.{needs}
 use Rattle.records.proofs.contig.parse_contig.Statement.{statement}
 use Rattle.records.proofs.contig.parse_contig.Tie as tie
-use Rattle.records.proofs.contig.parse_contig.Reads as reads
-use Rattle.records.proofs.contig.parse_contig.Lts as lts
-use Rattle.records.proofs.map.parse_identified.Reads as parse-identified-reads
 
 parse-identified-requires : tie.Need-parse-identified-requires
 parse-identified-requires c κs = search needs

@@ -2,9 +2,6 @@ use Rattle.records.proofs.Typed.{described-filter}
 use borrow.Author.Needs.{needs}
 use Rattle.records.proofs.filter.parse_filter.Statement.{statement}
 use Rattle.records.proofs.filter.parse_filter.Tie as tie
-use Rattle.records.proofs.filter.parse_filter.Reads as reads
-use Rattle.records.proofs.filter.parse_filter.Lts as lts
-use Rattle.records.proofs.map.parse_described.Reads as parse-described-reads
 
 parse-described-requires : tie.Need-parse-described-requires
 parse-described-requires c κs = search needs

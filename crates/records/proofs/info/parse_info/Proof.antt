@@ -2,9 +2,6 @@ use Rattle.records.proofs.Typed.{all-typed}
 use borrow.Author.Needs.{needs}
 use Rattle.records.proofs.info.parse_info.Statement.{statement}
 use Rattle.records.proofs.info.parse_info.Tie as tie
-use Rattle.records.proofs.info.parse_info.Reads as reads
-use Rattle.records.proofs.info.parse_info.Lts as lts
-use Rattle.records.proofs.map.parse_map.Reads as parse-map-reads
 
 parse-map-requires : tie.Need-parse-map-requires
 parse-map-requires c κs = search (all-typed, needs)

@@ -2,9 +2,6 @@ use Rattle.records.proofs.Required.{described}
 use borrow.Author.Needs.{needs}
 use Rattle.records.proofs.map.parse_described.Statement.{statement}
 use Rattle.records.proofs.map.parse_described.Tie as tie
-use Rattle.records.proofs.map.parse_described.Reads as reads
-use Rattle.records.proofs.map.parse_described.Lts as lts
-use Rattle.records.proofs.map.parse_map.Reads as parse-map-reads
 
 parse-map-requires : tie.Need-parse-map-requires
 parse-map-requires c κs = search (described, needs)

@@ -2,11 +2,6 @@ use Rattle.records.proofs.Records.{keys}
 use borrow.Author.Needs.{needs}
 use Rattle.records.proofs.record.parse_key.Statement.{statement}
 use Rattle.records.proofs.record.parse_key.Tie as tie
-use Rattle.records.proofs.record.parse_key.Reads as reads
-use Rattle.records.proofs.record.parse_key.Lts as lts
-use Rattle.records.proofs.key.key_of.Reads as key-of-reads
-use Rattle.values.proofs.bytes.find.Reads as find-reads
-use Rattle.values.proofs.bytes.part.Reads as part-reads
 
 find-requires : tie.Need-find-requires
 find-requires c κs = search (keys, needs)

@@ -2,11 +2,6 @@ use Rattle.records.proofs.Records.{records}
 use borrow.Author.Needs.{needs}
 use Rattle.records.proofs.record.parse_record.Statement.{statement}
 use Rattle.records.proofs.record.parse_record.Tie as tie
-use Rattle.records.proofs.record.parse_record.Reads as reads
-use Rattle.records.proofs.record.parse_record.Lts as lts
-use Rattle.records.proofs.record.consume_prefix.Reads as consume-prefix-reads
-use Rattle.records.proofs.record.parse_key.Reads as parse-key-reads
-use Rattle.records.proofs.value.parse_value.Reads as parse-value-reads
 
 consume-prefix-requires : tie.Need-consume-prefix-requires
 consume-prefix-requires c κs = search (records, needs)

@@ -2,10 +2,6 @@ use Rattle.records.proofs.Declares.{defined}
 use borrow.Author.Needs.{needs}
 use Rattle.records.proofs.value.is_defined.Statement.{statement}
 use Rattle.records.proofs.value.is_defined.Tie as tie
-use Rattle.records.proofs.value.is_defined.Reads as reads
-use Rattle.records.proofs.value.is_defined.Lts as lts
-use Rattle.records.proofs.number.Number.is.Reads as number-Number-is-reads
-use Rattle.records.proofs.number.ValueType.is.Reads as number-ValueType-is-reads
 
 enum-told : tie.Need-enum-told
 enum-told c = search (defined, needs)

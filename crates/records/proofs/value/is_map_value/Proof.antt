@@ -2,11 +2,6 @@ use Rattle.records.proofs.Records.{are-maps}
 use borrow.Author.Needs.{needs}
 use Rattle.records.proofs.value.is_map_value.Statement.{statement}
 use Rattle.records.proofs.value.is_map_value.Tie as tie
-use Rattle.records.proofs.value.is_map_value.Reads as reads
-use Rattle.records.proofs.value.is_map_value.Lts as lts
-use Rattle.records.proofs.key.Key.is_always_map.Reads as is-always-map-reads
-use Rattle.records.proofs.key.Key.is_typed.Reads as is-typed-reads
-use Rattle.records.proofs.map.is_map.Reads as is-map-reads
 
 is-typed-requires : tie.Need-is-typed-requires
 is-typed-requires c κs = search (are-maps, needs)

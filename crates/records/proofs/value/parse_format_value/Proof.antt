@@ -2,10 +2,6 @@ use Rattle.records.proofs.Records.{with-definition}
 use borrow.Author.Needs.{needs}
 use Rattle.records.proofs.value.parse_format_value.Statement.{statement}
 use Rattle.records.proofs.value.parse_format_value.Tie as tie
-use Rattle.records.proofs.value.parse_format_value.Reads as reads
-use Rattle.records.proofs.value.parse_format_value.Lts as lts
-use Rattle.records.proofs.format.parse_format.Reads as parse-format-reads
-use Rattle.records.proofs.value.validate_format_definition.Reads as validate-format-definition-reads
 
 parse-format-requires : tie.Need-parse-format-requires
 parse-format-requires c κs = search (with-definition, needs)

@@ -2,10 +2,6 @@ use Rattle.records.proofs.Records.{with-definition}
 use borrow.Author.Needs.{needs}
 use Rattle.records.proofs.value.parse_info_value.Statement.{statement}
 use Rattle.records.proofs.value.parse_info_value.Tie as tie
-use Rattle.records.proofs.value.parse_info_value.Reads as reads
-use Rattle.records.proofs.value.parse_info_value.Lts as lts
-use Rattle.records.proofs.info.parse_info.Reads as parse-info-reads
-use Rattle.records.proofs.value.validate_info_definition.Reads as validate-info-definition-reads
 
 parse-info-requires : tie.Need-parse-info-requires
 parse-info-requires c κs = search (with-definition, needs)

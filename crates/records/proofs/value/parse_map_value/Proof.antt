@@ -3,17 +3,6 @@ use Rattle.records.proofs.Typed.{identified-file-format}
 use borrow.Author.Needs.{needs}
 use Rattle.records.proofs.value.parse_map_value.Statement.{statement}
 use Rattle.records.proofs.value.parse_map_value.Tie as tie
-use Rattle.records.proofs.value.parse_map_value.Reads as reads
-use Rattle.records.proofs.value.parse_map_value.Lts as lts
-use Rattle.records.proofs.alternative_allele.parse_alternative_allele.Reads as parse-alternative-allele-reads
-use Rattle.records.proofs.contig.parse_contig.Reads as parse-contig-reads
-use Rattle.records.proofs.filter.parse_filter.Reads as parse-filter-reads
-use Rattle.records.proofs.map.parse_identified.Reads as parse-identified-reads
-use Rattle.records.proofs.other.parse_meta.Reads as parse-meta-reads
-use Rattle.records.proofs.other.parse_other.Reads as parse-other-reads
-use Rattle.records.proofs.other.parse_pedigree.Reads as parse-pedigree-reads
-use Rattle.records.proofs.value.parse_format_value.Reads as parse-format-value-reads
-use Rattle.records.proofs.value.parse_info_value.Reads as parse-info-value-reads
 
 enum-told : tie.Need-enum-told
 enum-told c = search (map-told, needs)

@@ -2,13 +2,6 @@ use Rattle.records.proofs.Records.{values}
 use borrow.Author.Needs.{needs}
 use Rattle.records.proofs.value.parse_value.Statement.{statement}
 use Rattle.records.proofs.value.parse_value.Tie as tie
-use Rattle.records.proofs.value.parse_value.Reads as reads
-use Rattle.records.proofs.value.parse_value.Lts as lts
-use Rattle.records.proofs.file_format.parse_file_format.Reads as parse-file-format-reads
-use Rattle.records.proofs.key.Key.is_file_format.Reads as is-file-format-reads
-use Rattle.records.proofs.value.is_map_value.Reads as is-map-value-reads
-use Rattle.records.proofs.value.parse_map_value.Reads as parse-map-value-reads
-use Rattle.values.proofs.bytes.part.Reads as part-reads
 
 is-file-format-requires : tie.Need-is-file-format-requires
 is-file-format-requires c κs = search (values, needs)

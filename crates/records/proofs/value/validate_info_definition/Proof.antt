@@ -2,12 +2,6 @@ use Rattle.records.proofs.Declares.{declared}
 use borrow.Author.Needs.{needs}
 use Rattle.records.proofs.value.validate_info_definition.Statement.{statement}
 use Rattle.records.proofs.value.validate_info_definition.Tie as tie
-use Rattle.records.proofs.value.validate_info_definition.Reads as reads
-use Rattle.records.proofs.value.validate_info_definition.Lts as lts
-use Rattle.records.proofs.definition.info_definition.Reads as info-definition-reads
-use Rattle.records.proofs.file_format.FileFormat.lt.Reads as lt-reads
-use Rattle.records.proofs.value.is_defined.Reads as is-defined-reads
-use Rattle.values.proofs.bytes.part.Reads as part-reads
 
 lt-requires : tie.Need-lt-requires
 lt-requires c κs = search (declared, needs) depth 9

@@ -3,8 +3,6 @@ use Rattle.values.specs.Bytes.{same}
 use borrow.Author.Needs.{needs}
 use Rattle.records.proofs.key.Key.is_file_format.Statement.{statement}
 use Rattle.records.proofs.key.Key.is_file_format.Tie as tie
-use Rattle.records.proofs.key.Key.is_file_format.Reads as reads
-use Rattle.records.proofs.key.Key.is_file_format.Lts as lts
 
 enum-told : tie.Need-enum-told
 enum-told c = search needs

@@ -2,9 +2,6 @@ use Rattle.records.proofs.Keys.{typed-by-kind}
 use borrow.Author.Needs.{needs}
 use Rattle.records.proofs.key.Key.is_typed.Statement.{statement}
 use Rattle.records.proofs.key.Key.is_typed.Tie as tie
-use Rattle.records.proofs.key.Key.is_typed.Reads as reads
-use Rattle.records.proofs.key.Key.is_typed.Lts as lts
-use Rattle.records.proofs.key.Key.kind.Reads as kind-reads
 
 kind-requires : tie.Need-kind-requires
 kind-requires c κs = search (typed-by-kind, needs)

@@ -1,0 +1,8 @@
+pub mod Quotes
+pub mod Fields
+pub mod Walks
+pub mod Searches
+pub mod Names
+pub mod Copies
+pub mod Forms
+pub mod Lines

@@ -1,0 +1,111 @@
+// A whole line of the house form, from a line of a header.
+use crate::field;
+use crate::known;
+use crate::others;
+use records::file_format::FileFormat;
+use records::key::Key;
+use records::record;
+use records::record::RecordRead;
+use values::bytes;
+use values::output;
+use values::string::Text;
+ghost use mathlib.Core.Path.{_≡_};
+ghost use Rattle.values.specs.Written.{Wrote};
+ghost use Rattle.rules.specs.Lines.{ends};
+ghost use Rattle.rules.specs.Map.{isMeta};
+ghost use Rattle.records.specs.Formats.{versionOf};
+ghost use Rattle.records.specs.Keys.{bytesOf};
+ghost use Rattle.forms.specs.Lines.{fieldsText, mapText, ending, PutsRecord, PutsLine};
+
+// The place after a line's text, and the place after its ending: what does not fit is counted and not written.
+pub struct LineWritten {
+    pub end: usize,
+    pub next: usize,
+}
+
+// The fields that stand at `start`, past the map's `<`. `meta`: the map is a META, from 4.3.
+fn put_fields(
+    out: &mut [u8],
+    at: usize,
+    s: &[u8],
+    start: usize,
+    meta: bool,
+    key: Key,
+    id: Text,
+    tag: u8,
+    version: FileFormat,
+) -> usize
+    ensures { λ r. ⌜ Wrote (now (out .entry)) at (fieldsText key (versionOf version) meta (now (s .entry)) start id tag) r (now (out .exit)) ⌝ }
+{
+    let identified = field::put_id(out, at, s, id, tag, meta);
+    let listed = known::put_known_fields(out, identified, s, start, meta, key);
+    others::put_others(out, listed, s, start, meta, key, version)
+}
+
+fn put_map(
+    out: &mut [u8],
+    at: usize,
+    s: &[u8],
+    start: usize,
+    key: Key,
+    id: Text,
+    tag: u8,
+    version: FileFormat,
+) -> usize
+    ensures { λ r. ⌜ Wrote (now (out .entry)) at (mapText key (versionOf version) (isMeta (versionOf version) (bytesOf key)) (now (s .entry)) start id tag) r (now (out .exit)) ⌝ }
+{
+    let meta = key.has_brackets(version);
+    let opened = output::put_bytes(out, at, bytes::part(s, 0, start));
+    let filled = put_fields(out, opened, s, start, meta, key, id, tag, version);
+    output::put_byte(out, filled, b'>')
+}
+
+// The line s, a map or a text, without an ending; of a fileformat line or a refused one nothing is written.
+pub fn put_record(out: &mut [u8], at: usize, s: &[u8], version: FileFormat) -> usize
+    ensures { λ r. ⌜ PutsRecord (versionOf version) (now (s .entry)) (now (out .entry)) at r (now (out .exit)) ⌝ }
+{
+    match record::parse_record(s, version) {
+        RecordRead::FileFormat(_) => at,
+        RecordRead::Map(key, value, id, tag) => {
+            if s.len() <= value {
+                return at;
+            }
+            put_map(out, at, s, value + 1, key, id, tag, version)
+        }
+        RecordRead::Text(_) => output::put_bytes(out, at, s),
+        RecordRead::Refused(_) => at,
+    }
+}
+
+// Whether the last byte is CR.
+pub fn ends_with_cr(s: &[u8]) -> bool
+    ensures { λ r. ⌜ r ≡ ends 13 (now (s .entry)) ⌝ }
+{
+    if s.len() == 0 {
+        return false;
+    }
+    let last = s.len() - 1;
+    s[last] == 13
+}
+
+// LF, or CR LF after a line whose own last byte is CR.
+pub fn end_line(out: &mut [u8], at: usize, cr: bool) -> usize
+    ensures { λ r. ⌜ Wrote (now (out .entry)) at (ending cr) r (now (out .exit)) ⌝ }
+{
+    if cr {
+        let next = output::put_byte(out, at, 13);
+        return output::put_byte(out, next, 10);
+    }
+    output::put_byte(out, at, 10)
+}
+
+// The same with its ending, which the last byte of s tells: a map's line ends in `>` as read and as written. Of a line of which
+// put_record writes nothing, the ending alone.
+pub fn put_line(out: &mut [u8], at: usize, s: &[u8], version: FileFormat) -> LineWritten
+    ensures { λ r. ⌜ PutsLine (versionOf version) (now (s .entry)) (now (out .entry)) at r (now (out .exit)) ⌝ }
+{
+    let end = put_record(out, at, s, version);
+    let cr = ends_with_cr(s);
+    let next = end_line(out, end, cr);
+    LineWritten { end, next }
+}

@@ -1,0 +1,438 @@
+-- One line after the other: what is left of the header, read from here, gives the whole. Assumes nothing.
+use Prim.Native.Nat.{ℕ, zero, suc, _+_, _-_, _*_, _/_, _%_, _≤_, _<_}
+use native.Mathlib.Omega.{arith}
+use mathlib.Core.Path.{_≡_, refl, sym, ap, ap₂, subst, _∙_}
+use mathlib.Core.Bool.{Bool, true, false, not, false≢true}
+use mathlib.Core.List.{List, [], _∷_, _++_, append-assoc, append-nil}
+use mathlib.Core.Option.{Option, none, some}
+use lib.Dec.{leb}
+use lib.ListN.{length, take, drop, length-append}
+use lib.Seq.{sets, length-sets, sets-eq}
+use borrow.Author.Tests.{le-leb, lt-leb}
+use Rattle.values.specs.Bytes.{Bytes, LF, is, any}
+use Rattle.values.proofs.Tests.{not-true, not-false}
+use Rattle.values.proofs.Fields.{part}
+use Rattle.values.proofs.Outputs.{sets-append}
+use Rattle.rules.specs.Answer.{Answer, ok, refuse}
+use Rattle.rules.specs.Sizes.{limits}
+use Rattle.rules.specs.Version.{Version}
+use Rattle.rules.specs.Lines.{pieces, lineOf}
+use Rattle.rules.specs.Record.{Record}
+use Rattle.rules.specs.Columns.{Columns}
+use Rattle.rules.specs.Entry.{Entry, place, recordEntry, columnEntries, words}
+use Rattle.rules.specs.Shown.{kindIn}
+use Rattle.rules.specs.Reading.{State, empty, ready, done, step, Reading, stop, following, atEnd, run, reading}
+use Rattle.rules.proofs.Firsts.{OnOk, on-ok}
+use Rattle.rules.proofs.Pieces.{Piece, Pieces, piece-line, pieces-fine}
+use Rattle.rules.proofs.Sound.{Good, good-snoc, samples-count, run-refused, run-full, run-more}
+use Rattle.rules.proofs.Trace.{LineAt, Row, Rows, Taken, step-taken, FirstLine, first-line}
+use Rattle.rules.proofs.Shows.{place-kind, words-count}
+use Rattle.records.specs.Formats.{versionOf}
+use Rattle.records.specs.Refusals.{number}
+use Rattle.records.proofs.Refusals.{number-suc}
+use Rattle.records.specs.declared.file_format.FileFormat.{FileFormat}
+use Rattle.records.specs.declared.refusal.Refusal.{Refusal}
+use Rattle.records.specs.declared.refusal.Refusal.the-variants.{TableFull, Empty, MissingHeader, HeaderTooLong}
+use Rattle.entries.specs.Tables.{EntryPut}
+use Rattle.lines.specs.Lines.{PieceIs, LineIs}
+use Rattle.lines.specs.declared.line.Line.{Line}
+use Rattle.lines.proofs.Lines.{pieces-past, SomePiece, pieces-there}
+use Rattle.columns.specs.HeaderLines.{ColumnsWritten}
+use Rattle.columns.proofs.Answers.{columns-room}
+use Rattle.header.specs.Verdicts.{PhaseIs, ReadyRows, Tabled, Says, New, Ended, Begun, LineJudged}
+use Rattle.header.specs.Parsers.{outcomeNumber, told, tells, acceptedIn, Kept, LineHere, Stops, PartialIs, Bounds, Keeps, Parses, Finishes}
+use Rattle.header.specs.declared.verdict.Phase.{Phase}
+use Rattle.header.specs.declared.verdict.Phase.the-variants as phase
+use Rattle.header.specs.declared.verdict.Verdict.{Verdict}
+use Rattle.header.specs.declared.verdict.Verdict.the-variants as verdict
+use Rattle.header.specs.declared.parser.Outcome.the-variants as outcome
+use Rattle.header.specs.declared.parser.ReadAnswer.{ReadAnswer}
+use Rattle.header.specs.declared.parser.Parser.{Parser}
+use Rattle.header.specs.declared.parser.Partial.{Partial}
+use Rattle.header.specs.declared.parser.Partial.the-variants as partial
+
+-- Words and entries
+
+words-append : (es fs : List Entry) → words (es ++ fs) ≡ words es ++ words fs
+unfolding words
+words-append [] fs = refl
+words-append (e ∷ es) fs = ap (λ (x : List ℕ). e .0 ∷ e .1 ∷ x) (words-append es fs)
+
+following-append : (es fs : List Entry) (r : Reading) → following es (following fs r) ≡ following (es ++ fs) r
+following-append es fs r = ap (λ (x : List Entry). record { number = r .number; line = r .line; start = r .start; entries = x; state = r .state }) (sym (append-assoc es fs (r .entries)))
+
+-- the entries stored after those before them
+sets-more : (t₀ : List ℕ) (es fs : List Entry) {t : List ℕ} → t ≡ sets t₀ 0 (words es) → {n : ℕ} → length es ≡ n → sets t (2 * n) (words fs) ≡ sets t₀ 0 (words (es ++ fs))
+sets-more t₀ es fs e {n} c =
+    let i : 2 * n ≡ 0 + length (words es) = omega (arith, c, words-count es) in
+    rw (e, i) (sets-append t₀ 0 (words es) (words fs) ∙ ap (sets t₀ 0) (sym (words-append es fs)))
+
+rows-snoc : (h : Bytes) (v : Version) (es : List Entry) (rs : List Record) (e : Entry) (r : Record) → Rows limits h v es rs → Row limits h v e r → Rows limits h v (es ++ e ∷ []) (rs ++ r ∷ [])
+rows-snoc h v [] [] e r a b = (b, tt)
+rows-snoc h v [] (x ∷ rs) e r a b = absurd a
+rows-snoc h v (y ∷ es) [] e r a b = absurd a
+rows-snoc h v (y ∷ es) (x ∷ rs) e r a b = (a .0, rows-snoc h v es rs e r (a .1) b)
+
+-- One line
+
+module _ (imposed : Option Version) (h t₀ t : List ℕ) (p : Parser) (l : Bytes) (next : ℕ) (k : Kept imposed h t₀ t p) (here : LineHere h (p .at) l next) where
+  abbrev answer : Answer (State × List Entry)
+  answer = step limits imposed (p .at) (k .state) l
+
+  sized : length t ≡ length t₀
+  sized = ap length (k .stored) ∙ length-sets t₀ 0 (words (k .es))
+
+  -- the reading, with this line in front of what is left
+  unrolled : reading limits imposed (length t₀) h
+      ≡ following (k .es) (run limits imposed (length t₀) (p .line) (p .at) (p .count) (k .state) (here .piece ∷ here .pieces-after))
+  unrolled = k .rest ∙ ap (λ (ps : List Bytes). following (k .es) (run limits imposed (length t₀) (p .line) (p .at) (p .count) (k .state) ps)) (here .first)
+
+  of-piece : {a : Answer (State × List Entry)} → answer ≡ a → step limits imposed (p .at) (k .state) (lineOf (here .piece)) ≡ a
+  of-piece e = ap (step limits imposed (p .at) (k .state)) (sym (here .is-line)) ∙ e
+
+  line-stops : (x : Refusal) → answer ≡ refuse (number x) → Stops imposed h t₀ t p x
+  line-stops x e = record {
+    state = k .state;
+    es = k .es;
+    stored = k .stored;
+    counted = k .counted;
+    whole = unrolled ∙ ap (following (k .es)) (run-refused limits imposed (length t₀) (p .line) (p .at) (p .count) (k .state) (here .piece) (here .pieces-after) (of-piece e));
+  }
+
+  module _ {q : State × List Entry} (e : answer ≡ ok q) where
+    line-full : length t < 2 * (p .count + length (q .1)) → Stops imposed h t₀ t p TableFull
+    line-full f = record {
+      state = k .state;
+      es = k .es;
+      stored = k .stored;
+      counted = k .counted;
+      whole = unrolled ∙ ap (following (k .es)) (run-full limits imposed (length t₀) (p .line) (p .at) (p .count) (k .state) (here .piece) (here .pieces-after) (of-piece e)
+          (lt-leb (2 * (p .count + length (q .1))) (length t₀) (omega (arith, sized))));
+    }
+
+    line-kept : 2 * (p .count + length (q .1)) ≤ length t → {t′ : List ℕ} → t′ ≡ sets t (2 * p .count) (words (q .1)) → (x : Phase) → PhaseIs x (q .0) → Tabled h (q .0) (k .es ++ q .1)
+        → {n : ℕ} → n ≡ p .count + length (q .1)
+        → Kept imposed h t₀ t′ (record { phase = x; line = p .line + 1; at = next; count = n }) × (p .at < next)
+    line-kept f {t′} s x ph tb {n} c =
+        let i : suc (p .line) ≡ p .line + 1 = omega arith in (
+          record {
+            state = q .0;
+            es = k .es ++ q .1;
+            phase-is = ph;
+            tabled = tb;
+            stored = s ∙ sets-more t₀ (k .es) (q .1) (k .stored) (k .counted);
+            counted = length-append (k .es) (q .1) ∙ ap (_+ length (q .1)) (k .counted) ∙ sym c;
+            room = omega (arith, sized, c);
+            lines = omega (arith, k .lines, here .moves);
+            inside = here .inside;
+            small = k .small;
+            rest = unrolled
+                ∙ ap (following (k .es)) (
+                run-more limits imposed (length t₀) (p .line) (p .at) (p .count) (k .state) (here .piece) (here .pieces-after) (of-piece e) (le-leb (2 * (p .count + length (q .1))) (length t₀) (omega (arith, sized)))
+                ∙ rw (i, ← here .stepped, ← c, ← here .left))
+                ∙ following-append (k .es) (q .1) (run limits imposed (length t₀) (p .line + 1) next n (q .0) (pieces (drop next h)));
+          },
+          here .moves,
+        )
+
+    line-taken : Taken limits imposed (p .at) (k .state) l q
+    line-taken = on-ok (Taken limits imposed (p .at) (k .state) l) (step-taken limits imposed (p .at) (k .state) l) e
+
+    line-at : LineAt limits h (p .at) l
+    line-at =
+        let f = first-line h (p .at) (here .piece) (here .pieces-after) (k .inside) (here .first) in
+        record {
+          here = ap (λ (x : Bytes). part h (p .at) (p .at + length x)) (here .is-line) ∙ f .here ∙ sym (here .is-line);
+          inside = subst (λ (x : Bytes). p .at + length x ≤ length h) (sym (here .is-line)) (f .inside);
+          short = line-taken .0;
+          utf8 = line-taken .1;
+        }
+
+    in-place : (kind : ℕ) → kind < 16 → place (kind % 16) (p .at % 1048576) (length l % 65536) ≡ place kind (p .at) (length l)
+    in-place kind s =
+        let a : kind % 16 ≡ kind = omega arith in
+        let b : p .at % 1048576 ≡ p .at = omega (arith, k .inside, k .small) in
+        let c : length l % 65536 ≡ length l = omega (arith, line-taken .0) in
+        rw (a, b, c)
+
+-- What is kept of a line
+
+div-half : (n : ℕ) → (2 * (n / 2) ≤ n) × (n ≤ 2 * (n / 2) + 1)
+div-half n = (omega arith, omega arith)
+
+full-stops : {imposed : Option Version} {h t₀ t t′ : List ℕ} {p : Parser} {x : Refusal} → t′ ≡ t → Stops imposed h t₀ t p x → Stops imposed h t₀ t′ p x
+full-stops e s = record { state = s .state; es = s .es; stored = e ∙ s .stored; counted = s .counted; whole = s .whole }
+
+module _ (p : Parser) (l : Bytes) (next : ℕ) (v : Verdict) (t : List ℕ) where
+  pub keep-refused : {x : Refusal} → v ≡ verdict.Refused x → Keeps p l next v t (partial.Refused x) t
+  keep-refused {x} e = record {
+    is = λ imposed h t₀ k here s.
+        line-stops imposed h t₀ t p l next k here x (subst (Says (step limits imposed (p .at) (k .state) l) (p .at) (k .state) l) e s);
+  }
+
+  module _ {f : FileFormat} (e : v ≡ verdict.Begin f) {w : ℕ} (a : w ≡ place 1 (p .at % 1048576) (length l % 65536)) {q : Bool} {t′ : List ℕ} (b : EntryPut t (2 * p .count) w 0 q t′) where
+    begun : (imposed : Option Version) (h t₀ : List ℕ) (k : Kept imposed h t₀ t p) → Says (step limits imposed (p .at) (k .state) l) (p .at) (k .state) l v
+        → Begun (step limits imposed (p .at) (k .state) l) (p .at) (k .state) l f
+    begun imposed h t₀ k s = subst (Says (step limits imposed (p .at) (k .state) l) (p .at) (k .state) l) e s
+
+    pub begin-full : not q ≡ true → Keeps p l next v t (partial.Refused TableFull) t′
+    begin-full d = record {
+      is = λ imposed h t₀ k here s.
+          let g = begun imposed h t₀ k s in
+          full-stops (b .same (not-true q d)) (line-full imposed h t₀ t p l next k here (g .begins) (omega (arith, b .full (not-true q d))));
+    }
+
+    pub begin-kept : not q ≡ false → Keeps p l next v t (partial.Next (record { phase = phase.Ready f; line = p .line + 1; at = next; count = p .count + 1 })) t′
+    unfolding words
+    begin-kept d = record {
+      is = λ imposed h t₀ k here s.
+          let g = begun imposed h t₀ k s in
+          let none : k .es ≡ [] = subst (λ (x : State). Tabled h x (k .es)) (g .state) (k .tabled) in
+          let own = in-place imposed h t₀ t p l next k here (g .begins) 1 (omega arith) in
+          let long = line-at imposed h t₀ t p l next k here (g .begins) in
+          line-kept imposed h t₀ t p l next k here (g .begins) (omega (arith, b .room (not-false q d)))
+          (b .stored (not-false q d) ∙ ap (λ (i : ℕ). sets t (2 * p .count) (i ∷ 0 ∷ [])) (a ∙ own)) (phase.Ready f) refl
+          (record {
+            own = (place 1 (p .at) (length l), 0);
+            rows = [];
+            is = ap (_++ (place 1 (p .at) (length l), 0) ∷ []) none;
+            kind = place-kind 1 (p .at) (length l) (omega arith) (omega (arith, k .inside, k .small)) (omega (arith, long .short));
+            all = tt;
+            good = record { sized = g .sized; good = tt; apart = tt };
+          })
+          refl;
+    }
+
+  module _ {kind x : ℕ} (e : v ≡ verdict.Entry kind x) {w : ℕ} (a : w ≡ place (kind % 16) (p .at % 1048576) (length l % 65536)) {q : Bool} {t′ : List ℕ} (b : EntryPut t (2 * p .count) w x q t′) where
+    entered : (imposed : Option Version) (h t₀ : List ℕ) (k : Kept imposed h t₀ t p) → Says (step limits imposed (p .at) (k .state) l) (p .at) (k .state) l v
+        → New (step limits imposed (p .at) (k .state) l) (p .at) (k .state) l kind x
+    entered imposed h t₀ k s = subst (Says (step limits imposed (p .at) (k .state) l) (p .at) (k .state) l) e s
+
+    pub entry-full : not q ≡ true → Keeps p l next v t (partial.Refused TableFull) t′
+    entry-full d = record {
+      is = λ imposed h t₀ k here s.
+          let g = entered imposed h t₀ k s in
+          full-stops (b .same (not-true q d)) (line-full imposed h t₀ t p l next k here (g .enters) (omega (arith, b .full (not-true q d))));
+    }
+
+    pub entry-kept : not q ≡ false → Keeps p l next v t (partial.Next (record { phase = p .phase; line = p .line + 1; at = next; count = p .count + 1 })) t′
+    unfolding words
+    entry-kept d = record {
+      is = λ imposed h t₀ k here s.
+          let g = entered imposed h t₀ k s in
+          let rows = subst (λ (x : State). Tabled h x (k .es)) (g .state) (k .tabled) in
+          let own = in-place imposed h t₀ t p l next k here (g .enters) kind (g .small) in
+          line-kept imposed h t₀ t p l next k here (g .enters) (omega (arith, b .room (not-false q d)))
+          (b .stored (not-false q d) ∙ ap (λ (i : ℕ). sets t (2 * p .count) (i ∷ x ∷ [])) (a ∙ own) ∙ ap (λ (i : Entry). sets t (2 * p .count) (words (i ∷ []))) (sym (g .entry)))
+          (p .phase) (same-phase (p .phase) (g .v) (g .rs) (g .rs ++ g .r ∷ []) (subst (PhaseIs (p .phase)) (g .state) (k .phase-is)))
+          (record {
+            own = rows .own;
+            rows = rows .rows ++ recordEntry (g .v) (p .at) l (g .r) ∷ [];
+            is = ap (_++ recordEntry (g .v) (p .at) l (g .r) ∷ []) (rows .is);
+            kind = rows .kind;
+            all = rows-snoc h (g .v) (rows .rows) (g .rs) (recordEntry (g .v) (p .at) l (g .r)) (g .r) (rows .all)
+                (record { start = p .at; line = l; there = line-at imposed h t₀ t p l next k here (g .enters); read = g .read; entry = refl });
+            good = good-snoc (g .v) (g .rs) (g .r) (rows .good) (g .entered) (g .fresh);
+          })
+          refl;
+    }
+      where
+        same-phase : (x : Phase) (v : Version) (rs ss : List Record) → PhaseIs x (ready v rs) → PhaseIs x (ready v ss)
+        same-phase phase.Empty v rs ss h = h
+        same-phase (phase.Ready f) v rs ss h = h
+        same-phase (phase.Done f n) v rs ss h = h
+
+  module _ {f : FileFormat} {n : ℕ} (e : v ≡ verdict.Columns f n) where
+    ended : (imposed : Option Version) (h t₀ : List ℕ) (k : Kept imposed h t₀ t p) → Says (step limits imposed (p .at) (k .state) l) (p .at) (k .state) l v
+        → Ended (step limits imposed (p .at) (k .state) l) (p .at) (k .state) l f n
+    ended imposed h t₀ k s = subst (Says (step limits imposed (p .at) (k .state) l) (p .at) (k .state) l) e s
+
+    entries-of : {a : Answer (State × List Entry)} {s : State} (g : Ended a (p .at) s l f n) → length (columnEntries (p .at) l (g .c)) ≡ 1 + n
+    entries-of g = let a = columns-room (p .at) l (g .c) in let b = words-count (columnEntries (p .at) l (g .c)) in omega (arith, g .count)
+
+    pub columns-full : length t / 2 - p .count ≤ n → 2 * p .count ≤ length t → Keeps p l next v t (partial.Refused TableFull) t
+    columns-full d bound = record {
+      is = λ imposed h t₀ k here s.
+          let g = ended imposed h t₀ k s in
+          line-full imposed h t₀ t p l next k here (g .ends) (omega (arith, entries-of g, div-half (length t)));
+    }
+
+    pub columns-kept : n < length t / 2 - p .count → {t′ : List ℕ} → ColumnsWritten l (p .at) (2 * p .count) t t′
+        → Keeps p l next v t (partial.Next (record { phase = phase.Done f n; line = p .line + 1; at = next; count = p .count + 1 + n })) t′
+    columns-kept d c = record {
+      is = λ imposed h t₀ k here s.
+          let g = ended imposed h t₀ k s in
+          let m = entries-of g in
+          let long = line-at imposed h t₀ t p l next k here (g .ends) in
+          line-kept imposed h t₀ t p l next k here (g .ends) (omega (arith, m, div-half (length t)))
+          (c .is (g .c) (g .read) (omega (arith, m, words-count (columnEntries (p .at) l (g .c)), div-half (length t))) (omega (arith, long .inside, k .small)) (omega (arith, long .short)))
+          (phase.Done f n) (refl, g .count) tt (omega (arith, m));
+    }
+
+pub ruleset keeps = (keep-refused, begin-full, begin-kept, entry-full, entry-kept, columns-full, columns-kept)
+
+-- One line: found, judged, kept
+
+take-sets : (t₀ : List ℕ) (ws : List ℕ) (n : ℕ) → n ≡ length ws → length ws ≤ length t₀ → take n (sets t₀ 0 ws) ≡ ws
+take-sets t₀ ws n e l = rw (e, sets-eq ws t₀ 0 (omega arith)) (take-front ws (drop (0 + length ws) t₀))
+  where
+    take-front : (a b : List ℕ) → take (length a) (a ++ b) ≡ a
+    take-front [] b = refl
+    take-front (x ∷ a) b = ap (x ∷_) (take-front a b)
+
+module _ (imposed : Option Version) (p : Parser) (h t : List ℕ) {line : Line} (a : LineIs h (p .at) line) {l : Bytes} (b : l ≡ take (line .end - p .at) (drop (p .at) h))
+    {v : Verdict} (d : LineJudged h (take (2 * p .count) t) l (p .phase) imposed v) (r : Partial) (t′ : List ℕ) (e : Keeps p l (line .next) v t r t′) where
+  line-here : p .at ≤ length h → p .at < length h → LineHere h (p .at) l (line .next)
+  line-here i m =
+      let s = pieces-there h (p .at) m in
+      let q = a .first (s .piece) (s .rest) (s .is) in
+      record {
+        piece = s .piece;
+        pieces-after = s .rest;
+        first = s .is;
+        is-line = b ∙ q .here;
+        stepped = q .stepped;
+        left = q .left;
+        moves = a .moves m;
+        inside = a .inside i;
+      }
+
+  pub line-parsed : Parses imposed p h t r t′
+  line-parsed = record {
+    is = λ t₀ k m.
+        let here = line-here (k .inside) m in
+        let fine : Pieces (here .piece ∷ here .pieces-after) = subst Pieces (here .first) (pieces-fine (drop (p .at) h)) in
+        let n = words-count (k .es) in
+        e .is imposed h t₀ k here (d .is (p .at) (k .state) (k .phase-is) (record {
+          es = k .es;
+          stored = ap (take (2 * p .count)) (k .stored) ∙ take-sets t₀ (words (k .es)) (2 * p .count) (omega (arith, k .counted)) (omega (arith, k .counted, k .room));
+          tabled = k .tabled;
+          small = k .small;
+          line = ap (any (is LF)) (here .is-line) ∙ piece-line (here .piece) (fine .0);
+        }));
+  }
+
+-- The end
+
+module _ (p : Parser) where
+  at-end : (imposed : Option Version) (h t₀ t : List ℕ) (k : Kept imposed h t₀ t p) → length h ≤ p .at → reading limits imposed (length t₀) h ≡ following (k .es) (atEnd (p .line) (p .at) (k .state))
+  unfolding run
+  at-end imposed h t₀ t k e = k .rest ∙ ap (λ (ps : List Bytes). following (k .es) (run limits imposed (length t₀) (p .line) (p .at) (p .count) (k .state) ps)) (pieces-past h (p .at) e)
+
+  all-entries : (es : List Entry) → length es ≡ p .count → length (es ++ []) ≡ p .count
+  all-entries es e = ap length (append-nil es) ∙ e
+
+  pub finish-empty : p .phase ≡ phase.Empty → Finishes p (record { outcome = outcome.Refused Empty; line = 0; start = 0; entries = p .count })
+  finish-empty e = record {
+    is = λ imposed h t₀ t k f.
+        go (k .es) (k .counted) (k .state) (subst (λ (x : Phase). PhaseIs x (k .state)) e (k .phase-is)) (at-end imposed h t₀ t k f);
+  }
+    where
+      go : (es : List Entry) → length es ≡ p .count → (s : State) → PhaseIs phase.Empty s → {x : Reading} → x ≡ following es (atEnd (p .line) (p .at) s)
+          → told (record { outcome = outcome.Refused Empty; line = 0; start = 0; entries = p .count }) ≡ tells x
+      go es c empty q w = rw (w, all-entries es c)
+      go es c (ready v rs) q w = absurd q
+      go es c (done v rs d) q w = absurd q
+
+  pub finish-ready : {f : FileFormat} → p .phase ≡ phase.Ready f → Finishes p (record { outcome = outcome.Refused MissingHeader; line = p .line; start = p .at; entries = p .count })
+  finish-ready {f} e = record {
+    is = λ imposed h t₀ t k g.
+        go (k .es) (k .counted) (k .state) (subst (λ (x : Phase). PhaseIs x (k .state)) e (k .phase-is)) (at-end imposed h t₀ t k g);
+  }
+    where
+      go : (es : List Entry) → length es ≡ p .count → (s : State) → PhaseIs (phase.Ready f) s → {x : Reading} → x ≡ following es (atEnd (p .line) (p .at) s)
+          → told (record { outcome = outcome.Refused MissingHeader; line = p .line; start = p .at; entries = p .count }) ≡ tells x
+      go es c empty q w = absurd q
+      go es c (ready v rs) q w = rw (w, all-entries es c)
+      go es c (done v rs d) q w = absurd q
+
+  pub finish-done : {f : FileFormat} {n : ℕ} → p .phase ≡ phase.Done f n → Finishes p (record { outcome = outcome.Accepted f n; line = p .line; start = p .at; entries = p .count })
+  finish-done {f} {n} e = record {
+    is = λ imposed h t₀ t k g.
+        go (k .es) (k .counted) (k .state) (subst (λ (x : Phase). PhaseIs x (k .state)) e (k .phase-is)) (at-end imposed h t₀ t k g);
+  }
+    where
+      go : (es : List Entry) → length es ≡ p .count → (s : State) → PhaseIs (phase.Done f n) s → {x : Reading} → x ≡ following es (atEnd (p .line) (p .at) s)
+          → told (record { outcome = outcome.Accepted f n; line = p .line; start = p .at; entries = p .count }) ≡ tells x
+      go es c empty q w = absurd q
+      go es c (ready v rs) q w = absurd q
+      go es c (done v rs d) q w = rw (w, all-entries es c, q .0, q .1)
+
+pub ruleset finishes = (finish-empty, finish-ready, finish-done)
+
+-- A whole header
+
+module _ (imposed : Option Version) (h t₀ : List ℕ) where
+  too-long : 1048575 < length h → reading limits imposed (length t₀) h ≡ stop 27 0 0 empty
+  unfolding reading
+  too-long e = rw (reading, lt-leb (length h) 1048575 e)
+
+  pub long-told : 1048575 < length h → told (record { outcome = outcome.Refused HeaderTooLong; line = 0; start = 0; entries = 0 }) ≡ tells (reading limits imposed (length t₀) h)
+  long-told e = rw (too-long e)
+
+  pub long-table : 1048575 < length h → t₀ ≡ sets t₀ 0 (words (reading limits imposed (length t₀) h .entries))
+  unfolding words
+  long-table e = rw (too-long e)
+
+  pub read-start : length h ≤ 1048575 → Kept imposed h t₀ t₀ (record { phase = phase.Empty; line = 0; at = 0; count = 0 })
+  unfolding reading words
+  read-start e = record {
+    state = empty;
+    es = [];
+    phase-is = tt;
+    tabled = refl;
+    stored = refl;
+    counted = refl;
+    room = omega arith;
+    lines = omega arith;
+    inside = omega arith;
+    small = e;
+    rest = rw (reading, le-leb (length h) 1048575 e);
+  }
+
+  module _ {t : List ℕ} {p : Parser} (k : Kept imposed h t₀ t p) where
+    pub kept-length : length t ≡ length t₀
+    kept-length = ap length (k .stored) ∙ length-sets t₀ 0 (words (k .es))
+
+    pub kept-bounds : Bounds (length t) p
+    kept-bounds = record { count = omega (arith, kept-length, k .room); line = omega (arith, k .lines, k .inside, k .small) }
+
+    pub read-end : length h ≤ p .at → {r : ReadAnswer} → Finishes p r → told r ≡ tells (reading limits imposed (length t₀) h)
+    read-end e f = f .is imposed h t₀ t k e
+
+    pub read-table : length h ≤ p .at → t ≡ sets t₀ 0 (words (reading limits imposed (length t₀) h .entries))
+    read-table e = k .stored ∙ ap (λ (es : List Entry). sets t₀ 0 (words es)) (sym (entries-at (k .es) (k .state) (at-end p imposed h t₀ t k e)))
+      where
+        entries-at : (es : List Entry) (s : State) {x : Reading} → x ≡ following es (atEnd (p .line) (p .at) s) → x .entries ≡ es
+        entries-at es empty w = ap (λ (r : Reading). r .entries) w ∙ append-nil es
+        entries-at es (ready v rs) w = ap (λ (r : Reading). r .entries) w ∙ append-nil es
+        entries-at es (done v rs c) w = ap (λ (r : Reading). r .entries) w ∙ append-nil es
+
+    module _ (m : p .at < length h) (r : Partial) (t′ : List ℕ) (f : Parses imposed p h t r t′) where
+      parsed : {x : Partial} → r ≡ x → PartialIs imposed h t₀ p x t′
+      parsed e = subst (λ (y : Partial). PartialIs imposed h t₀ p y t′) e (f .is t₀ k m)
+
+      pub read-next : {q : Parser} → r ≡ partial.Next q → Kept imposed h t₀ t′ q
+      read-next e = parsed e .0
+
+      pub read-less : {q : Parser} → r ≡ partial.Next q → length h - q .at < length h - p .at
+      read-less e = let s = parsed e in omega (arith, s .1, s .0 .inside)
+
+      pub stop-told : {x : Refusal} → r ≡ partial.Refused x
+          → told (record { outcome = outcome.Refused x; line = p .line + 1; start = p .at; entries = p .count }) ≡ tells (reading limits imposed (length t₀) h)
+      stop-told {x} e = let s = parsed e in refused-told (s .es) (s .counted) (s .state) (s .whole)
+        where
+          refused-told : (es : List Entry) → length es ≡ p .count → (s : State) {y : Reading} → y ≡ following es (stop (number x) (suc (p .line)) (p .at) s)
+              → told (record { outcome = outcome.Refused x; line = p .line + 1; start = p .at; entries = p .count }) ≡ tells y
+          refused-told es c s w =
+              let i : suc (p .line) ≡ p .line + 1 = omega arith in
+              let n = number-suc x in
+              rw (w, all-entries p es c, i, n .1)
+
+      pub stop-length : {x : Refusal} → r ≡ partial.Refused x → length t′ ≡ length t₀
+      stop-length e = let s = parsed e in ap length (s .stored) ∙ length-sets t₀ 0 (words (s .es))
+
+      pub stop-table : {x : Refusal} → r ≡ partial.Refused x → t′ ≡ sets t₀ 0 (words (reading limits imposed (length t₀) h .entries))
+      stop-table e = let s = parsed e in s .stored ∙ ap (λ (es : List Entry). sets t₀ 0 (words es)) (sym (ap (λ (y : Reading). y .entries) (s .whole) ∙ append-nil (s .es)))
+
+pub ruleset whole = (long-told, long-table, read-start, kept-length, kept-bounds, read-end, read-table, read-next, read-less, stop-told, stop-length, stop-table)

@@ -1,6 +1,6 @@
 // Lines of the house form, each written from one line of a header.
-pub mod field;
-pub mod known;
+mod field;
+mod known;
 pub mod line;
-pub mod others;
-pub mod quoting;
+mod others;
+mod quoting;

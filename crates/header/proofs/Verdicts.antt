@@ -57,8 +57,8 @@ use Rattle.ids.specs.declared.scan.Clash.the-variants as clashes
 use Rattle.ids.proofs.KeyKinds.{number-small}
 use Rattle.ids.proofs.Clashes.{found-clash}
 use Rattle.header.specs.Verdicts.{imposedOf, PhaseIs, isDonePhase, ReadyRows, Says, Scene, Unchecked, FirstJudged, IdJudged, MapJudged, RecordJudged, ColumnsJudged, TextJudged, LineJudged}
-use Rattle.header.specs.declared.verdict.FileFormatOption.{FileFormatOption}
-use Rattle.header.specs.declared.verdict.FileFormatOption.the-variants as option
+use Rattle.header.specs.declared.file_format_option.FileFormatOption.{FileFormatOption}
+use Rattle.header.specs.declared.file_format_option.FileFormatOption.the-variants as option
 use Rattle.header.specs.declared.verdict.Phase.{Phase}
 use Rattle.header.specs.declared.verdict.Phase.the-variants as phase
 use Rattle.header.specs.declared.verdict.Verdict.{Verdict}

@@ -30,8 +30,8 @@ use Rattle.records.specs.declared.key.Key.{Key}
 use Rattle.records.specs.declared.file_format.FileFormat.{FileFormat}
 use Rattle.records.specs.declared.map.Slot.the-variants as slot
 use Rattle.ids.specs.Clashes.{Describes}
-use Rattle.header.specs.declared.verdict.FileFormatOption.{FileFormatOption}
-use Rattle.header.specs.declared.verdict.FileFormatOption.the-variants as option
+use Rattle.header.specs.declared.file_format_option.FileFormatOption.{FileFormatOption}
+use Rattle.header.specs.declared.file_format_option.FileFormatOption.the-variants as option
 use Rattle.header.specs.declared.verdict.Phase.{Phase}
 use Rattle.header.specs.declared.verdict.Phase.the-variants as phase
 use Rattle.header.specs.declared.verdict.Verdict.{Verdict}

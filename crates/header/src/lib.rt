@@ -1,3 +1,4 @@
 // The reading of a whole header, line by line.
+pub mod file_format_option;
 pub mod parser;
-pub mod verdict;
+mod verdict;

@@ -1,6 +1,6 @@
 // The line machine, and the reading of a whole header.
+use crate::file_format_option::FileFormatOption;
 use crate::verdict;
-use crate::verdict::FileFormatOption;
 use crate::verdict::Phase;
 use crate::verdict::Verdict;
 use columns::header_line;

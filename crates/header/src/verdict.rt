@@ -1,4 +1,5 @@
 // What a line is, beside the lines before it: checked in full before anything is stored.
+use crate::file_format_option::FileFormatOption;
 use columns::header_line;
 use columns::header_line::ColumnsRead;
 use entries::word;
@@ -17,12 +18,6 @@ ghost use Rattle.rules.specs.Version.{inForce};
 ghost use Rattle.rules.proofs.Versions.{Sized};
 ghost use Rattle.records.specs.Formats.{versionOf};
 ghost use Rattle.header.specs.Verdicts.{imposedOf, isDonePhase, IdJudged, FirstJudged, MapJudged, RecordJudged, ColumnsJudged, TextJudged, LineJudged};
-
-// The version that the caller imposes, if any.
-pub enum FileFormatOption {
-    None,
-    Some(FileFormat),
-}
 
 // Before the fileformat line; after it, with the version in force; after the column line, with the number of samples too.
 pub enum Phase {

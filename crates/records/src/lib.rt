@@ -1,17 +1,17 @@
 // The records of a header: one line at a time.
-pub mod alternative_allele;
-pub mod contig;
-pub mod definition;
+mod alternative_allele;
+mod contig;
+mod definition;
 pub mod file_format;
-pub mod filter;
-pub mod format;
-pub mod info;
+mod filter;
+mod format;
+mod info;
 pub mod key;
-pub mod list;
-pub mod map;
-pub mod number;
-pub mod other;
+mod list;
+mod map;
+mod number;
+mod other;
 pub mod record;
 pub mod refusal;
 pub mod tag;
-pub mod value;
+mod value;

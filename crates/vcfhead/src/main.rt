@@ -1,5 +1,5 @@
 // The check program: reads a header from standard input and prints what the reader answers.
-use header::verdict::FileFormatOption;
+use header::file_format_option::FileFormatOption;
 use header::parser::Outcome;
 use header::parser::ReadAnswer;
 use records::file_format::FileFormat;

@@ -1,6 +1,6 @@
 // Replays recorded headers. Four arguments make a case: the version imposed (a word that is no version: none), the table's
 // words, the header's bytes (a word that is no number: the file's own), and the file.
-use header::verdict::FileFormatOption;
+use header::file_format_option::FileFormatOption;
 use header::parser::Outcome;
 use header::parser::ReadAnswer;
 use records::file_format::FileFormat;

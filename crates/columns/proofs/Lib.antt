@@ -4,3 +4,4 @@ pub mod Prefixes
 pub mod Lines
 pub mod Stores
 pub mod Answers
+pub mod Determined

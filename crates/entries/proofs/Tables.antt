@@ -2,7 +2,7 @@
 use Prim.Native.Nat.{ℕ, _+_, _^_, _≤_, _<_}
 use native.Mathlib.Numerals.{add-one}
 use native.Mathlib.Omega.{arith}
-use mathlib.Core.Path.{_≡_, refl}
+use mathlib.Core.Path.{_≡_, refl, sym, _∙_}
 use mathlib.Core.Bool.{Bool, true, false, not, true≢false, false≢true}
 use mathlib.Core.List.{List, [], _∷_}
 use lib.ListN.{length, set}
@@ -31,3 +31,10 @@ pub next-fits : {t : List ℕ} {at w x : ℕ} {q : Bool} {t′ : List ℕ} → E
 next-fits {q = q} p e = p .next (not-false q e)
 
 pub ruleset puts = (no-word, one-word)
+
+-- two outcomes that meet the promise are equal
+pub put-determined : {t : List ℕ} {at w x : ℕ} (a b : Bool) {t′ t″ : List ℕ} → EntryPut t at w x a t′ → EntryPut t at w x b t″ → (a ≡ b) × (t′ ≡ t″)
+put-determined true true p q = (refl, p .stored refl ∙ sym (q .stored refl))
+put-determined true false p q = absurd (omega (arith, p .room refl, q .full refl))
+put-determined false true p q = absurd (omega (arith, q .room refl, p .full refl))
+put-determined false false p q = (refl, p .same refl ∙ sym (q .same refl))

@@ -1,7 +1,8 @@
 -- The line at a place: the code's ways to it, and when there is one. Assumes nothing.
 use Prim.Native.Nat.{ℕ, _+_, _-_, _≤_, _<_}
+use native.Mathlib.Decide.{decLe}
 use native.Mathlib.Omega.{arith}
-use mathlib.Core.Path.{_≡_, refl, sym, ap, _∙_}
+use mathlib.Core.Path.{_≡_, refl, sym, ap, ap₂, _∙_}
 use mathlib.Core.Bool.{false}
 use mathlib.Core.List.{List, [], _∷_, _++_, append-assoc, append-nil}
 use lib.ListN.{length, getD, drop, length-append, length-drop}
@@ -96,6 +97,7 @@ module _ (h : Bytes) (at : ℕ) {lf : ℕ} (found : lf ≡ at + length (before (
         ordered = omega arith;
         moves = λ i. omega arith;
         inside = λ i. omega arith;
+        past = λ i. let z = ap length (drop-past h at i) in (omega arith, omega arith);
       }
     where
       go : (y : Bytes) → drop at h ≡ y → any (is LF) y ≡ false → lf ≡ at + length y → (p : Bytes) (ps : List Bytes) → pieces (drop at h) ≡ p ∷ ps
@@ -123,6 +125,7 @@ module _ (h : Bytes) (at : ℕ) {lf : ℕ} (found : lf ≡ at + length (before (
           ordered = o;
           moves = λ i. omega arith;
           inside = λ i. omega arith;
+          past = λ i. absurd (omega arith);
         }
 
     pub line-empty : lf ≡ at → LineIs h at (record { end = lf; next = lf + 1 })
@@ -165,3 +168,18 @@ module _ (h : Bytes) (at : ℕ) {lf : ℕ} (found : lf ≡ at + length (before (
               told lf (rw (drop-other CR x k) found) (omega arith) (omega arith)
 
 pub ruleset ways = (line-unended, line-empty, line-CR, line-LF-only)
+
+-- two answers that meet the promise are equal
+pub line-determined : (h : Bytes) (at : ℕ) (a b : Line) → LineIs h at a → LineIs h at b → a ≡ b
+line-determined h at a b p q = go (decLe (length h) at)
+  where
+    both : a .end ≡ b .end → a .next ≡ b .next → a ≡ b
+    both e n = ap₂ (λ (i j : ℕ). record { end = i; next = j }) e n
+
+    go : Dec (length h ≤ at) → a ≡ b
+    go (yes l) = both (p .past l .0 ∙ sym (q .past l .0)) (p .past l .1 ∙ sym (q .past l .1))
+    go (no n) =
+        let s = pieces-there h at (omega (arith, n)) in
+        let x = p .first (s .piece) (s .rest) (s .is) in
+        let y = q .first (s .piece) (s .rest) (s .is) in
+        both (x .ended ∙ sym (y .ended)) (x .stepped ∙ sym (y .stepped))

@@ -20,3 +20,4 @@ pub record LineIs (h : Bytes) (at : ℕ) (r : Line) : Type 0 where
   pub ordered : r .end ≤ r .next
   pub moves : at < length h → at < r .next
   pub inside : at ≤ length h → r .next ≤ length h
+  pub past : length h ≤ at → (r .end ≡ at) × (r .next ≡ at)

@@ -15,4 +15,5 @@ pub mod Required
 pub mod Typed
 pub mod Declares
 pub mod Records
+pub mod Determined
 pub mod Searches

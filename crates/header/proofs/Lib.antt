@@ -1,2 +1,5 @@
 pub mod Verdicts
 pub mod Parsers
+pub mod Scans
+pub mod Fields
+pub mod Answers

@@ -1,0 +1,196 @@
+-- The field call: the ways of the code's tests and answers, on plain values. Assumes nothing.
+use Prim.Native.Nat.{ℕ, _+_, _-_, _*_, _^_, _≤_, _<_}
+use native.Mathlib.Omega.{arith}
+use mathlib.Core.Path.{_≡_, refl, sym, ap, subst, _∙_}
+use mathlib.Core.Bool.{Bool, true, false, not, _&&_}
+use mathlib.Core.List.{List}
+use mathlib.Core.Option.{Option, none, some}
+use lib.Dec.{eqb}
+use lib.ListN.{length, take, drop, length-append, length-take, length-drop}
+use borrow.Author.Tests.{eq-eqb, ne-eqb}
+use mir.Syntax.{w64}
+use mir.Val.{Fits}
+use Rattle.values.specs.Bytes.{Bytes, is, before, from}
+use Rattle.values.specs.Utf8.{isUtf8}
+use Rattle.values.specs.Field.{Field}
+use Rattle.values.specs.declared.string.Text.{Text}
+use Rattle.values.proofs.Tests.{not-true, not-false}
+use Rattle.values.proofs.Lists.{before-from}
+use Rattle.values.proofs.Fields.{part}
+use Rattle.rules.specs.Answer.{Answer, ok, refuse}
+use Rattle.rules.specs.Version.{Version, v4-3, since}
+use Rattle.rules.specs.Known.{kindOf, alwaysMap}
+use Rattle.rules.specs.Map.{isMeta, readFields}
+use Rattle.rules.specs.Record.{Record, fileformat, fields, text, readRecord}
+use Rattle.rules.specs.Entry.{kindNumber, fieldsStart}
+use Rattle.rules.specs.Shown.{kindIn, startIn, lengthIn, hasId, fieldPart, fieldsPart, linePart, entryAt, shownField}
+use Rattle.rules.proofs.Firsts.{on-ok}
+use Rattle.records.specs.Keys.{bytesOf, keyKind}
+use Rattle.records.specs.Records.{keyIn, RecordIs, RecordAre}
+use Rattle.records.specs.declared.file_format.FileFormat.{FileFormat}
+use Rattle.records.specs.declared.key.Key.{Key}
+use Rattle.records.specs.declared.refusal.Refusal.{Refusal}
+use Rattle.records.specs.declared.record.RecordRead.{RecordRead}
+use Rattle.records.specs.declared.record.RecordRead.the-variants as read
+use Rattle.records.proofs.Keys.{key-kind}
+use Rattle.entries.specs.declared.shown.Shown.{Shown}
+use Rattle.entries.specs.declared.shown.Shown.the-variants.{Part, Refused}
+use Rattle.entries.specs.declared.shown.EntryRead.{EntryRead}
+use Rattle.entries.specs.declared.shown.EntryRead.the-variants.{Entry, Missing}
+use Rattle.entries.specs.Shown.{shownAs, entryAs, fieldsAt, Inside, movedBy}
+use Rattle.entries.proofs.Calls.{entry-is, entry-none, entry-inside, refused-inside}
+use Rattle.entries.proofs.Fields.{moved-part, nth-read}
+use Rattle.header.specs.Lines.{fieldIn, FieldAt}
+use Rattle.header.proofs.Scans.{Scanned, record-scanned}
+
+-- A line
+
+module _ (v : Version) (l : Bytes) (kind i : ℕ) {u : Bool} (a : u ≡ isUtf8 l) where
+  line-by : {q : Bool} → isUtf8 l ≡ q → fieldIn v l kind i ≡ elim q [ true ↦ fieldsPart 0 kind (readRecord v l) i | false ↦ none ]
+  line-by e = ap (λ (q : Bool). elim q [ true ↦ fieldsPart 0 kind (readRecord v l) i | false ↦ none ]) e
+
+  pub line-not-utf8 : not u ≡ true → Refused ≡ shownAs (fieldIn v l kind i)
+  line-not-utf8 e = sym (ap shownAs (line-by (sym a ∙ not-true u e)))
+
+  module _ (on : not u ≡ false) {x : RecordRead} (b : RecordAre v l x) where
+    read-as : {r : Answer Record} → readRecord v l ≡ r → fieldIn v l kind i ≡ fieldsPart 0 kind r i
+    read-as e = line-by (sym a ∙ not-false u on) ∙ ap (λ (r : Answer Record). fieldsPart 0 kind r i) e
+
+    map-as : {k : Bytes} {fs : List Field} → readRecord v l ≡ ok (fields k fs) → {q : Bool} → eqb (kindNumber (kindOf k)) kind ≡ q
+        → fieldIn v l kind i ≡ elim q [ true ↦ fieldPart (0 + fieldsStart k) fs i | false ↦ none ]
+    map-as {k} {fs} e f = read-as e ∙ ap (λ (q : Bool). elim q [ true ↦ fieldPart (0 + fieldsStart k) fs i | false ↦ none ]) f
+
+    pub line-format : {w : FileFormat} → x ≡ read.FileFormat w → Refused ≡ shownAs (fieldIn v l kind i)
+    line-format e = sym (ap shownAs (read-as (subst (RecordIs v l) e (b .is))))
+
+    pub line-text : {at : ℕ} → x ≡ read.Text at → Refused ≡ shownAs (fieldIn v l kind i)
+    line-text e = sym (ap shownAs (read-as (subst (RecordIs v l) e (b .is) .1)))
+
+    pub line-refused : {y : Refusal} → x ≡ read.Refused y → Refused ≡ shownAs (fieldIn v l kind i)
+    line-refused e = sym (ap shownAs (read-as (subst (RecordIs v l) e (b .is))))
+
+    module _ {key : Key} {at : ℕ} {t : Text} {g : ℕ} (e : x ≡ read.Map key at t g) where
+      told : RecordIs v l (read.Map key at t g)
+      told = subst (RecordIs v l) e (b .is)
+
+      pub value-fits : length l * 1 < 2 ^ 63 → Fits w64 (at + 1)
+      value-fits p =
+          let f = ap length (before-from (is 61) (drop 2 l)) in
+          let n = length-append (before (is 61) (drop 2 l)) (from (is 61) (drop 2 l)) in
+          let d = length-drop 2 l in
+          let s = told .2 in
+          record { fits = omega arith }
+
+      module _ {k : ℕ} (c : k ≡ keyKind key) where
+        kind-is : kindNumber (kindOf (keyIn l)) ≡ k
+        kind-is = ap kindNumber (told .1 .kind) ∙ key-kind key ∙ sym c
+
+        pub line-other-kind : (k ≡ kind → ⊥) → Refused ≡ shownAs (fieldIn v l kind i)
+        line-other-kind n = sym (ap shownAs (map-as (told .3) {q = false} (rw kind-is (ne-eqb k kind n))))
+
+        pub line-field : k ≡ kind → {m : Bool} → m ≡ isMeta v (bytesOf key) → {r : Shown} → r ≡ shownAs (fieldPart (at + 1) (fieldsAt m l (at + 1)) i)
+            → r ≡ shownAs (fieldIn v l kind i)
+        line-field q {m} d f =
+            let s = on-ok (Scanned v l) (record-scanned v l) (told .3) in
+            let h : at + 1 ≡ fieldsStart (keyIn l) = let s = told .2 in omega arith in
+            let z : 0 + fieldsStart (keyIn l) ≡ fieldsStart (keyIn l) = omega arith in
+            let w : m ≡ isMeta v (keyIn l) = d ∙ ap (λ (b : Bool). b && since v4-3 v) (sym (told .1 .meta)) in
+            let y : readFields m (alwaysMap (keyIn l)) (drop (at + 1) l) ≡ (told .0, 0) = rw (w, h) s in
+            nth-read m l (at + 1) i f (alwaysMap (keyIn l)) y ∙ sym (ap shownAs (map-as (told .3) {q = true} (rw kind-is (eq-eqb k kind q))) ∙ rw (z, ← h))
+
+pub ruleset line-fields = (line-not-utf8, line-format, line-text, line-refused, value-fits, line-other-kind, line-field, refused-inside)
+
+-- A line in the header
+
+module _ (v : Version) (h : Bytes) (at end kind i : ℕ) {l : Bytes} (a : l ≡ part h at end) {y : Shown} (b : y ≡ shownAs (fieldIn v l kind i)) where
+  moved : movedBy at y ≡ movedBy at (shownAs (fieldIn v (part h at end) kind i))
+  moved = rw (← a) (ap (movedBy at) b)
+
+  pub part-refused : y ≡ Refused → FieldAt v h at end kind i Refused
+  part-refused e = record { shown = sym (ap (movedBy at) e) ∙ moved; inside = λ z. tt }
+
+  module _ (t : Inside (length l) y) {s e : ℕ} (c : y ≡ Part s e) where
+    ordered : (s ≤ e) × (e ≤ length l)
+    ordered = subst (Inside (length l)) c t
+
+    near : (s ≤ e) × (e ≤ length h - at)
+    near =
+        let p = ordered in
+        let n = ap length a ∙ length-take (end - at) (drop at h) in
+        let d = length-drop at h in
+        (p .0, omega (arith, p .1))
+
+    pub part-shown : FieldAt v h at end kind i (Part (at + s) (at + e))
+    part-shown = record {
+      shown = sym (ap (movedBy at) c) ∙ moved;
+      inside = λ z. let p = near in (omega (arith, p .0), omega (arith, p .1));
+    }
+
+    module _ (f : Fits w64 at) (g : length h < 2 ^ 64) where
+      pub start-fits : Fits w64 (at + s)
+      start-fits = let p = near in let q = f .fits in record { fits = omega (arith, p .0, p .1) }
+
+      pub end-fits : Fits w64 (at + e)
+      end-fits = let p = near in let q = f .fits in record { fits = omega (arith, p .1) }
+
+pub ruleset parts = (part-refused, part-shown, start-fits, end-fits)
+
+-- An entry
+
+-- a part of the line, moved to where the line stands
+fields-moved : (start kind : ℕ) (a : Answer Record) (i : ℕ) → shownAs (fieldsPart start kind a i) ≡ movedBy start (shownAs (fieldsPart 0 kind a i))
+fields-moved start kind (refuse n) i = refl
+fields-moved start kind (ok (fileformat v)) i = refl
+fields-moved start kind (ok (text k t)) i = refl
+fields-moved start kind (ok (fields k fs)) i = by-kind (eqb (kindNumber (kindOf k)) kind)
+  where
+    by-kind : (q : Bool) → shownAs (elim q [ true ↦ fieldPart (start + fieldsStart k) fs i | false ↦ none ])
+        ≡ movedBy start (shownAs (elim q [ true ↦ fieldPart (0 + fieldsStart k) fs i | false ↦ none ]))
+    by-kind true = let e : 0 + fieldsStart k ≡ fieldsStart k = omega arith in rw e (moved-part start (fieldsStart k) fs i)
+    by-kind false = refl
+
+-- the line of an entry, where it may have fields
+module _ (h : Bytes) (v : Version) (i w x : ℕ) where
+  abbrev l : Bytes
+  l = take (lengthIn w) (drop (startIn w) h)
+
+  line-by-kind : {q : Bool} → hasId (kindIn w) ≡ q → linePart h v i (some (w, x)) ≡ elim (q && isUtf8 l) [ true ↦ fieldsPart (startIn w) (kindIn w) (readRecord v l) i | false ↦ none ]
+  line-by-kind e = ap (λ (q : Bool). elim (q && isUtf8 l) [ true ↦ fieldsPart (startIn w) (kindIn w) (readRecord v l) i | false ↦ none ]) e
+
+  line-unfit : hasId (kindIn w) ≡ false → Refused ≡ shownAs (linePart h v i (some (w, x)))
+  line-unfit e = sym (ap shownAs (line-by-kind e))
+
+  line-moved : hasId (kindIn w) ≡ true → shownAs (linePart h v i (some (w, x))) ≡ movedBy (startIn w) (shownAs (fieldIn v l (kindIn w) i))
+  line-moved e = ap shownAs (line-by-kind e) ∙ by-text (isUtf8 l)
+    where
+      by-text : (q : Bool) → shownAs (elim q [ true ↦ fieldsPart (startIn w) (kindIn w) (readRecord v l) i | false ↦ none ])
+          ≡ movedBy (startIn w) (shownAs (elim q [ true ↦ fieldsPart 0 (kindIn w) (readRecord v l) i | false ↦ none ]))
+      by-text true = fields-moved (startIn w) (kindIn w) (readRecord v l) i
+      by-text false = refl
+
+module _ (h : Bytes) (table : List ℕ) (n : ℕ) (v : Version) (i : ℕ) {r : EntryRead} (a : r ≡ entryAs (entryAt h table n)) where
+  pub field-unshown : r ≡ Missing → Refused ≡ shownAs (shownField h table n v i)
+  field-unshown e = rw (entry-none (entryAt h table n) (sym e ∙ a))
+
+  module _ {w x : ℕ} (b : r ≡ Entry w x) where
+    found : entryAt h table n ≡ some (w, x)
+    found = entry-is (entryAt h table n) (sym b ∙ a)
+
+    module _ {k : ℕ} (c : k ≡ kindIn w) {q : Bool} (d : q ≡ hasId k) where
+      pub field-not-due : not q ≡ true → Refused ≡ shownAs (shownField h table n v i)
+      field-not-due e =
+          let o : hasId (kindIn w) ≡ false = ap hasId (sym c) ∙ sym d ∙ not-true q e in
+          line-unfit h v i w x o ∙ sym (ap (λ (e : Option (ℕ × ℕ)). shownAs (linePart h v i e)) found)
+
+      module _ (on : not q ≡ false) {s m : ℕ} (e : s ≡ startIn w) (f : m ≡ lengthIn w) {y : Shown} (o : FieldAt v h s (s + m) k i y) where
+        pub field-shown : y ≡ shownAs (shownField h table n v i)
+        field-shown =
+            let z : s + m - s ≡ lengthIn w = omega arith in
+            let p : take (s + m - s) (drop s h) ≡ take (lengthIn w) (drop (startIn w) h) = rw (z, e) in
+            let j : hasId (kindIn w) ≡ true = ap hasId (sym c) ∙ sym d ∙ not-false q on in
+            o .shown ∙ rw (p, c, e) (sym (ap (λ (e : Option (ℕ × ℕ)). shownAs (linePart h v i e)) found ∙ line-moved h v i w x j))
+
+        pub field-inside : Inside (length h) y
+        field-inside = let z = entry-inside h table n found in o .inside (omega arith)
+
+pub ruleset all-fields = (field-unshown, field-not-due, field-shown, field-inside, refused-inside)

@@ -1,0 +1,90 @@
+// The calls on an entry number: parts of the header, for any table words and any numbers. Refused is refusal 29.
+use entries::shown;
+use entries::shown::EntryRead;
+use entries::shown::Shown;
+use entries::word;
+use records::file_format::FileFormat;
+use records::record;
+use records::record::RecordRead;
+use values::bytes;
+use values::utf8;
+ghost use mathlib.Core.Path.{_≡_};
+ghost use lib.ListN.{length};
+ghost use Rattle.rules.specs.Shown.{shownEntry, shownId, shownField};
+ghost use Rattle.records.specs.Formats.{versionOf};
+ghost use Rattle.entries.specs.Shown.{shownAs, bytesOf, Inside};
+ghost use Rattle.header.specs.Lines.{fieldIn, FieldAt};
+
+// The line of entry n, from 0, or the sample name.
+pub fn entry(h: &[u8], table: &[u64], n: usize) -> Shown
+    ensures shown { λ r. ⌜ r ≡ shownAs (shownEntry (now (h .entry)) (now (table .entry)) n) ⌝ }
+    ensures inside { λ r. ⌜ Inside (length (now (h .entry))) r ⌝ }
+{
+    shown::entry(h, table, n)
+}
+
+// The ID's text of entry n, without quotes.
+pub fn id(h: &[u8], table: &[u64], n: usize) -> Shown
+    ensures shown { λ r. ⌜ r ≡ shownAs (shownId (now (h .entry)) (now (table .entry)) n) ⌝ }
+    ensures inside { λ r. ⌜ Inside (length (now (h .entry))) r ⌝ }
+{
+    shown::id(h, table, n)
+}
+
+// The bytes of a part, none where it was refused.
+pub fn bytes_of(h: &[u8], shown: Shown) -> &[u8]
+    ensures { λ r. ⌜ now r ≡ bytesOf (now (h .entry)) shown ⌝ }
+{
+    shown::bytes_of(h, shown)
+}
+
+// Field i of a line, read alone, if it is a record of this kind.
+fn line_field(l: &[u8], kind: u64, version: FileFormat, i: usize) -> Shown
+    ensures shown { λ r. ⌜ r ≡ shownAs (fieldIn (versionOf version) (now (l .entry)) kind i) ⌝ }
+    ensures inside { λ r. ⌜ Inside (length (now (l .entry))) r ⌝ }
+{
+    if !utf8::utf8(l) {
+        return Shown::Refused;
+    }
+    match record::parse_record(l, version) {
+        RecordRead::FileFormat(_) => Shown::Refused,
+        RecordRead::Map(key, value, _, _) => {
+            if key.kind() != kind {
+                return Shown::Refused;
+            }
+            shown::nth_field(l, value + 1, key.has_brackets(version), i)
+        }
+        RecordRead::Text(_) => Shown::Refused,
+        RecordRead::Refused(_) => Shown::Refused,
+    }
+}
+
+// Field i of the line that stands at `at` and ends before `end`, if it is a record of this kind.
+fn field_at(h: &[u8], at: usize, end: usize, kind: u64, version: FileFormat, i: usize) -> Shown
+    ensures { λ r. ⌜ FieldAt (versionOf version) (now (h .entry)) at end kind i r ⌝ }
+{
+    let l = bytes::part(h, at, end);
+    match line_field(l, kind, version, i) {
+        Shown::Part { start, end } => Shown::Part {
+            start: at + start,
+            end: at + end,
+        },
+        Shown::Refused => Shown::Refused,
+    }
+}
+
+// Field i, from 0, of entry n, key through value, quotes too; the entry's line is read again, under this version.
+pub fn field(h: &[u8], table: &[u64], n: usize, version: FileFormat, i: usize) -> Shown
+    ensures shown { λ r. ⌜ r ≡ shownAs (shownField (now (h .entry)) (now (table .entry)) n (versionOf version) i) ⌝ }
+    ensures inside { λ r. ⌜ Inside (length (now (h .entry))) r ⌝ }
+{
+    let EntryRead::Entry(w, _) = shown::entry_at(h, table, n) else {
+        return Shown::Refused;
+    };
+    let kind = word::kind_in(w);
+    if !shown::has_id(kind) {
+        return Shown::Refused;
+    }
+    let start = word::start_in(w);
+    field_at(h, start, start + word::length_in(w), kind, version, i)
+}

@@ -1,0 +1,22 @@
+// Stand-in: this file is not among the sources given. Written from document 01, for the comparison alone.
+//! A count, or A, R, G, `.`; from 4.5 also LA, LR, LG, P, M.
+
+#[derive(Clone, Copy, Debug, Eq, PartialEq)]
+pub enum Number {
+    Count(usize),
+    AlternateBases,
+    ReferenceAlternateBases,
+    Samples,
+    Unknown,
+    LocalAlternateBases,
+    LocalReferenceAlternateBases,
+    LocalSamples,
+    Ploidy,
+    BaseModifications,
+}
+
+impl Default for Number {
+    fn default() -> Self {
+        Self::Count(1)
+    }
+}

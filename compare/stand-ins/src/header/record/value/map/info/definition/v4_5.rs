@@ -1,0 +1,2 @@
+// Stand-in: this file is not among the sources given. Written from document 01, for the comparison alone.
+pub(super) use super::v4_3::definition;

@@ -1,0 +1,15 @@
+// Stand-in: this file is not among the sources given. Written from document 01, for the comparison alone.
+use super::super::tag;
+
+#[derive(Clone, Copy, Debug, Eq, Hash, PartialEq)]
+pub enum Standard {
+    Id,
+}
+
+impl tag::Standard for Standard {
+    const NAMES: &'static [(&'static str, Self)] = &[("ID", Self::Id)];
+}
+
+pub type Tag = tag::Tag<Standard>;
+
+pub const ID: Tag = tag::Tag::Standard(Standard::Id);

@@ -3,6 +3,7 @@
 with the number that the case must answer; the words before it are the version imposed (own: none), the table's words, the
 output's bytes, and the bytes of the header (whole: the file's own). Of every form it sees that it is its own form and means
 what its header means."""
+import os
 import random
 
 import model
@@ -213,6 +214,24 @@ def drawn():
             count += 1
 
 
+def compared():
+    """The sample that compare/ keeps of headers read by the Rust too: here for our answer, which that file has beside the Rust's."""
+    path = os.path.join(os.path.dirname(os.path.abspath(__file__)), '..', 'compare', 'recorded')
+    with open(path, encoding='ascii') as lines:
+        for index, line in enumerate(lines):
+            header, imposed, _, ours, _ = line.rstrip('\n').split('\t')
+            number, _, rest = ours.partition(' ')
+            line_number, _, form = rest.partition(' ')
+            version = None if imposed == '-' else tuple(map(int, imposed.split('.')))
+            name = f'rust-{index:03}'
+            written = add(int(number), name, plain(header), version, room=8192, output=2**20)
+            assert CASES[f'{number}-{name}'][-1].line == int(line_number) and written == plain(form), name
+
+
+def plain(text):
+    return text.encode('ascii').decode('unicode_escape').encode('latin-1')
+
+
 def answer_lines(name, answer):
     """What the program prints of a case: the answer, how far table and output were written, then the output (if it is long,
     its last 64 bytes)."""
@@ -221,7 +240,7 @@ def answer_lines(name, answer):
     return (first.encode() + (form if len(form) <= 2048 else form[-64:]))[:-1]
 
 
-for group in (one_form, many_forms, refusals, limits, drawn):
+for group in (one_form, many_forms, refusals, limits, drawn, compared):
     group()
 assert model.house(QUOTED_EXAMPLE).form == EXAMPLE
 record.write('housevectors', [(words(imposed, room, output, length or 'whole', name), header, answer_lines(name, answer))

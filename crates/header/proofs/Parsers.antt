@@ -273,7 +273,7 @@ pub ruleset keeps = (keep-refused, begin-full, begin-kept, entry-full, entry-kep
 
 -- One line: found, judged, kept
 
-take-sets : (t₀ : List ℕ) (ws : List ℕ) (n : ℕ) → n ≡ length ws → length ws ≤ length t₀ → take n (sets t₀ 0 ws) ≡ ws
+pub take-sets : (t₀ : List ℕ) (ws : List ℕ) (n : ℕ) → n ≡ length ws → length ws ≤ length t₀ → take n (sets t₀ 0 ws) ≡ ws
 take-sets t₀ ws n e l = rw (e, sets-eq ws t₀ 0 (omega arith)) (take-front ws (drop (0 + length ws) t₀))
   where
     take-front : (a b : List ℕ) → take (length a) (a ++ b) ≡ a

@@ -48,7 +48,7 @@ key-starts (c ∷ k) (d ∷ j) rest a b = elim (test (eqb d c)) [
   | fail e ↦ rw (starts, same, e)
 ]
 
-prefix-starts : (k j rest : Bytes) → any (is 61) k ≡ false → any (is 61) j ≡ false → starts (prefixOf k) (ascii "##" ++ (j ++ 61 ∷ rest)) ≡ same j k
+pub prefix-starts : (k j rest : Bytes) → any (is 61) k ≡ false → any (is 61) j ≡ false → starts (prefixOf k) (ascii "##" ++ (j ++ 61 ∷ rest)) ≡ same j k
 unfolding starts
 prefix-starts k j rest a b = key-starts k j rest a b
 

@@ -107,17 +107,17 @@ module _ {h : Bytes} {w x : ℕ} {prefix : Bytes} {kind : ℕ} {id : Bytes} {las
 pub ruleset candidates = (other-kind, unequal, candidate)
 
 -- the words of an entry off the front
-pair : (t : List ℕ) (k : ℕ) → k + 1 < length t → drop k t ≡ getD t k 0 ∷ getD t (k + 1) 0 ∷ drop (k + 2) t
+pub pair : (t : List ℕ) (k : ℕ) → k + 1 < length t → drop k t ≡ getD t k 0 ∷ getD t (k + 1) 0 ∷ drop (k + 2) t
 pair t k l =
     let two : k + 1 + 1 ≡ k + 2 = omega arith in
     rw (here t k (omega arith), here t (k + 1) l, two)
 
 -- no whole entry is left
-data Short : List ℕ → Type 0 where
+pub data Short : List ℕ → Type 0 where
   none : Short []
   one : (w : ℕ) → Short (w ∷ [])
 
-short : (t : List ℕ) (k : ℕ) → length t ≤ k + 1 → Short (drop k t)
+pub short : (t : List ℕ) (k : ℕ) → length t ≤ k + 1 → Short (drop k t)
 short t k l = go (drop k t) (omega (arith, length-drop k t))
   where
     go : (ws : List ℕ) → length ws ≤ 1 → Short ws

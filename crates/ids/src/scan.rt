@@ -14,7 +14,7 @@ pub enum Clash {
     OtherId,
 }
 
-fn line_part(h: &[u8], w: u64) -> &[u8]
+pub fn line_part(h: &[u8], w: u64) -> &[u8]
     ensures { λ r. ⌜ now r ≡ lineIn (now (h .entry)) w ⌝ }
 {
     let start = word::start_in(w);

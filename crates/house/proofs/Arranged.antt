@@ -1,0 +1,342 @@
+-- The form's lines, as the words of an accepted header's entries tell them, are those of the rules. Assumes nothing.
+use Prim.Native.Nat.{ℕ, _+_, _≤_}
+use native.Mathlib.Omega.{arith}
+use mathlib.Core.Path.{_≡_, refl, sym, ap, ap₂, subst, _∙_}
+use mathlib.Core.Bool.{Bool, true, false, not, _||_, _&&_, false≢true, true≢false}
+use mathlib.Core.List.{List, [], _∷_, _++_, map, append-assoc, append-nil}
+use mathlib.Core.Option.{Option}
+use lib.Dec.{eqb}
+use lib.ListN.{length}
+use Rattle.values.specs.Bytes.{Bytes, ascii, is, any, same}
+use Rattle.values.proofs.Tests.{pass, fail, test, or-l, or-r, both}
+use Rattle.values.proofs.Sames.{same-sound, same-sym}
+use Rattle.rules.specs.Sizes.{limits}
+use Rattle.rules.specs.Version.{Version}
+use Rattle.rules.specs.Known.{isIn, isTyped, typedKeys}
+use Rattle.rules.specs.Record.{Record, fileformat}
+use Rattle.rules.specs.Columns.{Columns}
+use Rattle.rules.specs.Entry.{Entry, place, recordEntry, columnEntries, words}
+use Rattle.rules.specs.Shown.{kindIn}
+use Rattle.rules.specs.Reading.{keyOf}
+use Rattle.rules.specs.Meaning.{under, without, otherKeys, meaning}
+use Rattle.rules.specs.House.{writeRecord, writeColumns, houseLines}
+use Rattle.rules.proofs.Firsts.{on-ok}
+use Rattle.rules.proofs.Alls.{All}
+use Rattle.rules.proofs.Records.{Entered}
+use Rattle.rules.proofs.Groups.{arrange, allKeys, records-arranged}
+use Rattle.rules.proofs.Samples.{GoodColumns, columns-in}
+use Rattle.rules.proofs.Tidy.{tidied}
+use Rattle.rules.proofs.Trace.{TracedHeader}
+use Rattle.ids.specs.Clashes.{lineIn, prefixOf}
+use Rattle.forms.specs.Lines.{lineOf}
+use Rattle.house.specs.Keys.{isRecord, isUnder, picked, AllReadable, linesUnder, prefixIn, seenUnder, isFirst, given, otherLines}
+use Rattle.house.specs.Forms.{columnWord, recordLines, formLines}
+use Rattle.house.proofs.Picks.{picked-yes, picked-no}
+use Rattle.house.proofs.Entries.{placed, Aside, RowIs, Are, rows-are, format-aside, columns-aside}
+
+abbrev Plain : Bytes → Type 0
+Plain k = any (is 61) k ≡ false
+
+abbrev Asides : List Entry → Type 0
+Asides = All (λ (e : Entry). Aside (e .0))
+
+map-append : (v : Version) (xs ys : List Record) → map (lineOf v) xs ++ map (lineOf v) ys ≡ map (lineOf v) (xs ++ ys)
+map-append v [] ys = refl
+map-append v (x ∷ xs) ys = ap (lineOf v x ∷_) (map-append v xs ys)
+
+under-yes : (k : Bytes) (r : Record) (rs : List Record) → same (keyOf r) k ≡ true → under k (r ∷ rs) ≡ r ∷ under k rs
+unfolding under
+under-yes k r rs e = rw (e, under)
+
+under-no : (k : Bytes) (r : Record) (rs : List Record) → same (keyOf r) k ≡ false → under k (r ∷ rs) ≡ under k rs
+unfolding under
+under-no k r rs e = rw (e, under)
+
+module _ (v : Version) (h : Bytes) where
+  not-under : (prefix : Bytes) (w : ℕ) → Aside w → isUnder h prefix w ≡ false
+  unfolding isUnder
+  not-under prefix w a = rw (a .unrecorded)
+
+  not-first : (ahead : List ℕ) (w : ℕ) → Aside w → isFirst h ahead w ≡ false
+  unfolding isFirst
+  not-first ahead w a = rw (a .not-other)
+
+  -- Every line can be read
+
+  aside-readable : (es : List Entry) → Asides es → AllReadable v h (words es)
+  unfolding words
+  aside-readable [] a = tt
+  aside-readable (e ∷ es) a = (λ q. both q (a .0 .unrecorded), aside-readable es (a .1))
+
+  rows-readable : (es : List Entry) (rs : List Record) (rest : List Entry) → Are v h es rs → Asides rest → AllReadable v h (words (es ++ rest))
+  unfolding words
+  rows-readable [] [] rest a b = aside-readable rest b
+  rows-readable [] (r ∷ rs) rest a b = absurd a
+  rows-readable (e ∷ es) [] rest a b = absurd a
+  rows-readable (e ∷ es) (r ∷ rs) rest a b = (λ q. a .0 .readable, rows-readable es rs rest (a .1) b)
+
+  -- The entries of a key are the records under it
+
+  picked-aside : (prefix : Bytes) (es : List Entry) → Asides es → picked v h prefix (words es) ≡ []
+  unfolding words picked
+  picked-aside prefix [] a = refl
+  picked-aside prefix (e ∷ es) a = picked-no v h prefix (e .0) (e .1) (words es) (not-under prefix (e .0) (a .0)) ∙ picked-aside prefix es (a .1)
+
+  picked-rows : (k : Bytes) → Plain k → (es : List Entry) (rs : List Record) (rest : List Entry) → Are v h es rs → Asides rest → picked v h (prefixOf k) (words (es ++ rest)) ≡ map (lineOf v) (under k rs)
+  unfolding words under
+  picked-rows k p [] [] rest a b = picked-aside (prefixOf k) rest b
+  picked-rows k p [] (r ∷ rs) rest a b = absurd a
+  picked-rows k p (e ∷ es) [] rest a b = absurd a
+  picked-rows k p (e ∷ es) (r ∷ rs) rest a b = elim (test (same (keyOf r) k)) [
+    | pass q ↦ picked-yes v h (prefixOf k) (e .0) (e .1) (words (es ++ rest)) (a .0 .under k p ∙ q)
+        ∙ ap₂ _∷_ (a .0 .written) (picked-rows k p es rs rest (a .1) b) ∙ sym (ap (map (lineOf v)) (under-yes k r rs q))
+    | fail q ↦ picked-no v h (prefixOf k) (e .0) (e .1) (words (es ++ rest)) (a .0 .under k p ∙ q)
+        ∙ picked-rows k p es rs rest (a .1) b ∙ sym (ap (map (lineOf v)) (under-no k r rs q))
+  ]
+
+  seen-snoc : (prefix : Bytes) (es : List Entry) (e : Entry) → seenUnder h prefix (words (es ++ e ∷ [])) ≡ (seenUnder h prefix (words es) || isUnder h prefix (e .0))
+  unfolding words seenUnder
+  seen-snoc prefix [] e = or-none (isUnder h prefix (e .0))
+    where
+      or-none : (b : Bool) → (b || false) ≡ b
+      or-none true = refl
+      or-none false = refl
+  seen-snoc prefix (f ∷ es) e = go (isUnder h prefix (f .0)) (seenUnder h prefix (words es)) (isUnder h prefix (e .0)) (seen-snoc prefix es e)
+    where
+      go : (b y z : Bool) {x : Bool} → x ≡ (y || z) → (b || x) ≡ ((b || y) || z)
+      go true y z q = refl
+      go false y z q = q
+
+words-snoc : (es : List Entry) (e : Entry) → words es ++ e .0 ∷ e .1 ∷ [] ≡ words (es ++ e ∷ [])
+unfolding words
+words-snoc [] e = refl
+words-snoc (f ∷ es) e = ap (λ (ws : List ℕ). f .0 ∷ f .1 ∷ ws) (words-snoc es e)
+
+-- The keys that are not typed, each where it first appears and if it is none of ks
+
+unfoldable freshKeys : List Bytes → List Record → List Bytes
+freshKeys ks [] = []
+freshKeys ks (r ∷ rs) = elim (isTyped (keyOf r)) [
+  | true ↦ freshKeys ks rs
+  | false ↦ elim (isIn (keyOf r) ks) [ true ↦ freshKeys (keyOf r ∷ ks) rs | false ↦ keyOf r ∷ freshKeys (keyOf r ∷ ks) rs ]
+]
+
+module _ (ks : List Bytes) (r : Record) (rs : List Record) where
+  fresh-typed : isTyped (keyOf r) ≡ true → freshKeys ks (r ∷ rs) ≡ freshKeys ks rs
+  unfolding freshKeys
+  fresh-typed e = rw (e, freshKeys)
+
+  module _ (e : isTyped (keyOf r) ≡ false) where
+    fresh-seen : isIn (keyOf r) ks ≡ true → freshKeys ks (r ∷ rs) ≡ freshKeys (keyOf r ∷ ks) rs
+    unfolding freshKeys
+    fresh-seen f = rw (freshKeys, e, f)
+
+    fresh-new : isIn (keyOf r) ks ≡ false → freshKeys ks (r ∷ rs) ≡ keyOf r ∷ freshKeys (keyOf r ∷ ks) rs
+    unfolding freshKeys
+    fresh-new f = rw (freshKeys, e, f)
+
+-- all but ks
+unfoldable lacking : List Bytes → List Bytes → List Bytes
+lacking [] js = js
+lacking (k ∷ ks) js = lacking ks (without k js)
+
+without-yes : (k j : Bytes) (js : List Bytes) → same j k ≡ true → without k (j ∷ js) ≡ without k js
+unfolding without
+without-yes k j js e = rw (e, without)
+
+without-no : (k j : Bytes) (js : List Bytes) → same j k ≡ false → without k (j ∷ js) ≡ j ∷ without k js
+unfolding without
+without-no k j js e = rw (e, without)
+
+lacking-in : (ks : List Bytes) (j : Bytes) (js : List Bytes) → isIn j ks ≡ true → lacking ks (j ∷ js) ≡ lacking ks js
+unfolding lacking isIn
+lacking-in [] j js h = absurd (false≢true h)
+lacking-in (k ∷ ks) j js h = elim (test (same j k)) [
+  | pass e ↦ ap (lacking ks) (without-yes k j js e)
+  | fail e ↦ ap (lacking ks) (without-no k j js e) ∙ lacking-in ks j (without k js) (rw (same-sym k j ∙ e) at h)
+]
+
+lacking-out : (ks : List Bytes) (j : Bytes) (js : List Bytes) → isIn j ks ≡ false → lacking ks (j ∷ js) ≡ j ∷ lacking ks js
+unfolding lacking isIn
+lacking-out [] j js h = refl
+lacking-out (k ∷ ks) j js h =
+    ap (lacking ks) (without-no k j js (same-sym j k ∙ or-l (same k j) (isIn j ks) h)) ∙ lacking-out ks j (without k js) (or-r (same k j) (isIn j ks) h)
+
+lacking-none : (ks : List Bytes) → lacking ks [] ≡ []
+unfolding lacking without
+lacking-none [] = refl
+lacking-none (k ∷ ks) = lacking-none ks
+
+fresh-lacking : (ks : List Bytes) (rs : List Record) → freshKeys ks rs ≡ lacking ks (otherKeys rs)
+unfolding freshKeys otherKeys lacking
+fresh-lacking ks [] = sym (lacking-none ks)
+fresh-lacking ks (r ∷ rs) = elim (test (isTyped (keyOf r))) [
+  | pass e ↦ fresh-typed ks r rs e ∙ fresh-lacking ks rs ∙ ap (lacking ks) (sym (keys-typed r rs e))
+  | fail e ↦ elim (test (isIn (keyOf r) ks)) [
+    | pass f ↦ fresh-seen ks r rs e f ∙ fresh-lacking (keyOf r ∷ ks) rs ∙ sym (ap (lacking ks) (keys-other r rs e) ∙ lacking-in ks (keyOf r) (without (keyOf r) (otherKeys rs)) f)
+    | fail f ↦ fresh-new ks r rs e f ∙ ap (keyOf r ∷_) (fresh-lacking (keyOf r ∷ ks) rs) ∙ sym (ap (lacking ks) (keys-other r rs e) ∙ lacking-out ks (keyOf r) (without (keyOf r) (otherKeys rs)) f)
+  ]
+]
+  where
+    keys-typed : (r : Record) (rs : List Record) → isTyped (keyOf r) ≡ true → otherKeys (r ∷ rs) ≡ otherKeys rs
+    keys-typed r rs e = rw (e, otherKeys)
+
+    keys-other : (r : Record) (rs : List Record) → isTyped (keyOf r) ≡ false → otherKeys (r ∷ rs) ≡ keyOf r ∷ without (keyOf r) (otherKeys rs)
+    keys-other r rs e = rw (e, otherKeys)
+
+-- a typed key is none that is not
+typed-not : (j k : Bytes) → isTyped j ≡ true → isTyped k ≡ false → same j k ≡ false
+typed-not j k a b = elim (test (same j k)) [ pass e ↦ both (rw (same-sound j k e) at a) b | fail e ↦ e ]
+
+or-swap : (a b : Bool) → (a || b) ≡ (b || a)
+or-swap true true = refl
+or-swap true false = refl
+or-swap false true = refl
+or-swap false false = refl
+
+module _ (v : Version) (h : Bytes) (all : List ℕ) (ts : List Record) (pick : (k : Bytes) → Plain k → picked v h (prefixOf k) all ≡ map (lineOf v) (under k ts)) where
+  -- the lines of these keys, then more
+  lines-arranged : (js ks : List Bytes) {ls : List Bytes} → All Plain js → ls ≡ map (lineOf v) (arrange ks ts) → linesUnder v h all js ++ ls ≡ map (lineOf v) (arrange (js ++ ks) ts)
+  unfolding linesUnder arrange
+  lines-arranged [] ks p e = e
+  lines-arranged (j ∷ js) ks {ls} p e =
+      append-assoc (picked v h (prefixOf j) all) (linesUnder v h all js) ls
+      ∙ ap₂ _++_ (pick j (p .0)) (lines-arranged js ks (p .1) e)
+      ∙ map-append v (under j ts) (arrange (js ++ ks) ts)
+
+  others-aside : (ahead : List ℕ) (es : List Entry) → Asides es → otherLines v h all ahead (words es) ≡ []
+  unfolding words otherLines
+  others-aside ahead [] a = refl
+  others-aside ahead (e ∷ es) a = rw (not-first v h ahead (e .0) (a .0)) (others-aside (ahead ++ e .0 ∷ e .1 ∷ []) es (a .1))
+
+  -- ks are the other keys that were seen in the entries before
+  abbrev Seen : List Entry → List Bytes → Type 0
+  Seen es ks = (k : Bytes) → Plain k → isTyped k ≡ false → seenUnder h (prefixOf k) (words es) ≡ isIn k ks
+
+  seen-typed : (ahead : List Entry) (ks : List Bytes) (e : Entry) (r : Record) → RowIs v h e r → isTyped (keyOf r) ≡ true → Seen ahead ks → Seen (ahead ++ e ∷ []) ks
+  seen-typed ahead ks e r a t s k p u = seen-snoc v h (prefixOf k) ahead e ∙ rw (s k p u, a .under k p, typed-not (keyOf r) k t u) (or-swap (isIn k ks) false)
+
+  seen-other : (ahead : List Entry) (ks : List Bytes) (e : Entry) (r : Record) → RowIs v h e r → Seen ahead ks → Seen (ahead ++ e ∷ []) (keyOf r ∷ ks)
+  unfolding isIn
+  seen-other ahead ks e r a s k p u = seen-snoc v h (prefixOf k) ahead e ∙ rw (s k p u, a .under k p) (or-swap (isIn k ks) (same (keyOf r) k))
+
+  typed-first : (ahead : List Entry) (e : Entry) (r : Record) → RowIs v h e r → isTyped (keyOf r) ≡ true → isFirst h (words ahead) (e .0) ≡ false
+  unfolding isFirst
+  typed-first ahead e r a t = rw (a .other, t)
+
+  other-first : (ahead : List Entry) (ks : List Bytes) (e : Entry) (r : Record) → RowIs v h e r → isTyped (keyOf r) ≡ false → Seen ahead ks → isFirst h (words ahead) (e .0) ≡ not (isIn (keyOf r) ks)
+  unfolding isFirst
+  other-first ahead ks e r a t s = rw (a .other, t, a .prefix, s (keyOf r) (a .plain) t)
+
+  -- one entry off the front
+  others-turn : (ahead : List Entry) (e : Entry) (es : List Entry) {b : Bool} → isFirst h (words ahead) (e .0) ≡ b
+      → otherLines v h all (words ahead) (words (e ∷ es)) ≡ given b (picked v h (prefixIn h (e .0)) all) ++ otherLines v h all (words (ahead ++ e ∷ [])) (words es)
+  unfolding words otherLines
+  others-turn ahead e es q = rw (q, words-snoc ahead e)
+
+  others-arranged : (es : List Entry) (rs : List Record) (rest : List Entry) → Are v h es rs → Asides rest → (ahead : List Entry) (ks : List Bytes) → Seen ahead ks
+      → otherLines v h all (words ahead) (words (es ++ rest)) ≡ map (lineOf v) (arrange (freshKeys ks rs) ts)
+  unfolding freshKeys arrange
+  others-arranged [] [] rest a b ahead ks s = others-aside (words ahead) rest b
+  others-arranged [] (r ∷ rs) rest a b ahead ks s = absurd a
+  others-arranged (e ∷ es) [] rest a b ahead ks s = absurd a
+  others-arranged (e ∷ es) (r ∷ rs) rest a b ahead ks s = elim (test (isTyped (keyOf r))) [
+    | pass t ↦ others-turn ahead e (es ++ rest) (typed-first ahead e r (a .0) t)
+        ∙ others-arranged es rs rest (a .1) b (ahead ++ e ∷ []) ks (seen-typed ahead ks e r (a .0) t s)
+        ∙ sym (ap (λ (js : List Bytes). map (lineOf v) (arrange js ts)) (fresh-typed ks r rs t))
+    | fail t ↦ elim (test (isIn (keyOf r) ks)) [
+      | pass f ↦ others-turn ahead e (es ++ rest) (other-first ahead ks e r (a .0) t s ∙ ap not f)
+          ∙ others-arranged es rs rest (a .1) b (ahead ++ e ∷ []) (keyOf r ∷ ks) (seen-other ahead ks e r (a .0) s)
+          ∙ sym (ap (λ (js : List Bytes). map (lineOf v) (arrange js ts)) (fresh-seen ks r rs t f))
+      | fail f ↦ others-turn ahead e (es ++ rest) (other-first ahead ks e r (a .0) t s ∙ ap not f)
+          ∙ ap₂ _++_ (ap (λ (p : Bytes). picked v h p all) (a .0 .prefix) ∙ pick (keyOf r) (a .0 .plain))
+          (others-arranged es rs rest (a .1) b (ahead ++ e ∷ []) (keyOf r ∷ ks) (seen-other ahead ks e r (a .0) s))
+          ∙ map-append v (under (keyOf r) ts) (arrange (freshKeys (keyOf r ∷ ks) rs) ts)
+          ∙ sym (ap (λ (js : List Bytes). map (lineOf v) (arrange js ts)) (fresh-new ks r rs t f))
+    ]
+  ]
+
+-- A header's entries: its version's line, its records, its column line and samples
+
+module _ (v : Version) (h : Bytes) (own : Entry) (es : List Entry) (rs : List Record) (rest : List Entry) (aside : Aside (own .0)) (are : Are v h es rs) (asides : Asides rest) where
+  abbrev ws : List ℕ
+  ws = words (own ∷ (es ++ rest))
+
+  all-readable : AllReadable v h ws
+  unfolding words
+  all-readable = (λ q. both q (aside .unrecorded), rows-readable v h es rs rest are asides)
+
+  pick-under : (k : Bytes) → Plain k → picked v h (prefixOf k) ws ≡ map (lineOf v) (under k rs)
+  unfolding words
+  pick-under k p = picked-no v h (prefixOf k) (own .0) (own .1) (words (es ++ rest)) (not-under v h (prefixOf k) (own .0) aside) ∙ picked-rows v h k p es rs rest are asides
+
+  none-seen : Seen v h ws rs pick-under (own ∷ []) []
+  unfolding words seenUnder isIn
+  none-seen k p u = rw (not-under v h (prefixOf k) (own .0) aside)
+
+  others-are : otherLines v h ws [] ws ≡ map (lineOf v) (arrange (otherKeys rs) rs)
+  unfolding words otherLines lacking
+  others-are =
+      rw (not-first v h [] (own .0) aside)
+      (others-arranged v h ws rs pick-under es rs rest are asides (own ∷ []) [] none-seen ∙ ap (λ (ks : List Bytes). map (lineOf v) (arrange ks rs)) (fresh-lacking [] rs))
+
+  typed-plain : All Plain typedKeys
+  unfolding any
+  typed-plain = (refl, (refl, (refl, (refl, (refl, tt)))))
+
+  records-are : recordLines v h ws ≡ map (lineOf v) (arrange (allKeys rs) rs)
+  unfolding recordLines
+  records-are = lines-arranged v h ws rs pick-under typedKeys (otherKeys rs) typed-plain others-are
+
+  rows-column : (fs : List Entry) (ss : List Record) → Are v h fs ss → columnWord (words (fs ++ rest)) ≡ columnWord (words rest)
+  unfolding words columnWord
+  rows-column [] [] a = refl
+  rows-column [] (s ∷ ss) a = absurd a
+  rows-column (f ∷ fs) [] a = absurd a
+  rows-column (f ∷ fs) (s ∷ ss) a = rw (a .0 .no-columns) (rows-column fs ss (a .1))
+
+  column-is : kindIn (own .0) ≡ 1 → columnWord ws ≡ columnWord (words rest)
+  unfolding words columnWord
+  column-is e = rw e (rows-column es rs are)
+
+-- an accepted header: every record's line can be read, and the lines are those of its meaning
+pub record FormIs (v : Version) (h : Bytes) (rs : List Record) (c : Columns) (es : List Entry) : Type 0 where
+  pub readable : AllReadable v h (words es)
+  pub lines : formLines v h (words es) ≡ houseLines (meaning v rs c)
+
+house-lines : (v : Version) (rs : List Record) (c : Columns) → houseLines (meaning v rs c) ≡ writeRecord (fileformat v) ∷ (map (lineOf v) (arrange (allKeys rs) rs) ++ writeColumns (c .format) (c .samples) ∷ [])
+unfolding houseLines meaning
+house-lines v rs c = rw (records-arranged v (allKeys rs) rs) (ap (λ (ls : List Bytes). writeRecord (fileformat v) ∷ (ls ++ writeColumns (c .format) (c .samples) ∷ [])) (mapped (arrange (allKeys rs) rs)))
+  where
+    mapped : (xs : List Record) → map writeRecord (map (tidied v) xs) ≡ map (lineOf v) xs
+    mapped [] = refl
+    mapped (x ∷ xs) = ap (lineOf v x ∷_) (mapped xs)
+
+module _ (imposed : Option Version) (h : Bytes) (within : length h ≤ 1048575) (v : Version) (rs : List Record) (c : Columns) (entries : List Entry)
+    (t : TracedHeader limits imposed h v rs c entries) (good : All (Entered v) rs) (columns : GoodColumns c) where
+  abbrev own : Entry
+  own = recordEntry (t .own) 0 (t .format) (fileformat (t .own))
+
+  abbrev rest : List Entry
+  rest = columnEntries (t .start) (t .line) c
+
+  column-line : writeColumns (c .format) (c .samples) ≡ t .line
+  column-line = on-ok (λ (x : Columns). writeColumns (x .format) (x .samples) ≡ t .line) (columns-in (t .line)) (t .readLast)
+
+  last-line : lineIn h (columnWord (words rest)) ≡ t .line
+  unfolding columnEntries words columnWord
+  last-line = let d = placed h within 9 (t .start) (t .line) (omega arith) (t .last) (place 9 (t .start) (length (t .line))) refl in rw (d .0) (d .1)
+
+  pub form-is : FormIs v h rs c entries
+  unfolding formLines recordEntry
+  form-is =
+      let aside = format-aside h within (t .own) (t .own) (t .format) (t .first) in
+      let are = rows-are v h within (t .rows) rs (t .all) good in
+      let asides = columns-aside h within (t .start) (t .line) c (t .last) column-line columns in
+      let kind = placed h within 1 0 (t .format) (omega arith) (t .first) (own .0) refl .0 in
+      let column : lineIn h (columnWord (words (own ∷ (t .rows ++ rest)))) ≡ writeColumns (c .format) (c .samples)
+      = ap (lineIn h) (column-is v h own (t .rows) rs rest aside are asides kind) ∙ last-line ∙ sym column-line in
+      rw (t .these) (record {
+        readable = all-readable v h own (t .rows) rs rest aside are asides;
+        lines = rw (records-are v h own (t .rows) rs rest aside are asides, column, house-lines v rs c);
+      })

@@ -1,0 +1,206 @@
+-- Demand 3 for the calls: what they promise, with the rules' theorems, makes the form that they write the one form of a header. Assumes nothing.
+use Prim.Native.Nat.{ℕ, zero, suc, _≤_}
+use native.Mathlib.Omega.{arith}
+use mathlib.Core.Path.{_≡_, refl, sym, ap, subst, _∙_}
+use mathlib.Core.Bool.{Bool, true, false}
+use mathlib.Core.List.{List}
+use mathlib.Core.Option.{Option, none, some}
+use mathlib.Core.Logic.{_↔_, _⊎_, ⊎-elim}
+use lib.Dec.{leb}
+use lib.ListN.{length, take}
+use lib.Seq.{sets}
+use borrow.Author.Tests.{leb-true, le-leb}
+use Rattle.values.specs.Bytes.{Bytes}
+use Rattle.values.proofs.Tests.{pass, fail, test}
+use Rattle.values.proofs.Lists.{none-not, some-is}
+use Rattle.rules.specs.Sizes.{limits}
+use Rattle.rules.specs.Version.{Version}
+use Rattle.rules.specs.Record.{Record}
+use Rattle.rules.specs.Columns.{Columns}
+use Rattle.rules.specs.Entry.{words}
+use Rattle.rules.specs.Reading.{State, empty, ready, done, Reading, reading}
+use Rattle.rules.specs.Meaning.{Meaning, meaning}
+use Rattle.rules.specs.House.{houseLines, houseForm, HouseReading, tooLong, refusedForm, fitted, lined, formOf, houseOf, house}
+use Rattle.rules.proofs.Versions.{SizedOption}
+use Rattle.rules.proofs.Back.{Accepted}
+use Rattle.rules.proofs.House.{Fits, house-reads-back, house-canonical}
+use Rattle.rules.proofs.Rooms.{rooms}
+use Rattle.records.specs.Formats.{versionOf}
+use Rattle.records.specs.declared.file_format.FileFormat.{FileFormat}
+use Rattle.records.proofs.Refusals.{number-suc}
+use Rattle.header.specs.declared.parser.Outcome.{Outcome}
+use Rattle.header.specs.declared.parser.Outcome.the-variants as outcome
+use Rattle.header.specs.Parsers.{outcomeNumber, outcomeSays, acceptedIn}
+use Rattle.header.proofs.Parsers.{take-sets}
+use Rattle.house.specs.declared.form.HouseAnswer.{HouseAnswer}
+use Rattle.house.specs.Answers.{ToldForm, toldForm, tellsForm}
+
+-- what `house_form` promises of a call: the version imposed, the header, the table and the output; the answer, the table and the output after it
+pub record HouseCall (imposed : Option Version) (h : Bytes) (t : List ℕ) (out : Bytes) (r : HouseAnswer) (t′ : List ℕ) (out′ : Bytes) : Type 0 where
+  pub answer : toldForm r ≡ tellsForm (reading limits imposed (length t) h) (house limits imposed (length t) (length out) h)
+  pub table : t′ ≡ sets t 0 (words (reading limits imposed (length t) h .entries))
+  pub output : out′ ≡ sets out 0 (house limits imposed (length t) (length out) h .form)
+
+-- the call was accepted
+abbrev pub IsAccepted : HouseAnswer → Type 0
+IsAccepted r = (f : FileFormat) × (n : ℕ) × (r .outcome ≡ outcome.Accepted f n)
+
+-- what was written
+abbrev pub written : HouseAnswer → Bytes → Bytes
+written r out′ = take (r .length) out′
+
+abbrev meant : ℕ → State → Option Meaning
+meant zero empty = none
+meant zero (ready v rs) = none
+meant zero (done v rs c) = some (meaning v rs c)
+meant (suc n) s = none
+
+-- the meaning of a header, if it is accepted
+abbrev pub means : Option Version → ℕ → Bytes → Option Meaning
+means imposed room h = meant (reading limits imposed room h .number) (reading limits imposed room h .state)
+
+-- A form that was accepted
+
+record Formed (room : ℕ) (m : Meaning) (f : HouseReading) : Type 0 where
+  fits : Fits limits m
+  form : f .form ≡ houseForm m
+  inside : length (houseForm m) ≤ room
+
+module _ (room : ℕ) (r : Reading) (m : Meaning) where
+  formed : formOf limits room r m .number ≡ 0 → Formed room m (formOf limits room r m)
+  unfolding formOf
+  formed z = elim (test (leb (length (houseForm m)) (limits .header))) [
+    | fail q ↦ let n : _≡_ {A = ℕ} 27 0 = rw (formOf, q) at z in absurd (omega arith)
+    | pass q ↦ rw (formOf, q) (short (tooLong (limits .line) 0 0 (houseLines m)) refl (leb-true (length (houseForm m)) (limits .header) q) (rw (formOf, q) at z))
+  ]
+    where
+      short : (x : Option (ℕ × ℕ)) → tooLong (limits .line) 0 0 (houseLines m) ≡ x → length (houseForm m) ≤ limits .header → lined room r (houseForm m) x .number ≡ 0 → Formed room m (lined room r (houseForm m) x)
+      short (some p) e l n = absurd (omega arith)
+      short none e l n = elim (test (leb (length (houseForm m)) room)) [
+        | fail q ↦ let k : _≡_ {A = ℕ} 28 0 = rw (lined, fitted, q) at n in absurd (omega arith)
+        | pass q ↦ rw (lined, fitted, q) (record { fits = record { header = l; lines = e }; form = refl; inside = leb-true (length (houseForm m)) room q })
+      ]
+
+  -- a form that fits is accepted
+  fitting : Fits limits m → length (houseForm m) ≤ room → (formOf limits room r m .number ≡ 0) × (formOf limits room r m .form ≡ houseForm m)
+  unfolding formOf
+  fitting f l =
+      let a = le-leb (length (houseForm m)) (limits .header) (f .header) in
+      let b = le-leb (length (houseForm m)) room l in
+      (rw (formOf, a, f .lines) (rw (lined, fitted, b)), rw (formOf, a, f .lines) (rw (lined, fitted, b)))
+
+  done-formed : (v : Version) (rs : List Record) (c : Columns) → houseOf limits room r (done v rs c) .number ≡ 0 → (r .number ≡ 0) × (houseOf limits room r (done v rs c) ≡ formOf limits room r (meaning v rs c))
+  done-formed v rs c z = go (r .number) refl
+    where
+      go : (n : ℕ) → r .number ≡ n → (r .number ≡ 0) × (houseOf limits room r (done v rs c) ≡ formOf limits room r (meaning v rs c))
+      go zero e = (e, rw e)
+      go (suc n) e = let k : r .number ≡ 0 = rw (houseOf, e) at z in absurd (omega arith)
+
+-- an accepted call: the records, and the form that it wrote
+record Wrote (imposed : Option Version) (h : Bytes) (t : List ℕ) (out : Bytes) (r : HouseAnswer) (out′ : Bytes) : Type 0 where
+  version : Version
+  records : List Record
+  columns : Columns
+  accepted : Accepted version records columns (reading limits imposed (length t) h)
+  fits : Fits limits (meaning version records columns)
+  size : r .length ≡ length (houseForm (meaning version records columns))
+  form : written r out′ ≡ houseForm (meaning version records columns)
+  inside : length (houseForm (meaning version records columns)) ≤ length out
+
+module _ {imposed : Option Version} {h : Bytes} {t : List ℕ} {out : Bytes} {r : HouseAnswer} {t′ : List ℕ} {out′ : Bytes} (call : HouseCall imposed h t out r t′ out′) where
+  abbrev read : Reading
+  read = reading limits imposed (length t) h
+
+  abbrev answer : HouseReading
+  answer = house limits imposed (length t) (length out) h
+
+  -- the output, where the form is known
+  wrote-form : {form : Bytes} → answer .form ≡ form → length form ≤ length out → (r .length ≡ length form) × (written r out′ ≡ form)
+  wrote-form {form} e l =
+      let n : r .length ≡ length form = ap (λ (x : ToldForm). x .size) (call .answer) ∙ ap length e in
+      (n, ap (take (r .length)) (call .output ∙ ap (sets out 0) e) ∙ take-sets out form (r .length) n l)
+
+  wrote : IsAccepted r → Wrote imposed h t out r out′
+  unfolding house
+  wrote a = go (read .state) refl (rw number at (sym (ap (λ (x : ToldForm). x .accepted) (call .answer)) ∙ ap outcomeSays (a .2)))
+    where
+      number : answer .number ≡ 0
+      number = sym (ap (λ (x : ToldForm). x .number) (call .answer)) ∙ ap outcomeNumber (a .2)
+
+      go : (s : State) → read .state ≡ s → acceptedIn 0 (read .state) ≡ some (versionOf (a .0), a .1) → Wrote imposed h t out r out′
+      go empty q e = none-not (rw q at e)
+      go (ready v rs) q e = none-not (rw q at e)
+      go (done v rs c) q e =
+          let is : answer ≡ houseOf limits (length out) read (done v rs c) = ap (houseOf limits (length out) read) q in
+          let d = done-formed (length out) read (meaning v rs c) v rs c (sym (ap (λ (x : HouseReading). x .number) is) ∙ number) in
+          let f = formed (length out) read (meaning v rs c) (sym (ap (λ (x : HouseReading). x .number) (is ∙ d .1)) ∙ number) in
+          let w = wrote-form (ap (λ (x : HouseReading). x .form) (is ∙ d .1) ∙ f .form) (f .inside) in
+          record {
+            version = v;
+            records = rs;
+            columns = c;
+            accepted = record { number = d .0; state = q };
+            fits = f .fits;
+            size = w .0;
+            form = w .1;
+            inside = f .inside;
+          }
+
+means-is : (imposed : Option Version) (room : ℕ) (h : Bytes) {v : Version} {rs : List Record} {c : Columns} → Accepted v rs c (reading limits imposed room h) → means imposed room h ≡ some (meaning v rs c)
+means-is imposed room h a = rw (a .number, a .state)
+
+is-accepted : (o : Outcome) → outcomeNumber o ≡ 0 → (f : FileFormat) × (n : ℕ) × (o ≡ outcome.Accepted f n)
+is-accepted (outcome.Accepted f n) e = (f, n, refl)
+is-accepted (outcome.Refused x) e = let n = number-suc x in absurd (omega (arith, n .1, e))
+
+-- two accepted calls, on two headers: the headers mean the same exactly when the forms that were written are equal
+pub one-form : {imposed imposed′ : Option Version} {h h′ : Bytes} {t t₁ u u₁ : List ℕ} {out out₁ o o₁ : Bytes} {r s : HouseAnswer}
+    → SizedOption imposed → SizedOption imposed′ → HouseCall imposed h t out r t₁ out₁ → HouseCall imposed′ h′ u o s u₁ o₁ → IsAccepted r → IsAccepted s
+    → (means imposed (length t) h ≡ means imposed′ (length u) h′) ↔ (written r out₁ ≡ written s o₁)
+one-form {imposed} {imposed′} {h} {h′} {t} {u = u} i j p q a b =
+    let x = wrote p a in
+    let y = wrote q b in
+    let m = means-is imposed (length t) h (x .accepted) in
+    let n = means-is imposed′ (length u) h′ (y .accepted) in
+    let same = house-canonical limits imposed imposed′ (length t) (length u) h h′ i j (x .accepted) (y .accepted) (x .fits) (y .fits) in (
+      (λ e. x .form ∙ same .0 (some-is (sym m ∙ e ∙ n)) ∙ sym (y .form)),
+      (λ e. m ∙ ap some (same .1 (sym (x .form) ∙ e ∙ y .form)) ∙ sym n),
+    )
+
+module _ {imposed : Option Version} {h : Bytes} {t : List ℕ} {out : Bytes} {r : HouseAnswer} {t₁ : List ℕ} {out₁ : Bytes}
+    (sized : SizedOption imposed) (call : HouseCall imposed h t out r t₁ out₁) (a : IsAccepted r) where
+  -- what was written, read with a table of at least the same size
+  again : (room : ℕ) → length t ≤ room
+      → (rs : List Record) × Accepted (wrote call a .version) rs (wrote call a .columns) (reading limits none room (written r out₁))
+      × (meaning (wrote call a .version) rs (wrote call a .columns) ≡ meaning (wrote call a .version) (wrote call a .records) (wrote call a .columns))
+  again room l =
+      let x = wrote call a in
+      let b = house-reads-back limits imposed (length t) h sized (x .accepted) (x .fits) in
+      let g = houseForm (meaning (x .version) (x .records) (x .columns)) in
+      rw (x .form) (b .0, more g (b .1) (rooms limits none (length t) room g l), b .2)
+    where
+      more : (g : Bytes) {v : Version} {rs : List Record} {c : Columns} → Accepted v rs c (reading limits none (length t) g)
+          → (reading limits none (length t) g .number ≡ 24) ⊎ (reading limits none room g ≡ reading limits none (length t) g) → Accepted v rs c (reading limits none room g)
+      more g {v} {rs} {c} d = ⊎-elim (λ e. absurd (omega (arith, d .number, e))) (λ e. subst (Accepted v rs c) (sym e) d)
+
+  -- reading what was written gives the same meaning
+  pub reads-back : (room : ℕ) → length t ≤ room → means none room (written r out₁) ≡ means imposed (length t) h
+  reads-back room l = let b = again room l in means-is none room (written r out₁) (b .1) ∙ ap some (b .2) ∙ sym (means-is imposed (length t) h (wrote call a .accepted))
+
+  -- a call on what was written, with a table of at least the same size and an output that holds it, is accepted and writes the same
+  pub fixed : {u u₁ : List ℕ} {o o₁ : Bytes} {s : HouseAnswer} → HouseCall none (written r out₁) u o s u₁ o₁ → length t ≤ length u → r .length ≤ length o
+      → IsAccepted s × (written s o₁ ≡ written r out₁)
+  unfolding house
+  fixed {u} {o = o} {s = s} call′ l m =
+      let x = wrote call a in
+      let b = again (length u) l in
+      let g = reading limits none (length u) (written r out₁) in
+      let k = meaning (x .version) (b .0) (x .columns) in
+      let is : house limits none (length u) (length o) (written r out₁) ≡ formOf limits (length o) g k = rw (b .1 .state, b .1 .number) in
+      let f : Fits limits k = subst (Fits limits) (sym (b .2)) (x .fits) in
+      let n : length (houseForm k) ≤ length o = rw (b .2) (omega (arith, x .size)) in
+      let d = fitting (length o) g k f n in
+      let w = wrote-form call′ (ap (λ (y : HouseReading). y .form) is ∙ d .1) n in (
+        is-accepted (s .outcome) (ap (λ (y : ToldForm). y .number) (call′ .answer) ∙ ap (λ (y : HouseReading). y .number) is ∙ d .0),
+        w .1 ∙ ap houseForm (b .2) ∙ sym (x .form),
+      )

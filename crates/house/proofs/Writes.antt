@@ -1,0 +1,225 @@
+-- Lines written one after another. Assumes nothing.
+use Prim.Native.Nat.{ℕ, zero, suc, _+_, _-_, _≤_, _<_, min}
+use native.Mathlib.Omega.{arith}
+use mathlib.Core.Path.{_≡_, refl, sym, ap, subst, _∙_}
+use mathlib.Core.Bool.{Bool, true, false, _&&_}
+use mathlib.Core.List.{List, [], _∷_, _++_, append-assoc, append-nil}
+use mathlib.Core.Option.{Option, none, some}
+use lib.Dec.{eqb, ltb, leb}
+use lib.ListN.{length, length-append}
+use borrow.Author.Tests.{eq-eqb, ne-eqb, lt-ltb, le-ltb, le-leb, lt-leb, leb-true, leb-false}
+use Rattle.values.specs.Bytes.{Bytes, ascii, is, any}
+use Rattle.values.specs.Integer.{decimal}
+use Rattle.values.specs.Written.{last, onward, Wrote}
+use Rattle.values.proofs.Tests.{pass, fail, test, or-l, or-r, and-off}
+use Rattle.values.proofs.Lists.{any-append}
+use Rattle.values.proofs.Decimals.{decimal-lacks}
+use Rattle.values.proofs.Outputs.{wrote-nothing, then}
+use Rattle.rules.specs.Answer.{ok}
+use Rattle.rules.specs.Sizes.{limits}
+use Rattle.rules.specs.Version.{Version, writeVersion}
+use Rattle.rules.specs.Lines.{ends, writeLine, writeLines}
+use Rattle.rules.specs.Record.{Record, fileformat, readRecord}
+use Rattle.rules.specs.House.{writeRecord, tooLong}
+use Rattle.forms.specs.Lines.{lineOf, ending, PutsLine}
+use Rattle.forms.proofs.Lines.{line-ended}
+use Rattle.forms.specs.declared.line.LineWritten.{LineWritten}
+use Rattle.house.specs.declared.lines.Progress.{Progress}
+use Rattle.house.specs.Writes.{longIn, isLong, noted, orElse, WroteLines, houseLine, Readable, PutsEntry}
+
+-- what answers the needs of `count_line`
+pub count-more : (n : ℕ) → n < 18446744073709551615 → n + 1 ≡ onward n 1
+unfolding onward
+count-more n h = omega arith
+
+pub count-full : (n : ℕ) → 18446744073709551615 ≤ n → n < 18446744073709551616 → n ≡ onward n 1
+unfolding onward
+count-full n h l = omega arith
+
+pub ruleset counts = (count-more, count-full)
+
+-- what answers the needs of `note_line`
+module _ (s : Progress) (end next : ℕ) where
+  is-noted : isLong s end ≡ true → record { next = next; lines = onward (s .lines) 1; long = onward (s .lines) 1; start = s .next } ≡ noted s end next
+  unfolding noted
+  is-noted e = rw (noted, e)
+
+  not-noted : isLong s end ≡ false → record { next = next; lines = onward (s .lines) 1; long = s .long; start = s .start } ≡ noted s end next
+  unfolding noted
+  not-noted e = rw (noted, e)
+
+  module _ {n : ℕ} (c : n ≡ onward (s .lines) 1) where
+    pub note-long : s .long ≡ 0 → s .next ≤ end → 65535 < end - s .next → _≡_ {A = Progress} (record { next = next; lines = n; long = n; start = s .next }) (noted s end next)
+    note-long a b d = rw c (is-noted (rw (eq-eqb (s .long) 0 a) (lt-ltb 65535 (end - s .next) d)))
+
+    pub note-short : s .long ≡ 0 → s .next ≤ end → end - s .next ≤ 65535 → _≡_ {A = Progress} (record { next = next; lines = n; long = s .long; start = s .start }) (noted s end next)
+    note-short a b d = rw c (not-noted (and-off (eqb (s .long) 0) (le-ltb 65535 (end - s .next) d)))
+
+    pub note-back : s .long ≡ 0 → end < s .next → _≡_ {A = Progress} (record { next = next; lines = n; long = s .long; start = s .start }) (noted s end next)
+    note-back a d = rw c (not-noted (and-off (eqb (s .long) 0) (le-ltb 65535 (end - s .next) (omega arith))))
+
+    pub note-later : (s .long ≡ 0 → ⊥) → _≡_ {A = Progress} (record { next = next; lines = n; long = s .long; start = s .start }) (noted s end next)
+    note-later a = rw c (not-noted (rw (ne-eqb (s .long) 0 a)))
+
+pub ruleset notes = (note-long, note-short, note-back, note-later)
+
+-- The first line that is too long
+
+short-line : (limit n start : ℕ) (l : Bytes) (ls : List Bytes) → length l ≤ limit → tooLong limit n start (l ∷ ls) ≡ tooLong limit (suc n) (start + length (writeLine l)) ls
+unfolding tooLong
+short-line limit n start l ls h = rw (tooLong, le-leb (length l) limit h)
+
+long-line : (limit n start : ℕ) (l : Bytes) (ls : List Bytes) → limit < length l → tooLong limit n start (l ∷ ls) ≡ some (suc n, start)
+unfolding tooLong
+long-line limit n start l ls h = rw (tooLong, lt-leb (length l) limit h)
+
+too-long-append : (limit n start : ℕ) (ls ms : List Bytes)
+    → tooLong limit n start (ls ++ ms) ≡ orElse (tooLong limit n start ls) (tooLong limit (n + length ls) (start + length (writeLines ls)) ms)
+unfolding tooLong writeLines
+too-long-append limit n start [] ms = let a : n + 0 ≡ n = omega arith in let b : start + 0 ≡ start = omega arith in rw (a, b)
+too-long-append limit n start (l ∷ ls) ms = elim (test (leb (length l) limit)) [
+  | pass e ↦
+      let a : suc n + length ls ≡ n + suc (length ls) = omega arith in
+      let b : start + length (writeLine l) + length (writeLines ls) ≡ start + length (writeLine l ++ writeLines ls) = rw (length-append (writeLine l) (writeLines ls)) (omega arith) in
+      rw (tooLong, e) (too-long-append limit (suc n) (start + length (writeLine l)) ls ms ∙ rw (a, b))
+  | fail e ↦ rw (tooLong, e)
+]
+
+lines-append : (ls ms : List Bytes) → writeLines (ls ++ ms) ≡ writeLines ls ++ writeLines ms
+unfolding writeLines
+lines-append [] ms = refl
+lines-append (l ∷ ls) ms = ap (writeLine l ++_) (lines-append ls ms) ∙ sym (append-assoc (writeLine l) (writeLines ls) (writeLines ms))
+
+-- a written line is longer than its text
+line-longer : (l : Bytes) → length l < length (writeLine l)
+unfolding writeLine
+line-longer l = elim (test (ends 13 l)) [
+  | pass e ↦ rw (writeLine, e, length-append l (13 ∷ 10 ∷ [])) (omega arith)
+  | fail e ↦ rw (writeLine, e, length-append l (10 ∷ [])) (omega arith)
+]
+
+-- each has an ending
+pub lines-count : (ls : List Bytes) → length ls ≤ length (writeLines ls)
+unfolding writeLines
+lines-count [] = omega arith
+lines-count (l ∷ ls) = rw (length-append (writeLine l) (writeLines ls)) (omega (arith, line-longer l, lines-count ls))
+
+-- Lines after lines
+
+pub wrote-no-lines : (out : Bytes) (s : Progress) → s .next ≤ last → s .lines ≤ last → length out ≤ last → WroteLines out s [] s out
+unfolding writeLines tooLong onward
+wrote-no-lines out s a b d = record { text = wrote-nothing out (s .next) a d; count = omega arith; long = λ x y. none-else (longIn s) }
+  where
+    none-else : (x : Option (ℕ × ℕ)) → x ≡ orElse x none
+    none-else none = refl
+    none-else (some p) = refl
+
+pub then-lines : {out : Bytes} {s : Progress} {ls : List Bytes} {r : Progress} {o : Bytes} {ms : List Bytes} {r′ : Progress} {o′ : Bytes}
+    → WroteLines out s ls r o → WroteLines o r ms r′ o′ → WroteLines out s (ls ++ ms) r′ o′
+unfolding onward
+then-lines {out} {s} {ls} {r} {o} {ms} {r′} {o′} p q = record {
+  text = subst (λ (t : Bytes). Wrote out (s .next) t (r′ .next) o′) (sym (lines-append ls ms)) (then (p .text) (q .text));
+  count = q .count ∙ rw (p .count, length-append ls ms) (omega arith);
+  long = λ x y.
+      let a = ap length (lines-append ls ms) ∙ length-append (writeLines ls) (writeLines ms) in
+      let b = length-append ls ms in
+      let at : r .next ≡ s .next + length (writeLines ls) = p .text .place ∙ omega (arith, a) in
+      let n : r .lines ≡ s .lines + length ls = p .count ∙ omega (arith, b) in
+      q .long (omega (arith, at, a)) (omega (arith, n, b))
+      ∙ rw (p .long (omega (arith, a)) (omega (arith, b)), at, n, too-long-append (limits .line) (s .lines) (s .next) ls ms)
+      (else-assoc (longIn s) (tooLong (limits .line) (s .lines) (s .next) ls) (tooLong (limits .line) (s .lines + length ls) (s .next + length (writeLines ls)) ms));
+}
+  where
+    else-assoc : (x y z : Option (ℕ × ℕ)) → orElse (orElse x y) z ≡ orElse x (orElse y z)
+    else-assoc none y z = refl
+    else-assoc (some p) y z = refl
+
+-- One line
+
+module _ (s : Progress) (end next : ℕ) where
+  noted-next : noted s end next .next ≡ next
+  unfolding noted
+  noted-next = elim (test (isLong s end)) [ pass e ↦ rw (noted, e) | fail e ↦ rw (noted, e) ]
+
+  noted-lines : noted s end next .lines ≡ onward (s .lines) 1
+  unfolding noted
+  noted-lines = elim (test (isLong s end)) [ pass e ↦ rw (noted, e) | fail e ↦ rw (noted, e) ]
+
+  -- an earlier line was too long
+  long-before : {n : ℕ} → s .long ≡ suc n → longIn (noted s end next) ≡ some (suc n, s .start)
+  unfolding noted
+  long-before {n} e = rw (noted, e, ne-eqb (suc n) 0 (λ z. omega arith)) (rw e)
+
+  module _ (none-yet : s .long ≡ 0) where
+    long-now : limits .line < end - s .next → s .lines + 1 ≤ last → longIn (noted s end next) ≡ some (suc (s .lines), s .next)
+    unfolding noted onward
+    long-now h l =
+        let n : min (s .lines + 1) last ≡ suc (s .lines) = omega arith in
+        rw (noted, none-yet, lt-ltb (limits .line) (end - s .next) h, n)
+
+    short-now : end - s .next ≤ limits .line → longIn (noted s end next) ≡ none
+    unfolding noted
+    short-now h = rw (noted, none-yet, le-ltb (limits .line) (end - s .next) h) (rw none-yet)
+
+  noted-long : (l : Bytes) → end - s .next ≡ length l → s .lines + 1 ≤ last → longIn (noted s end next) ≡ orElse (longIn s) (tooLong (limits .line) (s .lines) (s .next) (l ∷ []))
+  unfolding tooLong
+  noted-long l size h = go (s .long) refl
+    where
+      go : (k : ℕ) → s .long ≡ k → longIn (noted s end next) ≡ orElse (longIn s) (tooLong (limits .line) (s .lines) (s .next) (l ∷ []))
+      go (suc n) e = long-before e ∙ rw e
+      go zero e = elim (test (leb (length l) (limits .line))) [
+        | pass q ↦ short-now e (rw size (leb-true (length l) (limits .line) q)) ∙ rw (e, tooLong, q)
+        | fail q ↦ long-now e (rw size (leb-false (length l) (limits .line) q)) h ∙ rw (e, tooLong, q)
+      ]
+
+-- a line, and what is noted of it
+pub one-line : {out : Bytes} {s : Progress} (l : Bytes) {end next : ℕ} {o : Bytes} → end ≡ onward (s .next) (length l) → Wrote out (s .next) (writeLine l) next o
+    → {r : Progress} → r ≡ noted s end next → WroteLines out s (l ∷ []) r o
+unfolding writeLines onward
+one-line {out} {s} l {end} {next} {o} place w {r} e = record {
+  text = rw (e, noted-next s end next, append-nil (writeLine l)) w;
+  count = ap (λ (x : Progress). x .lines) e ∙ noted-lines s end next;
+  long = λ x y.
+      let a = ap length (append-nil (writeLine l)) in
+      ap longIn e ∙ noted-long s end next l (omega (arith, place, line-longer l, a)) y;
+}
+
+-- what answers the needs of `put_entry`
+pub entry-line : (v : Version) (s : Progress) {p l : Bytes} → p ≡ l → {out : Bytes} {put : LineWritten} {o : Bytes} → PutsLine v p out (s .next) put o
+    → {r : Progress} → r ≡ noted s (put .end) (put .next) → PutsEntry v l out s r o
+unfolding houseLine
+entry-line v s {p} {l} e {out} {put} {o} w {r} n = record {
+  is = λ x.
+      let d = w .is (x .line) (ap (readRecord v) e ∙ x .read) (x .entry) in
+      let q : houseLine v l ≡ lineOf v (x .line) = rw (houseLine, x .read) in
+      rw q (one-line (lineOf v (x .line)) (d .place) (d .text) n);
+}
+
+-- what answers the needs of `put_plain`
+pub plain-line : {out : Bytes} {s : Progress} (l : Bytes) {end : ℕ} {o : Bytes} → Wrote out (s .next) l end o → {cr : Bool} → cr ≡ ends 13 l
+    → {next : ℕ} {o′ : Bytes} → Wrote o end (ending cr) next o′ → {r : Progress} → r ≡ noted s end next → WroteLines out s (l ∷ []) r o′
+plain-line l w e w′ n = one-line l (w .place) (line-ended l e w w′) n
+
+lacks-end : (c : ℕ) (bs : Bytes) → any (is c) bs ≡ false → ends c bs ≡ false
+unfolding ends any
+lacks-end c [] h = refl
+lacks-end c (b ∷ []) h = or-l (is c b) false h
+lacks-end c (b ∷ d ∷ bs) h = lacks-end c (d ∷ bs) (or-r (is c b) (any (is c) (d ∷ bs)) h)
+
+-- a version's line ends in a digit
+version-ends : (v : Version) → false ≡ ends 13 (writeRecord (fileformat v))
+unfolding writeRecord writeVersion any
+version-ends v = sym (lacks-end 13 (writeRecord (fileformat v))
+    (any-append (is 13) (decimal (v .major)) (46 ∷ decimal (v .minor)) ∙ rw (decimal-lacks 13 (v .major) refl) (decimal-lacks 13 (v .minor) refl)))
+
+-- what answers the needs of `put_format`
+pub format-put : (v : Version) {out : Bytes} {at a : ℕ} {o₁ : Bytes} → Wrote out at (ascii "##fileformat=VCFv") a o₁
+    → {b : ℕ} {o₂ : Bytes} → Wrote o₁ a (decimal (v .major)) b o₂ → {c : ℕ} {o₃ : Bytes} → Wrote o₂ b (46 ∷ []) c o₃
+    → {end : ℕ} {o₄ : Bytes} → Wrote o₃ c (decimal (v .minor)) end o₄ → Wrote out at (writeRecord (fileformat v)) end o₄
+unfolding writeRecord writeVersion
+format-put v w₁ w₂ w₃ w₄ = then w₁ (then w₂ (then w₃ w₄))
+
+-- what answers the needs of `put_version`
+pub version-line : (v : Version) {out : Bytes} {s : Progress} {end : ℕ} {o : Bytes} → Wrote out (s .next) (writeRecord (fileformat v)) end o
+    → {next : ℕ} {o′ : Bytes} → Wrote o end (ending false) next o′ → {r : Progress} → r ≡ noted s end next → WroteLines out s (writeRecord (fileformat v) ∷ []) r o′
+version-line v w w′ n = plain-line (writeRecord (fileformat v)) w (version-ends v) w′ n

@@ -1,0 +1,19 @@
+use Rattle.house.proofs.Answers.{form-answered}
+use borrow.Author.Needs.{needs}
+use Rattle.house.proofs.form.answer_accepted.Statement.{statement}
+use Rattle.house.proofs.form.answer_accepted.Tie as tie
+
+write-form-requires : tie.Need-write-form-requires
+write-form-requires c κs = search (form-answered, needs)
+
+answer-requires : tie.Need-answer-requires
+answer-requires c κs = search (form-answered, needs)
+
+same-length : tie.Need-same-length
+same-length c = search (form-answered, needs)
+
+returns : tie.Need-returns
+returns c = search (form-answered, needs)
+
+pub answer-accepted-spec : {M : Type 1} → statement M
+answer-accepted-spec = tie.close (tie.spec write-form-requires answer-requires same-length returns)

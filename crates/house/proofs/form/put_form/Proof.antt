@@ -1,0 +1,37 @@
+use Rattle.house.proofs.Forms.{form-put}
+use borrow.Author.Needs.{needs}
+use Rattle.house.proofs.form.put_form.Statement.{statement}
+use Rattle.house.proofs.form.put_form.Tie as tie
+
+put-version-requires : tie.Need-put-version-requires
+put-version-requires c κs = search (form-put, needs)
+
+put-records-requires : tie.Need-put-records-requires
+put-records-requires c κs = search (form-put, needs)
+
+column-word-requires : tie.Need-column-word-requires
+column-word-requires c κs = search (form-put, needs)
+
+line-part-requires : tie.Need-line-part-requires
+line-part-requires c κs = search (form-put, needs)
+
+put-plain-requires : tie.Need-put-plain-requires
+put-plain-requires c κs = search (form-put, needs)
+
+same-length : tie.Need-same-length
+same-length c = search (form-put, needs)
+
+returns : tie.Need-returns
+returns c = search (form-put, needs)
+
+pub put-form-spec : {M : Type 1} → statement M
+put-form-spec =
+    tie.close
+    (tie.spec
+    put-version-requires
+    put-records-requires
+    column-word-requires
+    line-part-requires
+    put-plain-requires
+    same-length
+    returns)

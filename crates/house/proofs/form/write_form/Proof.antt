@@ -1,0 +1,41 @@
+use Rattle.house.proofs.Forms.{writes}
+use borrow.Author.Needs.{needs}
+use Rattle.house.proofs.form.write_form.Statement.{statement}
+use Rattle.house.proofs.form.write_form.Tie as tie
+
+slice-aggregate-put-form : tie.Need-slice-aggregate-put-form
+slice-aggregate-put-form c = search (writes, needs)
+
+put-form-requires : tie.Need-put-form-requires
+put-form-requires c κs = search (writes, needs)
+
+returns : tie.Need-returns
+returns c = search (writes, needs)
+
+returns-2 : tie.Need-returns-2
+returns-2 c = search (writes, needs)
+
+returns-3 : tie.Need-returns-3
+returns-3 c = search (writes, needs)
+
+put-form-requires-2 : tie.Need-put-form-requires-2
+put-form-requires-2 c κs = search (writes, needs)
+
+same-length : tie.Need-same-length
+same-length c = search (writes, needs)
+
+returns-4 : tie.Need-returns-4
+returns-4 c = search (writes, needs)
+
+pub write-form-spec : {M : Type 1} → statement M
+write-form-spec =
+    tie.close
+    (tie.spec
+    slice-aggregate-put-form
+    put-form-requires
+    returns
+    returns-2
+    returns-3
+    put-form-requires-2
+    same-length
+    returns-4)

@@ -1,0 +1,27 @@
+use Rattle.house.proofs.Picks.{unders}
+use borrow.Author.Needs.{needs}
+use Rattle.house.proofs.keys.is_under.Statement.{statement}
+use Rattle.house.proofs.keys.is_under.Tie as tie
+
+kind-in-requires : tie.Need-kind-in-requires
+kind-in-requires c κs = search (unders, needs)
+
+returns : tie.Need-returns
+returns c = search (unders, needs)
+
+returns-2 : tie.Need-returns-2
+returns-2 c = search (unders, needs)
+
+line-part-requires : tie.Need-line-part-requires
+line-part-requires c κs = search (unders, needs)
+
+starts-with-requires : tie.Need-starts-with-requires
+starts-with-requires c κs = search (unders, needs)
+
+returns-3 : tie.Need-returns-3
+returns-3 c = search (unders, needs)
+
+pub is-under-spec : {M : Type 1} → statement M
+is-under-spec =
+    tie.close
+    (tie.spec kind-in-requires returns returns-2 line-part-requires starts-with-requires returns-3)

@@ -1,0 +1,82 @@
+use native.Mathlib.Omega.{arith}
+use lib.ListN.{length-take}
+use Prim.Native.Nat.{_-_}
+use lib.ListN.{length}
+use Rattle.records.specs.Formats.{versionOf}
+use Rattle.house.proofs.Others.{Othering, other-start, others}
+use borrow.Author.Needs.{needs}
+use Rattle.house.proofs.keys.put_others.Statement.{statement}
+use Rattle.house.proofs.keys.put_others.Tie as tie
+
+abbrev Inv-loop : tie.InvT-loop
+Inv-loop h words version out₀ progress₀ k₀ out progress k = Othering (versionOf version) h words out₀ progress₀ out progress k
+
+abbrev μ-loop : tie.MeasureT-loop
+μ-loop h words version out₀ progress₀ k₀ out progress k = length words - k
+
+loop-holds : tie.Need-loop-holds Inv-loop μ-loop
+loop-holds c = other-start _ _ _ _ _ (search needs) (search needs) (search needs)
+
+add-loop : tie.Need-add-loop Inv-loop μ-loop
+add-loop c = search (others, needs)
+
+mul-w : tie.Need-mul-w Inv-loop μ-loop
+mul-w c = search (others, needs)
+
+shared-slice-read-w : tie.Need-shared-slice-read-w Inv-loop μ-loop
+shared-slice-read-w c = search (others, needs)
+
+add-k : tie.Need-add-k Inv-loop μ-loop
+add-k c = search (others, needs)
+
+slice-aggregate-is-first : tie.Need-slice-aggregate-is-first Inv-loop μ-loop
+slice-aggregate-is-first c = simp length-take (omega arith)
+
+is-first-requires : tie.Need-is-first-requires Inv-loop μ-loop
+is-first-requires c κs = search (others, needs)
+
+prefix-part-requires : tie.Need-prefix-part-requires Inv-loop μ-loop
+prefix-part-requires c κs = search (others, needs)
+
+put-key-requires : tie.Need-put-key-requires Inv-loop μ-loop
+put-key-requires c κs = search (others, needs)
+
+loop-less : tie.Need-loop-less Inv-loop μ-loop
+loop-less c = search (others, needs)
+
+loop-again : tie.Need-loop-again Inv-loop μ-loop
+loop-again c = search (others, needs)
+
+loop-less-2 : tie.Need-loop-less-2 Inv-loop μ-loop
+loop-less-2 c = search (others, needs)
+
+loop-again-2 : tie.Need-loop-again-2 Inv-loop μ-loop
+loop-again-2 c = search (others, needs)
+
+same-length : tie.Need-same-length Inv-loop μ-loop
+same-length c = search (others, needs)
+
+returns : tie.Need-returns Inv-loop μ-loop
+returns c = search (others, needs)
+
+pub put-others-spec : {M : Type 1} → statement M
+put-others-spec =
+    tie.close
+    (tie.spec
+    Inv-loop
+    μ-loop
+    loop-holds
+    add-loop
+    mul-w
+    shared-slice-read-w
+    add-k
+    slice-aggregate-is-first
+    is-first-requires
+    prefix-part-requires
+    put-key-requires
+    loop-less
+    loop-again
+    loop-less-2
+    loop-again-2
+    same-length
+    returns)

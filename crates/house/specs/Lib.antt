@@ -1,0 +1,4 @@
+pub mod Writes
+pub mod Keys
+pub mod Forms
+pub mod Answers

@@ -1,0 +1,60 @@
+-- Lines of the form, one after another: how far it is written, and which line was the first that is too long. Assumes nothing.
+use Prim.Native.Nat.{ℕ, zero, suc, _+_, _-_, _≤_}
+use mathlib.Core.Path.{_≡_}
+use mathlib.Core.Bool.{Bool, true, false, _&&_}
+use mathlib.Core.List.{List, [], _∷_}
+use mathlib.Core.Option.{Option, none, some}
+use lib.Dec.{eqb, ltb}
+use lib.ListN.{length}
+use Rattle.values.specs.Bytes.{Bytes}
+use Rattle.values.specs.Written.{last, onward, Wrote}
+use Rattle.rules.specs.Answer.{Answer, ok, refuse}
+use Rattle.rules.specs.Sizes.{limits}
+use Rattle.rules.specs.Version.{Version}
+use Rattle.rules.specs.Lines.{writeLines}
+use Rattle.rules.specs.Record.{Record, readRecord}
+use Rattle.rules.specs.House.{tooLong}
+use Rattle.forms.specs.Lines.{lineOf, IsEntry}
+use Rattle.house.specs.declared.lines.Progress.{Progress}
+
+-- the first line that was too long
+abbrev pub longIn : Progress → Option (ℕ × ℕ)
+longIn s = elim (s .long) [ zero ↦ none | suc n ↦ some (suc n, s .start) ]
+
+-- a line that ends at `end` is the first that is too long
+abbrev pub isLong : Progress → ℕ → Bool
+isLong s end = eqb (s .long) 0 && ltb (limits .line) (end - s .next)
+
+-- one line more, whose text ends at `end` and whose ending at `next`
+unfoldable pub noted : Progress → ℕ → ℕ → Progress
+noted s end next = elim (isLong s end) [
+  | true ↦ record { next = next; lines = onward (s .lines) 1; long = onward (s .lines) 1; start = s .next }
+  | false ↦ record { next = next; lines = onward (s .lines) 1; long = s .long; start = s .start }
+]
+
+abbrev pub orElse : Option (ℕ × ℕ) → Option (ℕ × ℕ) → Option (ℕ × ℕ)
+orElse none b = b
+orElse (some p) b = some p
+
+-- these lines were written; where no number was too large, the first that is too long is that of the rules
+pub record WroteLines (old : Bytes) (s : Progress) (ls : List Bytes) (r : Progress) (new : Bytes) : Type 0 where
+  pub text : Wrote old (s .next) (writeLines ls) (r .next) new
+  pub count : r .lines ≡ onward (s .lines) (length ls)
+  pub long : s .next + length (writeLines ls) ≤ last → s .lines + length ls ≤ last → longIn r ≡ orElse (longIn s) (tooLong (limits .line) (s .lines) (s .next) ls)
+
+-- the form's line for a line of the header
+abbrev pub lineFor : Answer Record → Version → Bytes
+lineFor (ok x) v = lineOf v x
+lineFor (refuse n) v = []
+
+unfoldable pub houseLine : Version → Bytes → Bytes
+houseLine v l = lineFor (readRecord v l) v
+
+-- a line that is read as a map or a text
+pub record Readable (v : Version) (l : Bytes) : Type 0 where
+  pub line : Record
+  pub read : readRecord v l ≡ ok line
+  pub entry : IsEntry line
+
+pub record PutsEntry (v : Version) (l old : Bytes) (s r : Progress) (new : Bytes) : Type 0 where
+  pub is : Readable v l → WroteLines old s (houseLine v l ∷ []) r new

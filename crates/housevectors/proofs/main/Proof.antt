@@ -1,0 +1,87 @@
+use Prim.Native.Nat.{_-_}
+use lib.ListN.{length}
+use mathlib.Core.Path.{_≡_}
+use borrow.Author.Needs.{needs}
+use Rattle.housevectors.proofs.main.Statement.{statement}
+use Rattle.housevectors.proofs.main.Tie as tie
+
+abbrev Inv-loop : tie.InvT-loop
+Inv-loop buffer₀ out₀ cases k₀ buffer out k = (1048577 ≡ length buffer) × (1048577 ≡ length out)
+
+abbrev μ-loop : tie.MeasureT-loop
+μ-loop buffer₀ out₀ cases k₀ buffer out k = cases - k
+
+longest-buffer-requires : tie.Need-longest-buffer-requires Inv-loop μ-loop
+longest-buffer-requires c κs = search needs
+
+longest-buffer-requires-2 : tie.Need-longest-buffer-requires-2 Inv-loop μ-loop
+longest-buffer-requires-2 c κs = search needs
+
+arg-count-requires : tie.Need-arg-count-requires Inv-loop μ-loop
+arg-count-requires c κs = search needs
+
+loop-holds : tie.Need-loop-holds Inv-loop μ-loop
+loop-holds c = search needs
+
+mul-i : tie.Need-mul-i Inv-loop μ-loop
+mul-i c = search needs
+
+slice-aggregate-case : tie.Need-slice-aggregate-case Inv-loop μ-loop
+slice-aggregate-case c = search needs
+
+slice-aggregate-case-2 : tie.Need-slice-aggregate-case-2 Inv-loop μ-loop
+slice-aggregate-case-2 c = search needs
+
+add-case : tie.Need-add-case Inv-loop μ-loop
+add-case c = search needs
+
+add-case-2 : tie.Need-add-case-2 Inv-loop μ-loop
+add-case-2 c = search needs
+
+add-case-3 : tie.Need-add-case-3 Inv-loop μ-loop
+add-case-3 c = search needs
+
+add-case-4 : tie.Need-add-case-4 Inv-loop μ-loop
+add-case-4 c = search needs
+
+add-case-5 : tie.Need-add-case-5 Inv-loop μ-loop
+add-case-5 c = search needs
+
+case-requires : tie.Need-case-requires Inv-loop μ-loop
+case-requires c κs = search needs
+
+add-k : tie.Need-add-k Inv-loop μ-loop
+add-k c = search needs
+
+loop-less : tie.Need-loop-less Inv-loop μ-loop
+loop-less c = search needs
+
+loop-again : tie.Need-loop-again Inv-loop μ-loop
+loop-again c = search needs
+
+returns : tie.Need-returns Inv-loop μ-loop
+returns c = search needs
+
+pub main-spec : {M : Type 1} → statement M
+main-spec =
+    tie.close
+    (tie.spec
+    Inv-loop
+    μ-loop
+    longest-buffer-requires
+    longest-buffer-requires-2
+    arg-count-requires
+    loop-holds
+    mul-i
+    slice-aggregate-case
+    slice-aggregate-case-2
+    add-case
+    add-case-2
+    add-case-3
+    add-case-4
+    add-case-5
+    case-requires
+    add-k
+    loop-less
+    loop-again
+    returns)

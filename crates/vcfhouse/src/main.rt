@@ -1,0 +1,47 @@
+// Reads a header from standard input and writes its house form to standard output, or its refusal to standard error.
+use header::file_format_option::FileFormatOption;
+use header::parser::Outcome;
+use house::form::HouseAnswer;
+use records::refusal::Refusal;
+
+fn say_number(label: &[u8], n: u64) {
+    io::write_all(2, label);
+    io::print_decimal(2, n);
+}
+
+fn say_refused(refusal: Refusal, line: usize, start: usize) {
+    say_number(b"refused ", refusal.number());
+    say_number(b" line=", line as u64);
+    say_number(b" offset=", start as u64);
+    io::write_all(2, b"\n");
+}
+
+fn say_answer(answer: HouseAnswer, form: &[u8]) {
+    let outcome = answer.outcome;
+    match outcome {
+        Outcome::Accepted(_, _) => {
+            io::write_all(1, values::bytes::part(form, 0, answer.length));
+        }
+        Outcome::Refused(refusal) => say_refused(refusal, answer.line, answer.start),
+    }
+}
+
+// Input that the buffer can't hold is a header too long for this program.
+fn main() {
+    let mut buffer = io::large_buffer();
+    let n = io::read_full(0, &mut buffer);
+    let mut more = [0u8; 1];
+    if 0 < io::read_full(0, &mut more) {
+        say_refused(Refusal::HeaderTooLong, 0, 0);
+        return;
+    }
+    let mut table = [0u64; 8192];
+    let mut form = io::large_buffer();
+    let answer = house::form::house_form(
+        &buffer[..n],
+        FileFormatOption::None,
+        &mut table,
+        &mut form,
+    );
+    say_answer(answer, &form);
+}

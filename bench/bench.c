@@ -1,0 +1,59 @@
+/* Reads one header over and over, by htslib or by vcfh, or writes its house form: bench hts|read|house FILE TIMES.
+   Prints the best round's nanoseconds for one header. */
+#include <stdio.h>
+#include <stdlib.h>
+#include <string.h>
+#include <time.h>
+#ifdef HTS
+#include <htslib/vcf.h>
+#endif
+#include "../bindings/c/vcfh.h"
+
+enum { ROUNDS = 5, WORDS = 524288, SIZE = 1048576 };
+static char header[SIZE + 1];
+static size_t length;
+static uint64_t table[WORDS];
+static uint8_t form[SIZE];
+
+static int hts(void) {
+#ifdef HTS
+    bcf_hdr_t *parsed = bcf_hdr_init("r");
+    int status = bcf_hdr_parse(parsed, header);
+    bcf_hdr_destroy(parsed);
+    return status == 0;
+#else
+    return 0;
+#endif
+}
+
+static int read_header(void) {
+    return vcfh_read((const uint8_t *)header, length, 0, 0, 0, table, WORDS).number == 0;
+}
+
+static int house(void) {
+    return vcfh_house((const uint8_t *)header, length, 0, 0, 0, table, WORDS, form, SIZE).number == 0;
+}
+
+static double now(void) {
+    struct timespec t;
+    clock_gettime(CLOCK_MONOTONIC, &t);
+    return 1e9 * (double)t.tv_sec + (double)t.tv_nsec;
+}
+
+int main(int count, char **words) {
+    if (count != 4) return 2;
+    FILE *file = fopen(words[2], "rb");
+    if (!file) return 2;
+    length = fread(header, 1, SIZE, file);
+    int (*call)(void) = strcmp(words[1], "hts") == 0 ? hts : strcmp(words[1], "house") == 0 ? house : read_header;
+    long times = atol(words[3]);
+    double best = 1e300;
+    for (int round = 0; round < (times ? ROUNDS : 0); round++) {
+        double start = now();
+        for (long i = 0; i < times; i++)
+            if (!call()) return 1;
+        double spent = (now() - start) / (double)times;
+        if (spent < best) best = spent;
+    }
+    if (times) printf("%.0f\n", best);
+}

@@ -1,0 +1,42 @@
+"""Writes the headers that are measured into a folder: python3 headers.py FOLDER"""
+import pathlib
+import sys
+
+COLUMNS = "#CHROM\tPOS\tID\tREF\tALT\tQUAL\tFILTER\tINFO"
+
+
+def header(lines, samples=()):
+    columns = COLUMNS + "".join("\t" + name for name in ("FORMAT", *samples)) if samples else COLUMNS
+    return "\n".join(["##fileformat=VCFv4.3", *lines, columns]) + "\n"
+
+
+def contigs(n):
+    return [f"##contig=<ID=scaffold_{i},length={1000 + 37 * i}>" for i in range(1, n + 1)]
+
+
+def fields(kind, n):
+    types = ("Integer", "Float", "String")
+    return [
+        f'##{kind}=<ID={kind[:1]}X{i},Number={"1AG."[i % 4]},Type={types[i % 3]},Description="The {kind} value, number {i}, as the caller gives it">'
+        for i in range(n)
+    ]
+
+
+HEADERS = {
+    "probe": header([f"##cell=<ID=W{i:02},K=0.{900 + i}>" for i in range(1, 41)]),
+    "caller": header(contigs(200) + fields("INFO", 60) + fields("FORMAT", 25), ["NA12878"]),
+    "contigs_2000": header(contigs(2000)),
+    "contigs_10000": header(contigs(10000)),
+    "samples_2504": header(fields("FORMAT", 25), [f"HG{i:05}" for i in range(96, 2600)]),
+}
+
+
+def main():
+    folder = pathlib.Path(sys.argv[1])
+    folder.mkdir(parents=True, exist_ok=True)
+    for name, text in HEADERS.items():
+        (folder / name).write_text(text)
+
+
+if __name__ == "__main__":
+    main()

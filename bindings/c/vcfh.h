@@ -1,0 +1,58 @@
+/* VCF headers, read by proved code. Link libvcfh.a or libvcfh.so, which bindings/build makes.
+   No pointer may be NULL, even where its length is 0, and nothing that a call writes may overlap what it reads.
+   Any bytes, words and numbers may be given. */
+#ifndef VCFH_H
+#define VCFH_H
+#include <stddef.h>
+#include <stdint.h>
+#ifdef __cplusplus
+extern "C" {
+#endif
+
+/* number: 0 if accepted, else why not (vcfh_words says it in words). line: from 1. start: of the line, in bytes.
+   Of an accepted header, line and start are the number of lines and of bytes. entries: how many the table holds. */
+typedef struct { uint64_t number, line, start, entries; } vcfh_answer;
+
+/* The same, and the length of the form, 0 if refused. */
+typedef struct { uint64_t number, line, start, entries, length; } vcfh_form;
+
+/* number: 0, or 29 where there is nothing to show. start and length: a part of the header, in bytes. */
+typedef struct { uint64_t number, start, length; } vcfh_part;
+
+/* 1 if the bytes are UTF-8, else 0. */
+uint64_t vcfh_utf8(const uint8_t *bytes, size_t length);
+
+/* Reads a header into the table, two words for each entry; each line and each tab of the header gives one entry at most.
+   imposed: 0, or else major and minor are the version by which the header is read, whatever its first line says. */
+vcfh_answer vcfh_read(const uint8_t *header, size_t length, uint64_t imposed, uint32_t major, uint32_t minor,
+                      uint64_t *table, size_t words);
+
+/* Reads a header so and writes its house form, the one form of all headers with the same meaning; nothing is written if it is
+   refused. An output of 1,048,575 bytes is never too small. */
+vcfh_form vcfh_house(const uint8_t *header, size_t length, uint64_t imposed, uint32_t major, uint32_t minor,
+                     uint64_t *table, size_t words, uint8_t *out, size_t space);
+
+/* The line of an entry, from 0, or a sample's name; its ID, without quotes. */
+vcfh_part vcfh_entry(const uint8_t *header, size_t length, const uint64_t *table, size_t words, uint64_t entry);
+vcfh_part vcfh_id(const uint8_t *header, size_t length, const uint64_t *table, size_t words, uint64_t entry);
+
+/* A field of an entry, from 0, key through value with its quotes, by the version given. */
+vcfh_part vcfh_field(const uint8_t *header, size_t length, const uint64_t *table, size_t words, uint64_t entry,
+                     uint32_t major, uint32_t minor, uint64_t field);
+
+/* 1 fileformat, 2 INFO, 3 FILTER, 4 FORMAT, 5 ALT, 6 contig, 7 other map, 8 other text, 9 column line, 10 sample. */
+static inline unsigned vcfh_kind(const uint64_t *table, uint64_t entry) { return (unsigned)(table[2 * entry] >> 60); }
+
+static inline const char *vcfh_words(uint64_t number) {
+    switch (number) {
+#define REFUSAL(n, words) case n: return words;
+#include "../refusals.h"
+#undef REFUSAL
+    default: return "accepted";
+    }
+}
+
+#ifdef __cplusplus
+}
+#endif
+#endif

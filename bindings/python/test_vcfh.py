@@ -1,0 +1,57 @@
+"""The library through ctypes: python3 -m unittest"""
+import unittest
+
+import vcfh
+
+COLUMNS = b"#CHROM\tPOS\tID\tREF\tALT\tQUAL\tFILTER\tINFO"
+PROBE = b"##fileformat=VCFv4.3\n##cell=<ID=W07,K=0.98>\n" + COLUMNS + b"\n"
+
+
+class Reading(unittest.TestCase):
+    def refused(self, data, version=None):
+        with self.assertRaises(vcfh.Refused) as caught:
+            vcfh.Header(data, version)
+        return caught.exception
+
+    def test_the_probe_header_has_three_entries(self):
+        header = vcfh.Header(PROBE)
+        self.assertEqual([entry.kind for entry in header], ["fileformat", "other map", "columns"])
+        self.assertEqual((header[1].id, header[1].line), (b"W07", b"##cell=<ID=W07,K=0.98>"))
+        self.assertEqual((header[2].id, header.lines, len(header)), (None, 3, 3))
+
+    def test_fields_are_shown_as_written(self):
+        header = vcfh.Header(b'##fileformat=VCFv4.3\n##cell=<K="0,98",ID=W07>\n' + COLUMNS + b"\n")
+        self.assertEqual((header[1].fields, header[2].fields, header.version), ([b'K="0,98"', b"ID=W07"], [], (4, 3)))
+
+    def test_headers_of_one_meaning_have_one_house_form(self):
+        self.assertEqual(vcfh.house_form(PROBE.replace(b"<ID=W07,K=0.98>", b'<K="0.98",ID="W07">')), PROBE)
+        with self.assertRaises(vcfh.Refused):
+            vcfh.house_form(b"")
+
+    def test_samples_follow_the_column_line(self):
+        header = vcfh.Header(b"##fileformat=VCFv4.3\n" + COLUMNS + b"\tFORMAT\tNA1\t\tNA2")
+        self.assertEqual([entry.line for entry in header if entry.kind == "sample"], [b"NA1", b"", b"NA2"])
+
+    def test_a_second_equal_id_is_refused_with_its_place_and_words(self):
+        refused = self.refused(b'##fileformat=VCFv4.3\n##FILTER=<ID=q,Description=x>\n##FILTER=<ID="q",Description=x>\n')
+        self.assertEqual((refused.number, refused.line, refused.start), (19, 3, 51))
+        self.assertEqual(str(refused), "line 3, byte 51: the ID stands twice among the lines of its kind (refusal 19)")
+
+    def test_an_empty_header_is_refused(self):
+        self.assertEqual(self.refused(b"").number, 25)
+
+    def test_the_version_imposed_is_the_one_in_force(self):
+        meta = b"##fileformat=VCFv4.3\n##META=<ID=x,Values=[a,b]>\n" + COLUMNS + b"\n"
+        self.assertEqual(len(vcfh.Header(meta)), 3)
+        self.assertEqual(self.refused(meta, (4, 2)).number, 9)
+
+    def test_every_number_has_its_own_words(self):
+        self.assertEqual(sorted(vcfh.WORDS), list(range(1, 30)))
+        self.assertEqual(len(set(vcfh.WORDS.values())), 29)
+
+    def test_utf8_is_told_from_other_bytes(self):
+        self.assertEqual([vcfh.is_utf8(data) for data in (b"", "Grüße".encode(), b"\xc0\x80", b"\xed\xa0\x80")], [True, True, False, False])
+
+
+if __name__ == "__main__":
+    unittest.main()

@@ -1,0 +1,210 @@
+//! VCF headers, read by proved code: a header is either accepted, with its entries, or refused with a number and a place.
+//!
+//! ```
+//! let header = b"##fileformat=VCFv4.3\n##cell=<ID=W07,K=0.98>\n#CHROM\tPOS\tID\tREF\tALT\tQUAL\tFILTER\tINFO\n";
+//! let read = vcfh::Header::read(header, None).unwrap();
+//! let ids: Vec<_> = read.entries().filter_map(|entry| entry.id()).collect();
+//! assert_eq!(ids, [b"W07"]);
+//! ```
+
+use std::{error, fmt};
+
+mod ffi;
+
+/// A version, such as 4.3.
+#[derive(Clone, Copy, Debug, Eq, Ord, PartialEq, PartialOrd)]
+pub struct Version {
+    pub major: u32,
+    pub minor: u32,
+}
+
+impl Version {
+    /// The version that a fileformat line states.
+    fn of_line(line: &[u8]) -> Option<Version> {
+        let text = std::str::from_utf8(line).ok()?.strip_prefix("##fileformat=VCFv")?;
+        let (major, minor) = text.split_once('.')?;
+        Some(Version { major: major.parse().ok()?, minor: minor.parse().ok()? })
+    }
+}
+
+/// What an entry is.
+#[derive(Clone, Copy, Debug, Eq, PartialEq)]
+pub enum Kind {
+    FileFormat,
+    Info,
+    Filter,
+    Format,
+    Alt,
+    Contig,
+    OtherMap,
+    OtherText,
+    Columns,
+    Sample,
+}
+
+const KINDS: [Kind; 10] = [
+    Kind::FileFormat,
+    Kind::Info,
+    Kind::Filter,
+    Kind::Format,
+    Kind::Alt,
+    Kind::Contig,
+    Kind::OtherMap,
+    Kind::OtherText,
+    Kind::Columns,
+    Kind::Sample,
+];
+
+/// Why a header was refused, and where: the refusal's number, the line (from 1) and the byte at which it begins.
+#[derive(Clone, Copy, Debug, Eq, PartialEq)]
+pub struct Refused {
+    pub number: u64,
+    pub line: u64,
+    pub start: u64,
+}
+
+impl Refused {
+    /// What the number says, in words.
+    pub fn words(&self) -> &'static str {
+        let number = format!("REFUSAL({},", self.number);
+        include_str!("../../refusals.h")
+            .lines()
+            .find(|line| line.starts_with(&number))
+            .and_then(|line| line.split('"').nth(1))
+            .unwrap_or("no refusal has this number")
+    }
+}
+
+impl fmt::Display for Refused {
+    fn fmt(&self, f: &mut fmt::Formatter<'_>) -> fmt::Result {
+        write!(f, "line {}, byte {}: {} (refusal {})", self.line, self.start, self.words(), self.number)
+    }
+}
+
+impl error::Error for Refused {}
+
+/// Whether the bytes are UTF-8.
+pub fn is_utf8(bytes: &[u8]) -> bool {
+    ffi::utf8(bytes)
+}
+
+/// The longest header or house form, in bytes.
+pub const MAX_LENGTH: usize = 1_048_575;
+
+/// The house form of a header: the one form of all headers with the same meaning.
+pub fn house_form(bytes: &[u8], imposed: Option<Version>) -> Result<Vec<u8>, Refused> {
+    let mut form = vec![0; MAX_LENGTH];
+    let answer = ffi::house(bytes, imposed, &mut vec![0; table_words(bytes)], &mut form);
+    if answer.number != 0 {
+        return Err(Refused { number: answer.number, line: answer.line, start: answer.start });
+    }
+    form.truncate(answer.length as usize);
+    Ok(form)
+}
+
+/// An accepted header.
+#[derive(Clone, Debug)]
+pub struct Header<'h> {
+    bytes: &'h [u8],
+    table: Vec<u64>,
+    lines: u64,
+    imposed: Option<Version>,
+}
+
+impl<'h> Header<'h> {
+    /// Reads a header, by the version imposed or else by its own.
+    pub fn read(bytes: &'h [u8], imposed: Option<Version>) -> Result<Self, Refused> {
+        let mut table = vec![0; table_words(bytes)];
+        let answer = ffi::read(bytes, imposed, &mut table);
+        if answer.number != 0 {
+            return Err(Refused { number: answer.number, line: answer.line, start: answer.start });
+        }
+        table.truncate(2 * answer.entries as usize);
+        Ok(Self { bytes, table, lines: answer.line, imposed })
+    }
+
+    /// How many lines the header has.
+    pub fn lines(&self) -> u64 {
+        self.lines
+    }
+
+    /// The version in force: the one imposed, or else that of the first line.
+    pub fn version(&self) -> Option<Version> {
+        self.imposed.or_else(|| Version::of_line(self.entry(0)?.line))
+    }
+
+    /// The entries in order: one for each line, then one for each sample.
+    pub fn entries(&self) -> Entries<'_, 'h> {
+        Entries { header: self, next: 0 }
+    }
+
+    /// The entry of this number, from 0.
+    pub fn entry(&self, number: u64) -> Option<Entry<'_, 'h>> {
+        let line = self.part(ffi::entry(self.bytes, &self.table, number))?;
+        Some(Entry { header: self, number, line })
+    }
+
+    fn part(&self, part: ffi::Part) -> Option<&'h [u8]> {
+        let start = part.start as usize;
+        (part.number == 0).then(|| &self.bytes[start..start + part.length as usize])
+    }
+}
+
+/// A table of this size has room for every entry: each line and each tab gives one at most.
+fn table_words(bytes: &[u8]) -> usize {
+    let ends = bytes.iter().filter(|&&b| b == b'\n' || b == b'\t').count();
+    2 * (ends + 1)
+}
+
+/// An entry of an accepted header: a line, or a sample.
+#[derive(Clone, Copy, Debug)]
+pub struct Entry<'t, 'h> {
+    header: &'t Header<'h>,
+    number: u64,
+    line: &'h [u8],
+}
+
+impl<'t, 'h> Entry<'t, 'h> {
+    pub fn number(&self) -> u64 {
+        self.number
+    }
+
+    pub fn kind(&self) -> Kind {
+        let word = self.header.table[2 * self.number as usize];
+        KINDS[(word >> 60) as usize - 1]
+    }
+
+    /// The whole line without its ending, or the sample's name.
+    pub fn line(&self) -> &'h [u8] {
+        self.line
+    }
+
+    /// The ID as it is written, without quotes; INFO, FILTER, FORMAT, ALT, contig and other maps have one.
+    pub fn id(&self) -> Option<&'h [u8]> {
+        self.header.part(ffi::id(self.header.bytes, &self.header.table, self.number))
+    }
+
+    /// The fields of a map in order, each from its key through its value with its quotes; none where the entry is no map.
+    pub fn fields(&self) -> impl Iterator<Item = &'h [u8]> + 't {
+        let (header, entry) = (self.header, self.number);
+        let version = header.version();
+        (0..).map_while(move |n| header.part(ffi::field(header.bytes, &header.table, entry, version?, n)))
+    }
+}
+
+/// The entries of a header, in order.
+#[derive(Clone, Debug)]
+pub struct Entries<'t, 'h> {
+    header: &'t Header<'h>,
+    next: u64,
+}
+
+impl<'t, 'h> Iterator for Entries<'t, 'h> {
+    type Item = Entry<'t, 'h>;
+
+    fn next(&mut self) -> Option<Self::Item> {
+        let entry = self.header.entry(self.next)?;
+        self.next += 1;
+        Some(entry)
+    }
+}

@@ -1,0 +1,84 @@
+//! The library through the safe functions.
+use vcfh::{Header, Kind, Refused, Version};
+
+const COLUMNS: &str = "#CHROM\tPOS\tID\tREF\tALT\tQUAL\tFILTER\tINFO";
+
+fn refused(header: &str) -> Refused {
+    Header::read(header.as_bytes(), None).unwrap_err()
+}
+
+#[test]
+fn the_probe_header_has_three_entries() {
+    let bytes = format!("##fileformat=VCFv4.3\n##cell=<ID=W07,K=0.98>\n{COLUMNS}\n");
+    let header = Header::read(bytes.as_bytes(), None).unwrap();
+    let kinds: Vec<Kind> = header.entries().map(|entry| entry.kind()).collect();
+    assert_eq!(kinds, [Kind::FileFormat, Kind::OtherMap, Kind::Columns]);
+    assert_eq!(header.entry(1).unwrap().line(), b"##cell=<ID=W07,K=0.98>");
+    assert_eq!(header.entry(1).unwrap().id(), Some(&b"W07"[..]));
+    assert_eq!(header.entry(2).unwrap().id(), None);
+    assert!(header.entry(3).is_none());
+    assert_eq!(header.lines(), 3);
+}
+
+#[test]
+fn fields_are_shown_as_written() {
+    let bytes = format!("##fileformat=VCFv4.3\n##cell=<K=\"0,98\",ID=W07>\n{COLUMNS}\n");
+    let header = Header::read(bytes.as_bytes(), None).unwrap();
+    let fields: Vec<&[u8]> = header.entry(1).unwrap().fields().collect();
+    assert_eq!(fields, [&b"K=\"0,98\""[..], b"ID=W07"]);
+    assert_eq!(header.entry(2).unwrap().fields().count(), 0);
+    assert_eq!(header.version(), Some(Version { major: 4, minor: 3 }));
+}
+
+#[test]
+fn headers_of_one_meaning_have_one_house_form() {
+    let plain = format!("##fileformat=VCFv4.3\n##cell=<ID=W07,K=0.98>\n{COLUMNS}\n");
+    let quoted = format!("##fileformat=VCFv4.3\n##cell=<K=\"0.98\",ID=\"W07\">\n{COLUMNS}");
+    assert_eq!(vcfh::house_form(quoted.as_bytes(), None).unwrap(), plain.as_bytes());
+    assert_eq!(vcfh::house_form(b"", None).unwrap_err().number, 25);
+}
+
+#[test]
+fn samples_follow_the_column_line() {
+    let bytes = format!("##fileformat=VCFv4.3\n{COLUMNS}\tFORMAT\tNA1\t\tNA2");
+    let header = Header::read(bytes.as_bytes(), None).unwrap();
+    let names: Vec<&[u8]> =
+        header.entries().filter(|entry| entry.kind() == Kind::Sample).map(|entry| entry.line()).collect();
+    assert_eq!(names, [&b"NA1"[..], b"", b"NA2"]);
+}
+
+#[test]
+fn a_second_equal_id_is_refused_with_its_place_and_words() {
+    let second = refused("##fileformat=VCFv4.3\n##FILTER=<ID=q,Description=x>\n##FILTER=<ID=\"q\",Description=x>\n");
+    assert_eq!(second, Refused { number: 19, line: 3, start: 51 });
+    assert_eq!(second.to_string(), "line 3, byte 51: the ID stands twice among the lines of its kind (refusal 19)");
+}
+
+#[test]
+fn an_empty_header_is_refused() {
+    assert_eq!(refused(""), Refused { number: 25, line: 0, start: 0 });
+}
+
+#[test]
+fn the_version_imposed_is_the_one_in_force() {
+    let bytes = format!("##fileformat=VCFv4.3\n##META=<ID=x,Values=[a,b]>\n{COLUMNS}\n");
+    assert!(Header::read(bytes.as_bytes(), None).is_ok());
+    let older = Header::read(bytes.as_bytes(), Some(Version { major: 4, minor: 2 }));
+    assert_eq!(older.unwrap_err().number, 9);
+}
+
+#[test]
+fn every_number_has_its_own_words() {
+    let mut words: Vec<&str> = (1..=29).map(|number| Refused { number, line: 0, start: 0 }.words()).collect();
+    let none = Refused { number: 30, line: 0, start: 0 }.words();
+    assert!(!words.contains(&none));
+    words.sort();
+    words.dedup();
+    assert_eq!(words.len(), 29);
+}
+
+#[test]
+fn utf8_is_told_from_other_bytes() {
+    assert!(vcfh::is_utf8("Gr\u{fc}\u{df}e".as_bytes()) && vcfh::is_utf8(b""));
+    assert!(!vcfh::is_utf8(b"\xc0\x80") && !vcfh::is_utf8(b"\xed\xa0\x80"));
+}

@@ -1,0 +1,117 @@
+-- The answers as numbers: the ways of the code, on plain values. Assumes nothing.
+use Prim.Native.Nat.{ℕ, _-_, _≤_}
+use mathlib.Core.Path.{_≡_, refl, sym, ap, _∙_, subst}
+use mathlib.Core.Bool.{Bool, true, false}
+use mathlib.Core.List.{List}
+use mathlib.Core.Option.{Option, none, some}
+use lib.ListN.{length}
+use lib.Seq.{sets}
+use borrow.Author.Tests.{eq-eqb, ne-eqb}
+use Rattle.rules.specs.Sizes.{limits}
+use Rattle.rules.specs.Version.{Version, version}
+use Rattle.rules.specs.Entry.{words}
+use Rattle.rules.specs.Reading.{Reading, reading}
+use Rattle.rules.specs.House.{house}
+use Rattle.rules.specs.Shown.{Part, shownField}
+use Rattle.records.specs.Refusals.{number}
+use Rattle.records.specs.declared.refusal.Refusal.{Refusal}
+use Rattle.records.specs.Formats.{versionOf}
+use Rattle.records.specs.declared.file_format.FileFormat.{FileFormat}
+use Rattle.entries.specs.Shown.{shownAs, Inside}
+use Rattle.entries.specs.declared.shown.Shown.{Shown}
+use Rattle.entries.specs.declared.shown.Shown.the-variants as shown
+use Rattle.header.specs.Parsers.{Told, told, tells, outcomeNumber}
+use Rattle.header.specs.declared.parser.Outcome.{Outcome}
+use Rattle.header.specs.declared.parser.Outcome.the-variants as outcome
+use Rattle.header.specs.declared.parser.ReadAnswer.{ReadAnswer}
+use Rattle.house.specs.Answers.{ToldForm, toldForm, tellsForm}
+use Rattle.house.specs.declared.form.HouseAnswer.{HouseAnswer}
+use Rattle.capi.specs.Answers.{flag, imposedBy, answerOf, formOf, partOf, partAs, Ordered}
+use Rattle.capi.specs.declared.VcfhAnswer.{VcfhAnswer}
+use Rattle.capi.specs.declared.VcfhForm.{VcfhForm}
+use Rattle.capi.specs.declared.VcfhPart.{VcfhPart}
+
+-- Parts
+
+pub ordered : (n : ℕ) (s : Shown) → Inside n s → Ordered s
+ordered n (shown.Part start end) i = i .0
+ordered n shown.Refused i = tt
+
+as-shown : (o : Option Part) → partAs (shownAs o) ≡ partOf o
+as-shown none = refl
+as-shown (some p) = refl
+
+module _ (s : Shown) (o : Option Part) {r : VcfhPart} where
+  pub shows : s ≡ shownAs o → r ≡ partAs s → r ≡ partOf o
+  shows a e = e ∙ ap partAs a ∙ as-shown o
+
+module _ (h t : List ℕ) (n major minor i : ℕ) {f : FileFormat} (s : Shown) {r : VcfhPart} where
+  pub shows-field : f ≡ record { major = major; minor = minor } → s ≡ shownAs (shownField h t n (versionOf f) i) → r ≡ partAs s → r ≡ partOf (shownField h t n (version major minor) i)
+  shows-field e a b = b ∙ ap partAs a ∙ as-shown (shownField h t n (versionOf f) i) ∙ ap (λ g. partOf (shownField h t n (versionOf g) i)) e
+
+module _ (s : Shown) (start end : ℕ) (e : s ≡ shown.Part start end) where
+  pub part-ordered : Ordered s → start ≤ end
+  part-ordered o = subst Ordered e o
+
+  pub part-numbers : record { number = 0; start = start; length = end - start } ≡ partAs s
+  part-numbers = sym (ap partAs e)
+
+module _ (s : Shown) where
+  pub no-part : s ≡ shown.Refused → record { number = 29; start = 0; length = 0 } ≡ partAs s
+  no-part e = sym (ap partAs e)
+
+pub ruleset parts = (ordered, shows, shows-field, part-ordered, part-numbers, no-part)
+
+-- Readings
+
+abbrev numbers : Told → VcfhAnswer
+numbers t = record { number = t .number; line = t .line; start = t .start; entries = t .entries }
+
+module _ {imposed wanted : Option Version} (e : imposed ≡ wanted) (h : List ℕ) (a : ReadAnswer) {n : ℕ} (room : ℕ) where
+  pub answers : n ≡ outcomeNumber (a .outcome) → told a ≡ tells (reading limits imposed room h) → record { number = n; line = a .line; start = a .start; entries = a .entries } ≡ answerOf (reading limits wanted room h)
+  answers c d = ap (λ k. record { number = k; line = a .line; start = a .start; entries = a .entries }) c ∙ ap numbers d ∙ ap (λ i. answerOf (reading limits i room h)) e
+
+module _ {imposed wanted : Option Version} (e : imposed ≡ wanted) (h t : List ℕ) {t′ : List ℕ} where
+  pub stored : t′ ≡ sets t 0 (words (reading limits imposed (length t) h .entries)) → t′ ≡ sets t 0 (words (reading limits wanted (length t) h .entries))
+  stored s = s ∙ ap (λ i. sets t 0 (words (reading limits i (length t) h .entries))) e
+
+abbrev form-numbers : ToldForm → VcfhForm
+form-numbers t = record { number = t .number; line = t .line; start = t .start; entries = t .entries; length = t .size }
+
+module _ {imposed wanted : Option Version} (e : imposed ≡ wanted) (h : List ℕ) (a : HouseAnswer) {n : ℕ} (room space : ℕ) where
+  pub form-answers : n ≡ outcomeNumber (a .outcome) → toldForm a ≡ tellsForm (reading limits imposed room h) (house limits imposed room space h)
+      → record { number = n; line = a .line; start = a .start; entries = a .entries; length = a .length } ≡ formOf (reading limits wanted room h) (house limits wanted room space h)
+  form-answers c d =
+      ap (λ k. record { number = k; line = a .line; start = a .start; entries = a .entries; length = a .length }) c
+      ∙ ap form-numbers d
+      ∙ ap (λ i. formOf (reading limits i room h) (house limits i room space h)) e
+
+module _ {imposed wanted : Option Version} (e : imposed ≡ wanted) (h t o : List ℕ) {o′ : List ℕ} where
+  pub written : o′ ≡ sets o 0 (house limits imposed (length t) (length o) h .form) → o′ ≡ sets o 0 (house limits wanted (length t) (length o) h .form)
+  written s = s ∙ ap (λ i. sets o 0 (house limits i (length t) (length o) h .form)) e
+
+module _ (o : Outcome) (x : Refusal) {n : ℕ} where
+  pub refused-number : o ≡ outcome.Refused x → n ≡ number x → n ≡ outcomeNumber o
+  refused-number e a = a ∙ sym (ap outcomeNumber e)
+
+pub ruleset readings = (answers, form-answers, stored, written, refused-number)
+
+module _ (imposed major minor : ℕ) where
+  pub not-imposed : imposed ≡ 0 → none ≡ imposedBy imposed major minor
+  not-imposed e = rw (imposedBy, eq-eqb imposed 0 e)
+
+  pub is-imposed : (imposed ≡ 0 → ⊥) → (f : FileFormat) → f ≡ record { major = major; minor = minor } → some (versionOf f) ≡ imposedBy imposed major minor
+  is-imposed n f e = rw (imposedBy, ne-eqb imposed 0 n) (ap (λ g. some (versionOf g)) e)
+
+pub ruleset imposing = (not-imposed, is-imposed)
+
+-- UTF-8
+
+module _ {q b : Bool} (a : q ≡ b) where
+  pub flag-set : q ≡ true → 1 ≡ flag b
+  flag-set e = sym (ap flag (sym a ∙ e))
+
+  pub flag-clear : q ≡ false → 0 ≡ flag b
+  flag-clear e = sym (ap flag (sym a ∙ e))
+
+pub ruleset flags = (flag-set, flag-clear)

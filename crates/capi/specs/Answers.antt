@@ -1,0 +1,43 @@
+-- The rules' answers as structs of numbers. Assumes nothing.
+use Prim.Native.Nat.{ℕ, _-_, _≤_}
+use mathlib.Core.Bool.{Bool, true, false}
+use mathlib.Core.Option.{Option, none, some}
+use lib.Dec.{eqb}
+use lib.ListN.{length}
+use Rattle.rules.specs.Version.{Version, version}
+use Rattle.rules.specs.Reading.{Reading}
+use Rattle.rules.specs.House.{HouseReading}
+use Rattle.rules.specs.Shown.{Part}
+use Rattle.entries.specs.declared.shown.Shown.{Shown}
+use Rattle.entries.specs.declared.shown.Shown.the-variants as shown
+use Rattle.capi.specs.declared.VcfhAnswer.{VcfhAnswer}
+use Rattle.capi.specs.declared.VcfhForm.{VcfhForm}
+use Rattle.capi.specs.declared.VcfhPart.{VcfhPart}
+
+abbrev pub flag : Bool → ℕ
+flag true = 1
+flag false = 0
+
+-- 0: none
+abbrev pub imposedBy : ℕ → ℕ → ℕ → Option Version
+imposedBy imposed major minor = elim (eqb imposed 0) [ true ↦ none | false ↦ some (version major minor) ]
+
+abbrev pub answerOf : Reading → VcfhAnswer
+answerOf r = record { number = r .number; line = r .line; start = r .start; entries = length (r .entries) }
+
+-- of a reading, and of the form of what was read
+abbrev pub formOf : Reading → HouseReading → VcfhForm
+formOf r f = record { number = f .number; line = f .line; start = f .start; entries = length (r .entries); length = length (f .form) }
+
+-- nothing to show is refusal 29
+abbrev pub partOf : Option Part → VcfhPart
+partOf none = record { number = 29; start = 0; length = 0 }
+partOf (some p) = record { number = 0; start = p .0; length = p .1 - p .0 }
+
+abbrev pub partAs : Shown → VcfhPart
+partAs (shown.Part start end) = record { number = 0; start = start; length = end - start }
+partAs shown.Refused = record { number = 29; start = 0; length = 0 }
+
+abbrev pub Ordered : Shown → Type 0
+Ordered (shown.Part start end) = start ≤ end
+Ordered shown.Refused = Unit {0}

@@ -1,0 +1,179 @@
+// The library for programs in C, Rust or Python: answers are structs of 64-bit numbers, slices pass as pointer and length.
+use entries::shown::Shown;
+use header::file_format_option::FileFormatOption;
+use header::parser::Outcome;
+use records::file_format::FileFormat;
+ghost use mathlib.Core.Path.{_≡_};
+ghost use lib.ListN.{length};
+ghost use lib.Seq.{sets};
+ghost use Rattle.values.specs.Utf8.{isUtf8};
+ghost use Rattle.rules.specs.Sizes.{limits};
+ghost use Rattle.rules.specs.Entry.{words};
+ghost use Rattle.rules.specs.Version.{version};
+ghost use Rattle.rules.specs.Shown.{shownEntry, shownId, shownField};
+ghost use Rattle.rules.specs.Reading.{reading};
+ghost use Rattle.rules.specs.House.{house};
+ghost use Rattle.header.specs.Verdicts.{imposedOf};
+ghost use Rattle.header.specs.Parsers.{outcomeNumber};
+ghost use Rattle.capi.specs.Answers.{flag, imposedBy, answerOf, formOf, partOf, partAs, Ordered};
+
+// Document 01's number, 0 if accepted; the line and its start; how many entries the table keeps.
+#[repr(C)]
+pub struct VcfhAnswer {
+    pub number: u64,
+    pub line: u64,
+    pub start: u64,
+    pub entries: u64,
+}
+
+// The same, and the length of the form, 0 if refused.
+#[repr(C)]
+pub struct VcfhForm {
+    pub number: u64,
+    pub line: u64,
+    pub start: u64,
+    pub entries: u64,
+    pub length: u64,
+}
+
+// Number 0 and a part of the header, or number 29 and no part.
+#[repr(C)]
+pub struct VcfhPart {
+    pub number: u64,
+    pub start: u64,
+    pub length: u64,
+}
+
+// `imposed` 0: no version is imposed.
+fn imposed_by(imposed: u64, major: u32, minor: u32) -> FileFormatOption
+    ensures { λ r. ⌜ imposedOf r ≡ imposedBy imposed major minor ⌝ }
+{
+    if imposed == 0 {
+        return FileFormatOption::None;
+    }
+    FileFormatOption::Some(FileFormat::new(major, minor))
+}
+
+fn number_of(outcome: Outcome) -> u64
+    ensures { λ r. ⌜ r ≡ outcomeNumber outcome ⌝ }
+{
+    match outcome {
+        Outcome::Accepted(_, _) => 0,
+        Outcome::Refused(refusal) => refusal.number(),
+    }
+}
+
+fn part_of(shown: Shown) -> VcfhPart
+    requires { ⌜ Ordered shown ⌝ }
+    ensures { λ r. ⌜ r ≡ partAs shown ⌝ }
+{
+    match shown {
+        Shown::Part { start, end } => VcfhPart {
+            number: 0,
+            start: start as u64,
+            length: (end - start) as u64,
+        },
+        Shown::Refused => VcfhPart {
+            number: 29,
+            start: 0,
+            length: 0,
+        },
+    }
+}
+
+// 1 if the bytes are UTF-8, else 0.
+#[no_mangle]
+pub extern "C" fn vcfh_utf8(bytes: &[u8]) -> u64
+    ensures { λ r. ⌜ r ≡ flag (isUtf8 (now (bytes .entry))) ⌝ }
+{
+    if values::utf8::utf8(bytes) {
+        return 1;
+    }
+    0
+}
+
+// Reads a header into the table, two words for each entry.
+#[no_mangle]
+pub extern "C" fn vcfh_read(
+    header: &[u8],
+    imposed: u64,
+    major: u32,
+    minor: u32,
+    table: &mut [u64],
+) -> VcfhAnswer
+    ensures answer { λ r. ⌜ r ≡ answerOf (reading limits (imposedBy imposed major minor) (length (now (table .entry))) (now (header .entry))) ⌝ }
+    ensures table { λ _. ⌜ now (table .exit) ≡ sets (now (table .entry)) 0 (words (reading limits (imposedBy imposed major minor) (length (now (table .entry))) (now (header .entry)) .entries)) ⌝ }
+{
+    let version = imposed_by(imposed, major, minor);
+    let answer = header::parser::read(header, version, table);
+    let outcome = answer.outcome;
+    let number = number_of(outcome);
+    VcfhAnswer {
+        number,
+        line: answer.line as u64,
+        start: answer.start as u64,
+        entries: answer.entries as u64,
+    }
+}
+
+// Reads a header into the table and writes its house form into the output.
+#[no_mangle]
+pub extern "C" fn vcfh_house(
+    header: &[u8],
+    imposed: u64,
+    major: u32,
+    minor: u32,
+    table: &mut [u64],
+    out: &mut [u8],
+) -> VcfhForm
+    ensures answer { λ r. ⌜ r ≡ formOf (reading limits (imposedBy imposed major minor) (length (now (table .entry))) (now (header .entry))) (house limits (imposedBy imposed major minor) (length (now (table .entry))) (length (now (out .entry))) (now (header .entry))) ⌝ }
+    ensures table { λ _. ⌜ now (table .exit) ≡ sets (now (table .entry)) 0 (words (reading limits (imposedBy imposed major minor) (length (now (table .entry))) (now (header .entry)) .entries)) ⌝ }
+    ensures output { λ _. ⌜ now (out .exit) ≡ sets (now (out .entry)) 0 (house limits (imposedBy imposed major minor) (length (now (table .entry))) (length (now (out .entry))) (now (header .entry)) .form) ⌝ }
+{
+    let version = imposed_by(imposed, major, minor);
+    let answer = house::form::house_form(header, version, table, out);
+    let outcome = answer.outcome;
+    let number = number_of(outcome);
+    VcfhForm {
+        number,
+        line: answer.line as u64,
+        start: answer.start as u64,
+        entries: answer.entries as u64,
+        length: answer.length as u64,
+    }
+}
+
+// The line of an entry, from 0, or the sample name.
+#[no_mangle]
+pub extern "C" fn vcfh_entry(header: &[u8], table: &[u64], entry: u64) -> VcfhPart
+    ensures { λ r. ⌜ r ≡ partOf (shownEntry (now (header .entry)) (now (table .entry)) entry) ⌝ }
+{
+    let shown = header::shown::entry(header, table, entry as usize);
+    part_of(shown)
+}
+
+// The ID of an entry, without quotes.
+#[no_mangle]
+pub extern "C" fn vcfh_id(header: &[u8], table: &[u64], entry: u64) -> VcfhPart
+    ensures { λ r. ⌜ r ≡ partOf (shownId (now (header .entry)) (now (table .entry)) entry) ⌝ }
+{
+    let shown = header::shown::id(header, table, entry as usize);
+    part_of(shown)
+}
+
+// Field `field`, from 0, of an entry, key through value; the entry's line is read again, under the version given.
+#[no_mangle]
+pub extern "C" fn vcfh_field(
+    header: &[u8],
+    table: &[u64],
+    entry: u64,
+    major: u32,
+    minor: u32,
+    field: u64,
+) -> VcfhPart
+    ensures { λ r. ⌜ r ≡ partOf (shownField (now (header .entry)) (now (table .entry)) entry (version major minor) field) ⌝ }
+{
+    let under = FileFormat::new(major, minor);
+    let shown = header::shown::field(header, table, entry as usize, under, field as usize);
+    part_of(shown)
+}

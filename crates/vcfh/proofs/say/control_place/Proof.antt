@@ -1,0 +1,52 @@
+use Prim.Native.Nat.{_-_, _+_, _≤_}
+use lib.ListN.{length}
+use native.Mathlib.Omega.{arith}
+use mathlib.Core.Path.{_≡_}
+use borrow.Author.Needs.{needs}
+use Rattle.vcfh.proofs.say.control_place.Statement.{statement}
+use Rattle.vcfh.proofs.say.control_place.Tie as tie
+
+abbrev Inv-loop : tie.InvT-loop
+Inv-loop s start i₀ i = start ≤ i
+
+abbrev μ-loop : tie.MeasureT-loop
+μ-loop s start i₀ i = length s - i
+
+loop-holds : tie.Need-loop-holds Inv-loop μ-loop
+loop-holds c = search needs
+
+shared-slice-read-is-control : tie.Need-shared-slice-read-is-control Inv-loop μ-loop
+shared-slice-read-is-control c = search needs
+
+is-control-requires : tie.Need-is-control-requires Inv-loop μ-loop
+is-control-requires c κs = search needs
+
+returns : tie.Need-returns Inv-loop μ-loop
+returns c = search needs
+
+add-i : tie.Need-add-i Inv-loop μ-loop
+add-i c = search needs
+
+loop-less : tie.Need-loop-less Inv-loop μ-loop
+loop-less c = search needs
+
+loop-again : tie.Need-loop-again Inv-loop μ-loop
+loop-again c = search needs
+
+returns-2 : tie.Need-returns-2 Inv-loop μ-loop
+returns-2 c = search needs
+
+pub control-place-spec : {M : Type 1} → statement M
+control-place-spec =
+    tie.close
+    (tie.spec
+    Inv-loop
+    μ-loop
+    loop-holds
+    shared-slice-read-is-control
+    is-control-requires
+    returns
+    add-i
+    loop-less
+    loop-again
+    returns-2)

@@ -1,0 +1,143 @@
+// What bin/vcfh runs. Two arguments make a case: check, entries or house, and a file's name (`-`: standard input).
+// A refusal always says on standard error why, and nothing else is written there: bin/vcfh goes by that.
+mod listing;
+mod say;
+mod why;
+
+use header::file_format_option::FileFormatOption;
+use header::parser::Outcome;
+use records::file_format::FileFormat;
+use records::refusal::Refusal;
+use values::bytes;
+ghost use mathlib.Core.Path.{_≡_};
+ghost use lib.ListN.{length};
+
+// Room for a header that is two bytes too long. As with `io::buffer`, the contract gives only the length.
+fn header_buffer() -> [u8; 1048577]
+    ensures { λ r. ⌜ 1048577 ≡ length r ⌝ }
+{
+    [0; 1048577]
+}
+
+// Room for the entries of any header: a line and its ending have five bytes or more, and the samples stand in one line.
+fn entry_table() -> [u64; 524288]
+    ensures { λ r. ⌜ 524288 ≡ length r ⌝ }
+{
+    [0; 524288]
+}
+
+// The header of a whole VCF ends with its column line.
+fn header_end(s: &[u8]) -> usize {
+    let mut at = 0;
+    while at < s.len() {
+        let lf = bytes::find(s, at, b'\n');
+        if s.len() <= lf {
+            return s.len();
+        }
+        if bytes::starts_with(bytes::part(s, at, lf), b"#CHROM") {
+            return lf + 1;
+        }
+        at = lf + 1;
+    }
+    s.len()
+}
+
+fn say_accepted(version: FileFormat, entries: usize, samples: usize) {
+    say::numbered(1, b"ok version=", version.major as u64);
+    say::numbered(1, b".", version.minor as u64);
+    say::numbered(1, b" entries=", entries as u64);
+    say::numbered(1, b" samples=", samples as u64);
+    say::text(1, b"\n");
+}
+
+fn say_refused(fd: i32, refusal: Refusal, line: usize, start: usize) {
+    say::numbered(fd, b"refused ", refusal.number());
+    say::numbered(fd, b" line=", line as u64);
+    say::numbered(fd, b" offset=", start as u64);
+    say::text(fd, b"\n");
+}
+
+fn check(header: &[u8], table: &mut [u64]) {
+    let answer = header::parser::read(header, FileFormatOption::None, table);
+    let outcome = answer.outcome;
+    match outcome {
+        Outcome::Accepted(version, samples) => say_accepted(version, answer.entries, samples),
+        Outcome::Refused(refusal) => {
+            say_refused(1, refusal, answer.line, answer.start);
+            why::say_why(refusal, header, answer.start);
+        }
+    }
+}
+
+fn entries(header: &[u8], table: &mut [u64]) {
+    let answer = header::parser::read(header, FileFormatOption::None, table);
+    let outcome = answer.outcome;
+    match outcome {
+        Outcome::Accepted(_, _) => listing::say_entries(header, table, answer.entries),
+        Outcome::Refused(refusal) => {
+            say_refused(2, refusal, answer.line, answer.start);
+            why::say_why(refusal, header, answer.start);
+        }
+    }
+}
+
+fn house(header: &[u8], table: &mut [u64], form: &mut [u8]) {
+    let answer = house::form::house_form(header, FileFormatOption::None, table, form);
+    let outcome = answer.outcome;
+    match outcome {
+        Outcome::Accepted(_, _) => say::text(1, bytes::part(form, 0, answer.length)),
+        Outcome::Refused(refusal) => {
+            say_refused(2, refusal, answer.line, answer.start);
+            why::say_why_no_form(refusal, header, answer.start);
+        }
+    }
+}
+
+fn run(command: &[u8], header: &[u8], table: &mut [u64], form: &mut [u8]) {
+    if bytes::same(command, b"check") {
+        check(header, table);
+    } else if bytes::same(command, b"entries") {
+        entries(header, table);
+    } else if bytes::same(command, b"house") {
+        house(header, table, form);
+    } else {
+        say::text(2, b"vcfh: no such command\n");
+    }
+}
+
+fn open(name: &[u8]) -> i32 {
+    if bytes::same(name, b"-") {
+        return 0;
+    }
+    os::open_read(name)
+}
+
+// One case: the arguments of these numbers.
+fn case(buffer: &mut [u8], table: &mut [u64], form: &mut [u8], command: usize, file: usize) {
+    let mut name = io::buffer();
+    let name_end = os::arg(file, &mut name);
+    let fd = open(&name[..name_end]);
+    if fd < 0 {
+        say::text(2, b"vcfh: no such file\n");
+        return;
+    }
+    let n = io::read_full(fd, buffer);
+    libc::close(fd);
+    let mut word = io::buffer();
+    let word_end = os::arg(command, &mut word);
+    let end = header_end(bytes::part(buffer, 0, n));
+    run(&word[..word_end], bytes::part(buffer, 0, end), table, form);
+}
+
+fn main() {
+    let mut buffer = header_buffer();
+    let mut table = entry_table();
+    let mut form = header_buffer();
+    let cases = os::arg_count() / 2;
+    let mut k = 0;
+    while k < cases {
+        let i = 2 * k;
+        case(&mut buffer, &mut table, &mut form, i + 1, i + 2);
+        k += 1;
+    }
+}

@@ -1,0 +1,65 @@
+// Writing for people.
+use values::bytes;
+ghost use Prim.Native.Nat.{_≤_};
+
+pub fn text(fd: i32, s: &[u8]) {
+    io::write_all(fd, s);
+}
+
+pub fn numbered(fd: i32, label: &[u8], n: u64) {
+    io::write_all(fd, label);
+    io::print_decimal(fd, n);
+}
+
+fn is_control(b: u8) -> bool {
+    if b < 0x20 {
+        return true;
+    }
+    b == 0x7F
+}
+
+// Where the first control character stands, from `start` on, or the end.
+fn control_place(s: &[u8], start: usize) -> usize
+    ensures { λ r. ⌜ start ≤ r ⌝ }
+{
+    let mut i = start;
+    while i < s.len() {
+        if is_control(s[i]) {
+            return i;
+        }
+        i += 1;
+    }
+    i
+}
+
+// Bytes of a header: a control character is shown as `?`, since it might move a terminal's cursor.
+pub fn shown(fd: i32, s: &[u8]) {
+    let mut at = 0;
+    while at < s.len() {
+        let end = control_place(s, at);
+        io::write_all(fd, bytes::part(s, at, end));
+        if s.len() <= end {
+            return;
+        }
+        io::write_all(fd, b"?");
+        at = end + 1;
+    }
+}
+
+// Spaces after a text of `used` bytes, so that the next one stands in line.
+fn fill(used: usize, width: usize) {
+    let spaces = b"                    ";
+    io::write_all(1, bytes::part(spaces, used, width));
+    io::write_all(1, b" ");
+}
+
+pub fn cell(s: &[u8], width: usize) {
+    shown(1, s);
+    fill(s.len(), width);
+}
+
+pub fn number_cell(n: u64, width: usize) {
+    let mut digits = [0u8; 20];
+    let k = io::decimal(n, &mut digits);
+    cell(&digits[..k], width);
+}

@@ -1,0 +1,176 @@
+// Why a header is refused, in a sentence on standard error.
+use crate::say;
+use lines::line;
+use records::file_format::FileFormat;
+use records::record;
+use records::record::RecordRead;
+use records::refusal::Refusal;
+use values::bytes;
+
+fn say(text: &[u8]) {
+    say::text(2, text);
+    say::text(2, b"\n");
+}
+
+fn say_around(before: &[u8], name: &[u8], after: &[u8]) {
+    say::text(2, before);
+    say::shown(2, name);
+    say(after);
+}
+
+// A record's key stands between `##` and the first `=`.
+fn key_of(l: &[u8]) -> &[u8] {
+    bytes::part(l, 2, bytes::find(l, 2, b'='))
+}
+
+fn say_missing(l: &[u8], name: &[u8]) {
+    say::text(2, b"the ");
+    say::shown(2, key_of(l));
+    say_around(b" line has no ", name, b"");
+}
+
+// The version that the header states.
+fn version_of(header: &[u8]) -> FileFormat {
+    let first = line::next_line(header, 0);
+    match record::parse_record(bytes::part(header, 0, first.end), FileFormat::V4_5) {
+        RecordRead::FileFormat(version) => version,
+        RecordRead::Map(_, _, _, _) => FileFormat::V4_5,
+        RecordRead::Text(_) => FileFormat::V4_5,
+        RecordRead::Refused(_) => FileFormat::V4_5,
+    }
+}
+
+fn say_twice(id: &[u8], l: &[u8]) {
+    say::text(2, b"the ID ");
+    say::shown(2, id);
+    say_around(b" stands twice among the ", key_of(l), b" lines");
+}
+
+// The second of two lines with one ID.
+fn say_id_twice(l: &[u8], version: FileFormat) {
+    match record::parse_record(l, version) {
+        RecordRead::FileFormat(_) => say(b"an ID stands twice"),
+        RecordRead::Map(_, _, id, _) => say_twice(bytes::part(l, id.start, id.end), l),
+        RecordRead::Text(_) => say(b"an ID stands twice"),
+        RecordRead::Refused(_) => say(b"an ID stands twice"),
+    }
+}
+
+// Whether one of the names from `start` on, which tabs part, is this one.
+fn stands_from(l: &[u8], start: usize, name: &[u8]) -> bool {
+    let mut at = start;
+    while at <= l.len() {
+        let end = bytes::find(l, at, b'\t');
+        if bytes::same(bytes::part(l, at, end), name) {
+            return true;
+        }
+        if l.len() <= end {
+            return false;
+        }
+        at = end + 1;
+    }
+    false
+}
+
+// The column line of a header with a sample name that stands twice.
+fn say_name_twice(l: &[u8]) {
+    let mut at = 0;
+    while at < l.len() {
+        let end = bytes::find(l, at, b'\t');
+        if l.len() <= end {
+            break;
+        }
+        let name = bytes::part(l, at, end);
+        at = end + 1;
+        if stands_from(l, at, name) {
+            say_around(b"the sample name ", name, b" stands twice");
+            return;
+        }
+    }
+    say(b"a sample name stands twice");
+}
+
+fn say_reason(refusal: Refusal, l: &[u8], version: FileFormat) {
+    match refusal {
+        Refusal::ExpectedEof => say(b"a line follows the column line"),
+        Refusal::LineTooLong => say(b"the line is longer than 65,535 bytes"),
+        Refusal::InvalidUtf8 => say(b"the line is not UTF-8"),
+        Refusal::MissingFileFormat => say(
+            b"the first line is a record, but not the fileformat line",
+        ),
+        Refusal::UnexpectedFileFormat => say(b"a fileformat line stands after the first line"),
+        Refusal::InvalidRecord => say(
+            b"the line does not begin with ##, has no =, or has nothing between them",
+        ),
+        Refusal::InvalidFileFormat => say(
+            b"the fileformat value is not VCFv, digits, a point and digits",
+        ),
+        Refusal::InvalidMap => say(
+            b"the value is not a whole map: < or > is missing, or something else follows a value or the >",
+        ),
+        Refusal::InvalidField => say(
+            b"a field has a bad key or value, or is missing after a comma or in a META or PEDIGREE line",
+        ),
+        Refusal::DuplicateTag => say(
+            b"a field key stands twice in the map, or the map names its ID twice",
+        ),
+        Refusal::InvalidNumber => say(
+            b"the Number is neither a count nor one of the letters allowed here",
+        ),
+        Refusal::InvalidType => say(b"the Type is not one of those allowed here"),
+        Refusal::InvalidInteger => say(
+            b"the IDX or length is not a number of at most 18446744073709551615",
+        ),
+        Refusal::MissingId => say_missing(l, b"ID"),
+        Refusal::MissingNumber => say_missing(l, b"Number"),
+        Refusal::MissingType => say_missing(l, b"Type"),
+        Refusal::MissingDescription => say_missing(l, b"Description"),
+        Refusal::DefinitionMismatch => say(
+            b"a reserved ID is declared with a Number or Type that is not the specification's",
+        ),
+        Refusal::DuplicateId => say_id_twice(l, version),
+        Refusal::MixedValues => say_around(
+            b"the key ",
+            key_of(l),
+            b" has text in one line and a map in another",
+        ),
+        Refusal::DuplicateOtherId => say_id_twice(l, version),
+        Refusal::InvalidHeader => say(b"a column is wrong or missing"),
+        Refusal::DuplicateSampleName => say_name_twice(l),
+        Refusal::TableFull => say(b"the table has no room for the line's entries"),
+        Refusal::Empty => say(b"there is no line at all"),
+        Refusal::MissingHeader => say(b"the column line is missing"),
+        Refusal::HeaderTooLong => say(b"the header is longer than 1,048,575 bytes"),
+        Refusal::FormTooLong => say(b"the house form is longer than the output"),
+        Refusal::InvalidEntry => say(b"there is no such entry, ID or field"),
+    }
+}
+
+// The line that was refused begins at `start`.
+pub fn say_why(refusal: Refusal, header: &[u8], start: usize) {
+    let found = line::next_line(header, start);
+    say_reason(
+        refusal,
+        bytes::part(header, start, found.end),
+        version_of(header),
+    );
+}
+
+// The same where a form was asked for: the header may be fine and its form, or a line of that, too long.
+pub fn say_why_no_form(refusal: Refusal, header: &[u8], start: usize) {
+    let number = refusal.number();
+    if number == 27 {
+        if header.len() <= 1048575 {
+            say(b"the house form is longer than 1,048,575 bytes");
+            return;
+        }
+    }
+    if number == 2 {
+        let found = line::next_line(header, start);
+        if bytes::part(header, start, found.end).len() <= 65535 {
+            say(b"a line of the house form is longer than 65,535 bytes");
+            return;
+        }
+    }
+    say_why(refusal, header, start);
+}

@@ -1,8 +1,8 @@
 // Replays recorded calls on entries. Five arguments make a case: the version under which fields are read, how many words the
 // table has, the entry and the field (a word that is no number: each, and one past the last), and the file. The file's first
 // line has the words to forge, parted by spaces (no number: the word that reading left stays); the rest is the header.
-use entries::shown::Shown;
 use header::file_format_option::FileFormatOption;
+use header::shown::Shown;
 use records::file_format::FileFormat;
 use records::file_format::FileFormatRead;
 use values::bytes;

@@ -1,11 +1,10 @@
 -- One line after the other: what is left of the header, read from here, gives the whole. Assumes nothing.
-use Prim.Native.Nat.{ℕ, zero, suc, _+_, _-_, _*_, _/_, _%_, _≤_, _<_}
+use Prim.Native.Nat.{ℕ, suc, _+_, _-_, _*_, _/_, _%_, _≤_, _<_}
 use native.Mathlib.Omega.{arith}
-use mathlib.Core.Path.{_≡_, refl, sym, ap, ap₂, subst, _∙_}
-use mathlib.Core.Bool.{Bool, true, false, not, false≢true}
+use mathlib.Core.Path.{_≡_, refl, sym, ap, subst, _∙_}
+use mathlib.Core.Bool.{Bool, true, false, not}
 use mathlib.Core.List.{List, [], _∷_, _++_, append-assoc, append-nil}
-use mathlib.Core.Option.{Option, none, some}
-use lib.Dec.{leb}
+use mathlib.Core.Option.{Option, none}
 use lib.ListN.{length, take, drop, length-append}
 use lib.Seq.{sets, length-sets, sets-eq}
 use borrow.Author.Tests.{le-leb, lt-leb}
@@ -20,27 +19,25 @@ use Rattle.rules.specs.Lines.{pieces, lineOf}
 use Rattle.rules.specs.Record.{Record}
 use Rattle.rules.specs.Columns.{Columns}
 use Rattle.rules.specs.Entry.{Entry, place, recordEntry, columnEntries, words}
-use Rattle.rules.specs.Shown.{kindIn}
 use Rattle.rules.specs.Reading.{State, empty, ready, done, step, Reading, stop, following, atEnd, run, reading}
-use Rattle.rules.proofs.Firsts.{OnOk, on-ok}
-use Rattle.rules.proofs.Pieces.{Piece, Pieces, piece-line, pieces-fine}
-use Rattle.rules.proofs.Sound.{Good, good-snoc, samples-count, run-refused, run-full, run-more}
-use Rattle.rules.proofs.Trace.{LineAt, Row, Rows, Taken, step-taken, FirstLine, first-line}
+use Rattle.rules.proofs.Firsts.{on-ok}
+use Rattle.rules.proofs.Pieces.{Pieces, piece-line, pieces-fine}
+use Rattle.rules.proofs.Sound.{good-snoc, run-refused, run-full, run-more}
+use Rattle.rules.proofs.Trace.{LineAt, Row, Rows, Taken, step-taken, first-line}
 use Rattle.rules.proofs.Shows.{place-kind, words-count}
-use Rattle.records.specs.Formats.{versionOf}
 use Rattle.records.specs.Refusals.{number}
 use Rattle.records.proofs.Refusals.{number-suc}
 use Rattle.records.specs.declared.file_format.FileFormat.{FileFormat}
 use Rattle.records.specs.declared.refusal.Refusal.{Refusal}
 use Rattle.records.specs.declared.refusal.Refusal.the-variants.{TableFull, Empty, MissingHeader, HeaderTooLong}
 use Rattle.entries.specs.Tables.{EntryPut}
-use Rattle.lines.specs.Lines.{PieceIs, LineIs}
+use Rattle.lines.specs.Lines.{LineIs}
 use Rattle.lines.specs.declared.line.Line.{Line}
-use Rattle.lines.proofs.Lines.{pieces-past, SomePiece, pieces-there}
+use Rattle.lines.proofs.Lines.{pieces-past, pieces-there}
 use Rattle.columns.specs.HeaderLines.{ColumnsWritten}
 use Rattle.columns.proofs.Answers.{columns-room}
-use Rattle.header.specs.Verdicts.{PhaseIs, ReadyRows, Tabled, Says, New, Ended, Begun, LineJudged}
-use Rattle.header.specs.Parsers.{outcomeNumber, told, tells, acceptedIn, Kept, LineHere, Stops, PartialIs, Bounds, Keeps, Parses, Finishes}
+use Rattle.header.specs.Verdicts.{PhaseIs, Tabled, Says, New, Ended, Begun, LineJudged}
+use Rattle.header.specs.Parsers.{told, tells, Kept, LineHere, Stops, PartialIs, Bounds, Keeps, Parses, Finishes}
 use Rattle.header.specs.declared.verdict.Phase.{Phase}
 use Rattle.header.specs.declared.verdict.Phase.the-variants as phase
 use Rattle.header.specs.declared.verdict.Verdict.{Verdict}

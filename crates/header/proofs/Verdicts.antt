@@ -1,33 +1,31 @@
 -- What a line is, beside the lines before it. Assumes nothing.
-use Prim.Native.Nat.{ℕ, zero, suc, _+_, _-_, _%_, _≤_, _<_}
+use Prim.Native.Nat.{ℕ, suc, _+_, _-_, _%_, _≤_, _<_}
 use native.Mathlib.Omega.{arith}
 use native.Mathlib.Nat.{mod-eq-of-lt}
 use mathlib.Core.Path.{_≡_, refl, sym, ap, ap₂, subst, _∙_}
-use mathlib.Core.Bool.{Bool, true, false, not, _||_, false≢true}
+use mathlib.Core.Bool.{Bool, true, false, not, _||_}
 use mathlib.Core.List.{List, [], _∷_, _++_}
 use mathlib.Core.Option.{Option, none, some}
-use lib.Dec.{leb}
-use lib.ListN.{length, take, drop, length-append, length-take, length-drop}
+use lib.ListN.{length, take, drop, length-take, length-drop}
 use borrow.Author.Tests.{le-leb, lt-leb}
-use Rattle.values.specs.Bytes.{Bytes, LF, ascii, is, any, same, starts}
+use Rattle.values.specs.Bytes.{Bytes, ascii, is, same, starts}
 use Rattle.values.specs.Utf8.{isUtf8}
 use Rattle.values.specs.Value.{meaning}
 use Rattle.values.specs.Field.{Field}
 use Rattle.values.specs.declared.string.Text.{Text}
-use Rattle.values.proofs.Tests.{Test, pass, fail, test, or-l, not-true, not-false}
+use Rattle.values.proofs.Tests.{pass, fail, test, or-l, not-true, not-false}
 use Rattle.values.proofs.Lists.{some-is, before-none}
-use Rattle.values.proofs.Fields.{part, text-here}
 use Rattle.rules.specs.Answer.{Answer, ok, refuse, _>>=_, judged}
-use Rattle.rules.specs.Sizes.{Limits, limits}
+use Rattle.rules.specs.Sizes.{limits}
 use Rattle.rules.specs.Version.{Version, v4-5, inForce}
 use Rattle.rules.specs.Known.{kindOf, isTyped, alwaysMap, tagOf}
 use Rattle.rules.specs.Map.{fieldNamed, valueNamed}
 use Rattle.rules.specs.Record.{Record, fileformat, fields, text, looksMap, readRecord}
 use Rattle.rules.specs.Columns.{Columns, readColumns}
-use Rattle.rules.specs.Entry.{Entry, place, identity, kindNumber, fieldsStart, textNamed, identityOf, recordEntry, columnEntries, words}
+use Rattle.rules.specs.Entry.{Entry, place, identity, kindNumber, fieldsStart, textNamed, identityOf, recordEntry, words}
 use Rattle.rules.specs.Reading.{clash, State, empty, ready, done, begin, enter, finish, isDone, stepText, step}
 use Rattle.rules.specs.House.{writeRecord}
-use Rattle.rules.proofs.Firsts.{OnOk, on-ok, judged-zero}
+use Rattle.rules.proofs.Firsts.{on-ok, judged-zero}
 use Rattle.rules.proofs.Pure.{Pure}
 use Rattle.rules.proofs.Versions.{Sized}
 use Rattle.rules.proofs.Records.{GoodRecord, Entered, record-good}
@@ -35,9 +33,9 @@ use Rattle.rules.proofs.Texts.{LineOf, record-in}
 use Rattle.rules.proofs.Shows.{Packed, Both, AnyAt, named-text, line-fields}
 use Rattle.records.specs.Formats.{versionOf}
 use Rattle.records.specs.Refusals.{number}
-use Rattle.records.specs.Keys.{bytesOf, keyKind, Named}
+use Rattle.records.specs.Keys.{keyKind}
 use Rattle.records.specs.Maps.{slotted, textIn, meaningIn}
-use Rattle.records.specs.Records.{keyIn, valueStart, RecordIs, RecordAre}
+use Rattle.records.specs.Records.{keyIn, RecordIs, RecordAre}
 use Rattle.records.specs.declared.file_format.FileFormat.{FileFormat}
 use Rattle.records.specs.declared.key.Key.{Key}
 use Rattle.records.specs.declared.refusal.Refusal.{Refusal}
@@ -56,7 +54,7 @@ use Rattle.ids.specs.declared.scan.Clash.{Clash}
 use Rattle.ids.specs.declared.scan.Clash.the-variants as clashes
 use Rattle.ids.proofs.KeyKinds.{number-small}
 use Rattle.ids.proofs.Clashes.{found-clash}
-use Rattle.header.specs.Verdicts.{imposedOf, PhaseIs, isDonePhase, ReadyRows, Says, Scene, Unchecked, FirstJudged, IdJudged, MapJudged, RecordJudged, ColumnsJudged, TextJudged, LineJudged}
+use Rattle.header.specs.Verdicts.{imposedOf, PhaseIs, isDonePhase, Says, Scene, FirstJudged, IdJudged, MapJudged, RecordJudged, ColumnsJudged, TextJudged, LineJudged}
 use Rattle.header.specs.declared.file_format_option.FileFormatOption.{FileFormatOption}
 use Rattle.header.specs.declared.file_format_option.FileFormatOption.the-variants as option
 use Rattle.header.specs.declared.verdict.Phase.{Phase}

@@ -1,13 +1,11 @@
 -- The line machine beside the rules' run over a header's pieces, and what a reading answers. Assumes nothing.
 use Prim.Native.Nat.{ℕ, zero, suc, _+_, _*_, _≤_, _<_}
 use mathlib.Core.Path.{_≡_}
-use mathlib.Core.Bool.{Bool, true, false}
-use mathlib.Core.List.{List, [], _∷_, _++_}
+use mathlib.Core.List.{List, _∷_}
 use mathlib.Core.Option.{Option, none, some}
 use lib.ListN.{length, drop}
 use lib.Seq.{sets}
-use Rattle.values.specs.Bytes.{Bytes, LF, is, any}
-use Rattle.values.proofs.Fields.{part}
+use Rattle.values.specs.Bytes.{Bytes, is}
 use Rattle.rules.specs.Sizes.{limits}
 use Rattle.rules.specs.Version.{Version}
 use Rattle.rules.specs.Lines.{pieces, lineOf}

@@ -1,7 +1,10 @@
 // The calls on an entry number: parts of the header, for any table words and any numbers. Refused is refusal 29.
 use entries::shown;
 use entries::shown::EntryRead;
-use entries::shown::Shown;
+pub use entries::shown::Shown;
+pub use entries::shown::bytes_of;
+pub use entries::shown::entry;
+pub use entries::shown::id;
 use entries::word;
 use records::file_format::FileFormat;
 use records::record;
@@ -10,33 +13,10 @@ use values::bytes;
 use values::utf8;
 ghost use mathlib.Core.Path.{_≡_};
 ghost use lib.ListN.{length};
-ghost use Rattle.rules.specs.Shown.{shownEntry, shownId, shownField};
+ghost use Rattle.rules.specs.Shown.{shownField};
 ghost use Rattle.records.specs.Formats.{versionOf};
-ghost use Rattle.entries.specs.Shown.{shownAs, bytesOf, Inside};
+ghost use Rattle.entries.specs.Shown.{shownAs, Inside};
 ghost use Rattle.header.specs.Lines.{fieldIn, FieldAt};
-
-// The line of entry n, from 0, or the sample name.
-pub fn entry(h: &[u8], table: &[u64], n: usize) -> Shown
-    ensures shown { λ r. ⌜ r ≡ shownAs (shownEntry (now (h .entry)) (now (table .entry)) n) ⌝ }
-    ensures inside { λ r. ⌜ Inside (length (now (h .entry))) r ⌝ }
-{
-    shown::entry(h, table, n)
-}
-
-// The ID's text of entry n, without quotes.
-pub fn id(h: &[u8], table: &[u64], n: usize) -> Shown
-    ensures shown { λ r. ⌜ r ≡ shownAs (shownId (now (h .entry)) (now (table .entry)) n) ⌝ }
-    ensures inside { λ r. ⌜ Inside (length (now (h .entry))) r ⌝ }
-{
-    shown::id(h, table, n)
-}
-
-// The bytes of a part, none where it was refused.
-pub fn bytes_of(h: &[u8], shown: Shown) -> &[u8]
-    ensures { λ r. ⌜ now r ≡ bytesOf (now (h .entry)) shown ⌝ }
-{
-    shown::bytes_of(h, shown)
-}
 
 // Field i of a line, read alone, if it is a record of this kind.
 fn line_field(l: &[u8], kind: u64, version: FileFormat, i: usize) -> Shown

@@ -1,25 +1,23 @@
 -- What a house-form call answers is what the rules say. Assumes nothing.
-use Prim.Native.Nat.{ℕ, zero, suc, _+_, _*_, _≤_, _<_}
+use Prim.Native.Nat.{ℕ, suc, _+_, _*_, _≤_, _<_}
 use native.Mathlib.Omega.{arith}
-use mathlib.Core.Path.{_≡_, refl, sym, ap, ap₂, subst, _∙_}
-use mathlib.Core.Bool.{Bool, true, false}
-use mathlib.Core.List.{List, [], _∷_, _++_}
+use mathlib.Core.Path.{_≡_, refl, sym, ap, subst, _∙_}
+use mathlib.Core.List.{List, [], _∷_}
 use mathlib.Core.Option.{Option, none, some}
 use lib.Dec.{leb}
 use lib.ListN.{length, take, length-append, length-take}
-use lib.Seq.{sets, length-sets}
+use lib.Seq.{sets}
 use borrow.Author.Tests.{leb-true}
 use Rattle.values.specs.Bytes.{Bytes}
 use Rattle.values.proofs.Tests.{pass, fail, test}
 use Rattle.values.proofs.Lists.{none-not, some-is}
-use Rattle.rules.specs.Answer.{ok, refuse}
 use Rattle.rules.specs.Sizes.{Limits, limits}
 use Rattle.rules.specs.Lines.{lineOf, pieces, writeLines}
 use Rattle.rules.specs.Version.{Version, inForce}
 use Rattle.rules.specs.Record.{Record}
 use Rattle.rules.specs.Columns.{Columns}
-use Rattle.rules.specs.Entry.{Entry, words}
-use Rattle.rules.specs.Reading.{State, empty, ready, done, step, Reading, stop, atEnd, run, reading}
+use Rattle.rules.specs.Entry.{words}
+use Rattle.rules.specs.Reading.{State, empty, ready, done, step, Reading, atEnd, run, reading}
 use Rattle.rules.specs.Meaning.{Meaning, meaning}
 use Rattle.rules.specs.House.{houseLines, houseForm, HouseReading, tooLong, refusedForm, fitted, lined, formOf, houseOf, house}
 use Rattle.rules.proofs.Firsts.{was, not-read, see}
@@ -27,7 +25,7 @@ use Rattle.rules.proofs.Versions.{Sized, SizedOption}
 use Rattle.rules.proofs.Sound.{run-refused, run-full, run-more}
 use Rattle.rules.proofs.Back.{Accepted}
 use Rattle.rules.proofs.House.{accepted-good}
-use Rattle.rules.proofs.Trace.{TracedHeader, header-traced}
+use Rattle.rules.proofs.Trace.{header-traced}
 use Rattle.rules.proofs.Shows.{words-count}
 use Rattle.records.specs.Formats.{versionOf}
 use Rattle.records.specs.Refusals.{number}
@@ -35,7 +33,6 @@ use Rattle.records.specs.declared.refusal.Refusal.{Refusal}
 use Rattle.records.specs.declared.refusal.Refusal.the-variants as refusal
 use Rattle.records.proofs.Refusals.{number-suc}
 use Rattle.records.specs.declared.file_format.FileFormat.{FileFormat}
-use Rattle.header.specs.declared.parser.Outcome.{Outcome}
 use Rattle.header.specs.declared.parser.Outcome.the-variants as outcome
 use Rattle.header.specs.declared.parser.ReadAnswer.{ReadAnswer}
 use Rattle.header.specs.Parsers.{Told, outcomeNumber, outcomeSays, told, acceptedIn, tells}

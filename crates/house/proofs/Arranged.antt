@@ -1,13 +1,12 @@
 -- The form's lines, as the words of an accepted header's entries tell them, are those of the rules. Assumes nothing.
-use Prim.Native.Nat.{ℕ, _+_, _≤_}
+use Prim.Native.Nat.{ℕ, _≤_}
 use native.Mathlib.Omega.{arith}
-use mathlib.Core.Path.{_≡_, refl, sym, ap, ap₂, subst, _∙_}
-use mathlib.Core.Bool.{Bool, true, false, not, _||_, _&&_, false≢true, true≢false}
-use mathlib.Core.List.{List, [], _∷_, _++_, map, append-assoc, append-nil}
+use mathlib.Core.Path.{_≡_, refl, sym, ap, ap₂, _∙_}
+use mathlib.Core.Bool.{Bool, true, false, not, _||_, false≢true}
+use mathlib.Core.List.{List, [], _∷_, _++_, map, append-assoc}
 use mathlib.Core.Option.{Option}
-use lib.Dec.{eqb}
 use lib.ListN.{length}
-use Rattle.values.specs.Bytes.{Bytes, ascii, is, any, same}
+use Rattle.values.specs.Bytes.{Bytes, is, any, same}
 use Rattle.values.proofs.Tests.{pass, fail, test, or-l, or-r, both}
 use Rattle.values.proofs.Sames.{same-sound, same-sym}
 use Rattle.rules.specs.Sizes.{limits}
@@ -29,7 +28,7 @@ use Rattle.rules.proofs.Tidy.{tidied}
 use Rattle.rules.proofs.Trace.{TracedHeader}
 use Rattle.ids.specs.Clashes.{lineIn, prefixOf}
 use Rattle.forms.specs.Lines.{lineOf}
-use Rattle.house.specs.Keys.{isRecord, isUnder, picked, AllReadable, linesUnder, prefixIn, seenUnder, isFirst, given, otherLines}
+use Rattle.house.specs.Keys.{isUnder, picked, AllReadable, linesUnder, prefixIn, seenUnder, isFirst, given, otherLines}
 use Rattle.house.specs.Forms.{columnWord, recordLines, formLines}
 use Rattle.house.proofs.Picks.{picked-yes, picked-no}
 use Rattle.house.proofs.Entries.{placed, Aside, RowIs, Are, rows-are, format-aside, columns-aside}

@@ -2,13 +2,12 @@
 use Prim.Native.Nat.{ℕ, suc, _+_, _-_, _^_, _≤_, _<_}
 use native.Mathlib.Omega.{arith}
 use mathlib.Core.Path.{_≡_, refl, sym, ap, _∙_}
-use mathlib.Core.Bool.{Bool, true, false, not, _||_, _&&_}
-use mathlib.Core.List.{List, [], _∷_, _++_, append-assoc}
+use mathlib.Core.Bool.{Bool, true, false, not, _&&_}
+use mathlib.Core.List.{List, [], _∷_, _++_}
 use lib.Dec.{eqb, ltb}
-use lib.ListN.{length, take, drop, length-append}
+use lib.ListN.{length, take, length-append}
 use borrow.Author.Tests.{lt-ltb, le-ltb, ne-eqb, ltb-true, ltb-false}
-use Rattle.values.specs.Bytes.{Bytes, ascii, is, any, before, same, starts}
-use Rattle.values.specs.Field.{Field}
+use Rattle.values.specs.Bytes.{Bytes, ascii, is, any, before, same}
 use Rattle.values.proofs.Tests.{pass, fail, test, or-l, and-off}
 use Rattle.values.proofs.Lists.{before-stop}
 use Rattle.rules.specs.Answer.{ok}
@@ -18,13 +17,13 @@ use Rattle.rules.specs.Known.{kindOf, isTyped}
 use Rattle.rules.specs.Record.{Record, fileformat, fields, text, readRecord}
 use Rattle.rules.specs.Columns.{Columns}
 use Rattle.rules.specs.Entry.{Entry, place, kindNumber, recordEntry, tabbed, samplesStart, sampleEntries, columnEntries}
-use Rattle.rules.specs.Shown.{kindIn, startIn, lengthIn}
+use Rattle.rules.specs.Shown.{kindIn}
 use Rattle.rules.specs.Reading.{keyOf}
 use Rattle.rules.specs.House.{writeFields, writeRecord, parted, writeColumns}
 use Rattle.rules.proofs.Firsts.{on-ok}
 use Rattle.rules.proofs.Alls.{All}
 use Rattle.rules.proofs.Records.{Entered}
-use Rattle.rules.proofs.Samples.{GoodColumns, columnsOf, columns-in}
+use Rattle.rules.proofs.Samples.{GoodColumns}
 use Rattle.rules.proofs.Texts.{LineOf, record-in}
 use Rattle.rules.proofs.Trace.{LineAt, Row, Rows}
 use Rattle.rules.proofs.Shows.{place-kind, place-start, place-length}

@@ -1,16 +1,15 @@
 -- The whole form, and what becomes of it. Assumes nothing.
-use Prim.Native.Nat.{ℕ, zero, suc, _+_, _-_, _≤_, _<_}
+use Prim.Native.Nat.{ℕ, zero, suc, _+_, _≤_, _<_}
 use native.Mathlib.Omega.{arith}
-use mathlib.Core.Path.{_≡_, refl, sym, ap, subst, _∙_}
-use mathlib.Core.Bool.{Bool, true, false}
-use mathlib.Core.List.{List, [], _∷_, _++_}
-use mathlib.Core.Option.{Option, none, some}
-use lib.Dec.{eqb, leb}
+use mathlib.Core.Path.{_≡_, refl, sym, ap, _∙_}
+use mathlib.Core.Bool.{true}
+use mathlib.Core.List.{List, [], _∷_}
+use mathlib.Core.Option.{none, some}
+use lib.Dec.{leb}
 use lib.ListN.{length, getD, drop}
 use borrow.Author.Tests.{eq-eqb, ne-eqb, le-leb, lt-leb}
 use Rattle.values.specs.Bytes.{Bytes}
-use Rattle.values.specs.Written.{last, onward}
-use Rattle.values.proofs.Lists.{none-not}
+use Rattle.values.specs.Written.{onward}
 use Rattle.rules.specs.Sizes.{limits}
 use Rattle.rules.specs.Lines.{writeLines}
 use Rattle.rules.specs.Version.{Version}
@@ -21,11 +20,10 @@ use Rattle.rules.specs.House.{writeRecord, tooLong}
 use Rattle.ids.specs.Clashes.{lineIn}
 use Rattle.ids.proofs.Seen.{pair, Short, none as all-read, one, short}
 use Rattle.house.specs.declared.lines.Progress.{Progress}
-use Rattle.house.specs.declared.form.FormOutcome.{FormOutcome}
 use Rattle.house.specs.declared.form.FormOutcome.the-variants.{Whole, TooLong, LineTooLong, NoRoom}
 use Rattle.house.specs.Writes.{longIn, WroteLines}
 use Rattle.house.specs.Keys.{AllReadable, PutsKeys, PutsOthers}
-use Rattle.house.specs.Forms.{columnWord, recordLines, formLines, begun, PutsRecords, PutsForm, outcomeOf, writtenOf, fittedAs, linedAs, WritesForm}
+use Rattle.house.specs.Forms.{columnWord, recordLines, formLines, begun, PutsRecords, PutsForm, outcomeOf, fittedAs, linedAs, WritesForm}
 use Rattle.house.proofs.Writes.{lines-count, then-lines}
 
 -- The scan for the column line: no entry before the word k is one

@@ -2,7 +2,6 @@
 use Prim.Native.Nat.{ℕ, zero, suc, _≤_}
 use native.Mathlib.Omega.{arith}
 use mathlib.Core.Path.{_≡_, refl, sym, ap, subst, _∙_}
-use mathlib.Core.Bool.{Bool, true, false}
 use mathlib.Core.List.{List}
 use mathlib.Core.Option.{Option, none, some}
 use mathlib.Core.Logic.{_↔_, _⊎_, ⊎-elim}
@@ -20,7 +19,7 @@ use Rattle.rules.specs.Columns.{Columns}
 use Rattle.rules.specs.Entry.{words}
 use Rattle.rules.specs.Reading.{State, empty, ready, done, Reading, reading}
 use Rattle.rules.specs.Meaning.{Meaning, meaning}
-use Rattle.rules.specs.House.{houseLines, houseForm, HouseReading, tooLong, refusedForm, fitted, lined, formOf, houseOf, house}
+use Rattle.rules.specs.House.{houseLines, houseForm, HouseReading, tooLong, fitted, lined, formOf, houseOf, house}
 use Rattle.rules.proofs.Versions.{SizedOption}
 use Rattle.rules.proofs.Back.{Accepted}
 use Rattle.rules.proofs.House.{Fits, house-reads-back, house-canonical}

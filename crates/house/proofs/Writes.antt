@@ -2,12 +2,12 @@
 use Prim.Native.Nat.{ℕ, zero, suc, _+_, _-_, _≤_, _<_, min}
 use native.Mathlib.Omega.{arith}
 use mathlib.Core.Path.{_≡_, refl, sym, ap, subst, _∙_}
-use mathlib.Core.Bool.{Bool, true, false, _&&_}
+use mathlib.Core.Bool.{Bool, true, false}
 use mathlib.Core.List.{List, [], _∷_, _++_, append-assoc, append-nil}
 use mathlib.Core.Option.{Option, none, some}
-use lib.Dec.{eqb, ltb, leb}
+use lib.Dec.{eqb, leb}
 use lib.ListN.{length, length-append}
-use borrow.Author.Tests.{eq-eqb, ne-eqb, lt-ltb, le-ltb, le-leb, lt-leb, leb-true, leb-false}
+use borrow.Author.Tests.{eq-eqb, ne-eqb, lt-ltb, le-ltb, leb-true, leb-false}
 use Rattle.values.specs.Bytes.{Bytes, ascii, is, any}
 use Rattle.values.specs.Integer.{decimal}
 use Rattle.values.specs.Written.{last, onward, Wrote}
@@ -15,17 +15,16 @@ use Rattle.values.proofs.Tests.{pass, fail, test, or-l, or-r, and-off}
 use Rattle.values.proofs.Lists.{any-append}
 use Rattle.values.proofs.Decimals.{decimal-lacks}
 use Rattle.values.proofs.Outputs.{wrote-nothing, then}
-use Rattle.rules.specs.Answer.{ok}
 use Rattle.rules.specs.Sizes.{limits}
 use Rattle.rules.specs.Version.{Version, writeVersion}
 use Rattle.rules.specs.Lines.{ends, writeLine, writeLines}
-use Rattle.rules.specs.Record.{Record, fileformat, readRecord}
+use Rattle.rules.specs.Record.{fileformat, readRecord}
 use Rattle.rules.specs.House.{writeRecord, tooLong}
 use Rattle.forms.specs.Lines.{lineOf, ending, PutsLine}
 use Rattle.forms.proofs.Lines.{line-ended}
 use Rattle.forms.specs.declared.line.LineWritten.{LineWritten}
 use Rattle.house.specs.declared.lines.Progress.{Progress}
-use Rattle.house.specs.Writes.{longIn, isLong, noted, orElse, WroteLines, houseLine, Readable, PutsEntry}
+use Rattle.house.specs.Writes.{longIn, isLong, noted, orElse, WroteLines, houseLine, PutsEntry}
 
 -- what answers the needs of `count_line`
 pub count-more : (n : ℕ) → n < 18446744073709551615 → n + 1 ≡ onward n 1
@@ -64,14 +63,6 @@ module _ (s : Progress) (end next : ℕ) where
 pub ruleset notes = (note-long, note-short, note-back, note-later)
 
 -- The first line that is too long
-
-short-line : (limit n start : ℕ) (l : Bytes) (ls : List Bytes) → length l ≤ limit → tooLong limit n start (l ∷ ls) ≡ tooLong limit (suc n) (start + length (writeLine l)) ls
-unfolding tooLong
-short-line limit n start l ls h = rw (tooLong, le-leb (length l) limit h)
-
-long-line : (limit n start : ℕ) (l : Bytes) (ls : List Bytes) → limit < length l → tooLong limit n start (l ∷ ls) ≡ some (suc n, start)
-unfolding tooLong
-long-line limit n start l ls h = rw (tooLong, lt-leb (length l) limit h)
 
 too-long-append : (limit n start : ℕ) (ls ms : List Bytes)
     → tooLong limit n start (ls ++ ms) ≡ orElse (tooLong limit n start ls) (tooLong limit (n + length ls) (start + length (writeLines ls)) ms)

@@ -1,9 +1,9 @@
 -- The Number and Type that a reserved ID asks for. Assumes nothing.
 use Prim.Native.Nat.{ℕ}
 use native.Mathlib.Omega.{arith}
-use mathlib.Core.Path.{_≡_, refl, sym, ap, ap₂, subst, _∙_}
+use mathlib.Core.Path.{_≡_, refl, sym, ap, ap₂, _∙_}
 use mathlib.Core.Bool.{Bool, true, false, not, _&&_, false≢true}
-use mathlib.Core.List.{List, [], _∷_}
+use mathlib.Core.List.{List}
 use mathlib.Core.Option.{Option, none, some}
 use lib.Dec.{eqb}
 use borrow.Author.Tests.{eqb-true, eq-eqb, ne-eqb, eqb-false}
@@ -13,20 +13,20 @@ use Rattle.values.specs.Value.{meaning}
 use Rattle.values.specs.declared.integer.IntegerRead.{IntegerRead}
 use Rattle.values.specs.declared.integer.IntegerRead.the-variants as integer
 use Rattle.values.specs.declared.string.Text.{Text}
-use Rattle.values.proofs.Tests.{Test, pass, fail, test, not-true, not-false}
+use Rattle.values.proofs.Tests.{pass, fail, test, not-true, not-false}
 use Rattle.values.proofs.Lists.{some-is}
 use Rattle.values.proofs.Sames.{same-sound}
 use Rattle.rules.specs.Answer.{unless}
-use Rattle.rules.specs.Version.{Version, v4-3, since, earlier}
+use Rattle.rules.specs.Version.{Version, v4-3, earlier}
 use Rattle.rules.specs.Known.{Kind, isIn, kindOf, letters, numberOr, letterIn, readNumber}
 use Rattle.rules.specs.Known.{count, letter}
 use Rattle.rules.specs.Known.{Number as Asked}
 use Rattle.rules.specs.Reserved.{Row, tableOf, lookRow, reserved, isNumber, declares}
 use Rattle.rules.specs.Map.{valueNamed, misdeclared}
-use Rattle.records.specs.Keys.{bytesOf, Named}
+use Rattle.records.specs.Keys.{bytesOf}
 use Rattle.records.specs.Numbers.{isInteger, isNumberOf, typeName}
 use Rattle.records.specs.Definitions.{asked, definitionMeans, outline, infoList, formatList}
-use Rattle.records.specs.Maps.{textIn, Typed, Declared}
+use Rattle.records.specs.Maps.{textIn, Declared}
 use Rattle.records.specs.Records.{fits}
 use Rattle.records.specs.declared.key.Key.{Key}
 use Rattle.records.specs.declared.key.Key.the-variants as key

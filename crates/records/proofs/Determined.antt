@@ -1,26 +1,25 @@
 -- The promises of this crate leave one answer. Assumes nothing.
 use Prim.Native.Nat.{ℕ}
 use native.Mathlib.Omega.{arith}
-use mathlib.Core.Path.{_≡_, refl, sym, ap, ap₂, subst, _∙_}
+use mathlib.Core.Path.{_≡_, refl, sym, ap, _∙_}
 use mathlib.Core.Bool.{Bool, true, false}
-use mathlib.Core.List.{List, [], _∷_}
+use mathlib.Core.List.{List}
 use Rattle.values.specs.Bytes.{Bytes, ascii, same}
 use Rattle.values.specs.Field.{Field}
 use Rattle.values.specs.declared.string.Text.{Text}
 use Rattle.rules.specs.Answer.{Answer, ok, refuse}
 use Rattle.rules.specs.Version.{Version}
 use Rattle.rules.specs.Known.{Kind, INFO, FILTER, FORMAT, ALT, contig, other, kindOf}
-use Rattle.rules.specs.Record.{Record, fileformat, fields, text}
+use Rattle.rules.specs.Record.{fileformat, fields, text}
 use Rattle.rules.specs.Entry.{fieldsStart, textNamed}
-use Rattle.records.specs.Formats.{versionOf, formatOf}
+use Rattle.records.specs.Formats.{formatOf}
 use Rattle.records.specs.Keys.{bytesOf, Named}
 use Rattle.records.specs.Maps.{slotted}
-use Rattle.records.specs.Records.{keyIn, valueStart, RecordIs, RecordAre}
+use Rattle.records.specs.Records.{keyIn, RecordIs, RecordAre}
 use Rattle.records.specs.declared.file_format.FileFormat.{FileFormat}
 use Rattle.records.specs.declared.key.Key.{Key}
 use Rattle.records.specs.declared.key.Key.the-variants as key
 use Rattle.records.specs.declared.map.Slot.the-variants as slot
-use Rattle.records.specs.declared.refusal.Refusal.{Refusal}
 use Rattle.records.specs.declared.record.RecordRead.{RecordRead}
 use Rattle.records.specs.declared.record.RecordRead.the-variants as read
 use Rattle.records.proofs.Refusals.{number-injective}

@@ -1,13 +1,12 @@
 -- A record: its key, and its value by the key. Assumes nothing.
-use Prim.Native.Nat.{ℕ, zero, suc, _+_, _-_, _≤_, _<_}
+use Prim.Native.Nat.{ℕ, _+_, _-_, _≤_, _<_}
 use native.Mathlib.Omega.{arith}
 use mathlib.Core.Path.{_≡_, refl, sym, ap, ap₂, subst, _∙_}
 use mathlib.Core.Bool.{Bool, true, false, not, _||_, _&&_, false≢true}
 use mathlib.Core.List.{List, [], _∷_, tail}
 use mathlib.Core.Option.{Option, none, some}
-use lib.Dec.{eqb}
 use lib.ListN.{length, take, drop, drop-of-length-le}
-use Rattle.values.specs.Bytes.{Bytes, ascii, is, empty, begins, before, from, same, starts}
+use Rattle.values.specs.Bytes.{Bytes, ascii, is, empty, begins, from, same, starts}
 use Rattle.values.specs.Field.{Field}
 use Rattle.values.specs.declared.cursor.Cursor.{Cursor}
 use Rattle.values.specs.declared.string.Text.{Text}
@@ -17,21 +16,19 @@ use Rattle.values.proofs.Fields.{text-here}
 use Rattle.rules.specs.Answer.{Answer, ok, refuse, _>>=_, unless, judged}
 use Rattle.rules.specs.Version.{Version, readVersion}
 use Rattle.rules.specs.Known.{isTyped, alwaysMap}
-use Rattle.rules.specs.Map.{misdeclared, readMap}
+use Rattle.rules.specs.Map.{readMap}
 use Rattle.rules.specs.Entry.{fieldsStart, textNamed}
-use Rattle.rules.specs.Record.{Record, fileformat, fields, text, looksMap, isMap, formatOf, readValue, readKeyed, readRecord}
+use Rattle.rules.specs.Record.{fileformat, fields, text, looksMap, isMap, formatOf, readValue, readKeyed, readRecord}
 use Rattle.records.specs.Formats.{versionOf, formatRead}
-use Rattle.records.specs.Refusals.{number}
-use Rattle.records.specs.Keys.{bytesOf, keyNamed, keyKind, Named}
+use Rattle.records.specs.Keys.{bytesOf, keyNamed, Named}
 use Rattle.records.specs.Maps.{slotted, MapIs, MapAre, TypedIs, TypedAre, Typed, Declared}
-use Rattle.records.specs.Records.{ValueIs, ValueAre, keyIn, valueStart, KeyedIs, RecordIs, RecordAre}
+use Rattle.records.specs.Records.{ValueIs, ValueAre, keyIn, KeyedIs, RecordAre}
 use Rattle.records.specs.declared.file_format.FileFormat.{FileFormat}
 use Rattle.records.specs.declared.file_format.FileFormatRead.{FileFormatRead}
 use Rattle.records.specs.declared.file_format.FileFormatRead.the-variants as version
 use Rattle.records.specs.declared.key.Key.{Key}
 use Rattle.records.specs.declared.refusal.Refusal.{Refusal}
 use Rattle.records.specs.declared.refusal.Refusal.the-variants.{InvalidRecord, InvalidFileFormat, DefinitionMismatch}
-use Rattle.records.specs.declared.map.Slot.the-variants as slot
 use Rattle.records.specs.declared.map.MapRead.{MapRead}
 use Rattle.records.specs.declared.map.MapRead.the-variants as maps
 use Rattle.records.specs.declared.map.TypedRead.{TypedRead}
@@ -40,7 +37,6 @@ use Rattle.records.specs.declared.value.ValueParsed.{ValueParsed}
 use Rattle.records.specs.declared.value.ValueParsed.the-variants as value
 use Rattle.records.specs.declared.record.KeyParsed.{KeyParsed}
 use Rattle.records.specs.declared.record.KeyParsed.the-variants as key
-use Rattle.records.specs.declared.record.RecordRead.{RecordRead}
 use Rattle.records.specs.declared.record.RecordRead.the-variants as read
 use Rattle.records.proofs.Keys.{named}
 

@@ -1,7 +1,7 @@
 -- Maps by what their kind requires. Assumes nothing.
-use Prim.Native.Nat.{ℕ, zero, suc, _+_, _-_, _^_, _≤_, _<_}
+use Prim.Native.Nat.{ℕ, zero, suc, _+_, _-_, _^_, _≤_}
 use native.Mathlib.Omega.{arith}
-use mathlib.Core.Path.{_≡_, refl, sym, ap, ap₂, subst, _∙_}
+use mathlib.Core.Path.{_≡_, refl, sym, ap, subst, _∙_}
 use mathlib.Core.Bool.{Bool, true, false, not, _||_, _&&_, false≢true}
 use mathlib.Core.List.{List, [], _∷_, _++_, map, tail}
 use mathlib.Core.Option.{Option, none, some}
@@ -9,24 +9,22 @@ use lib.ListN.{length, drop}
 use lib.Seq.{drop-drop}
 use Rattle.values.specs.Bytes.{Bytes, ascii, empty, begins, same}
 use Rattle.values.specs.Field.{Field, writtenField, readField}
-use Rattle.values.specs.Places.{to}
 use Rattle.values.specs.declared.cursor.Cursor.{Cursor}
 use Rattle.values.specs.declared.string.Text.{Text}
-use Rattle.values.proofs.Tests.{Test, pass, fail, test}
-use Rattle.rules.specs.Answer.{Answer, ok, refuse, unless, first, judged}
+use Rattle.values.proofs.Tests.{pass, fail, test}
+use Rattle.rules.specs.Answer.{refuse, unless, first, judged}
 use Rattle.rules.specs.Version.{Version, v4-3, since}
-use Rattle.rules.specs.Known.{kindOf, nameOf, required, alwaysMap, readNumber}
-use Rattle.rules.specs.Reserved.{tableOf, lookRow, reserved, declares}
-use Rattle.rules.specs.Map.{Scan, after, scan, readFields, isMeta, checkFields, isSome, fieldNamed, valueNamed, missing, misdeclared, mapRefusal, readMap}
+use Rattle.rules.specs.Known.{kindOf, nameOf, required, alwaysMap}
+use Rattle.rules.specs.Reserved.{tableOf, lookRow, reserved}
+use Rattle.rules.specs.Map.{Scan, after, scan, readFields, isMeta, checkFields, isSome, fieldNamed, missing, misdeclared, mapRefusal, readMap}
 use Rattle.rules.specs.Entry.{textNamed}
 use Rattle.rules.specs.House.{writeFields}
 use Rattle.rules.proofs.Alls.{All}
-use Rattle.rules.proofs.Fields.{SeenAfter, was-more, was-done, was-wrong, see-after, SeenField, no-field, a-field, see-field}
+use Rattle.rules.proofs.Fields.{was-more, was-done, was-wrong, see-after, no-field, a-field, see-field}
 use Rattle.rules.proofs.Texts.{fields-in}
 use Rattle.rules.proofs.Shows.{AnyAt}
 use Rattle.values.proofs.Lists.{on-some}
 use Rattle.values.proofs.Raws.{Raw, field-raw}
-use Rattle.records.specs.Refusals.{number}
 use Rattle.records.specs.Keys.{bytesOf, Named}
 use Rattle.records.specs.Tags.{knownBy, isKept, knows, tagName}
 use Rattle.records.specs.Maps.{get, slotted, opened, opensAt, Held, scanRefusal, ScanIs, FieldsAre, OpenIs, OpenAre, MapIs, MapAre, Identified, Described}
@@ -34,7 +32,7 @@ use Rattle.records.specs.declared.key.Key.{Key}
 use Rattle.records.specs.declared.refusal.Refusal.{Refusal}
 use Rattle.records.specs.declared.refusal.Refusal.the-variants.{InvalidMap, MissingId, MissingDescription}
 use Rattle.records.specs.declared.tag.Tag.{Tag}
-use Rattle.records.specs.declared.tag.Tag.the-variants.{Id, Number, ValueType, Description}
+use Rattle.records.specs.declared.tag.Tag.the-variants.{Id, Description}
 use Rattle.records.specs.declared.map.Slot.{Slot}
 use Rattle.records.specs.declared.map.Slot.the-variants as slot
 use Rattle.records.specs.declared.map.Slots.{Slots}

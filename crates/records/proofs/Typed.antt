@@ -1,43 +1,40 @@
 -- INFO and FORMAT maps, whose ID, Number, Type and Description are required; and the closed facts of the other kinds. Assumes nothing.
-use Prim.Native.Nat.{ℕ, zero, suc, _+_, _-_, _^_}
+use Prim.Native.Nat.{ℕ, _+_}
 use native.Mathlib.Omega.{arith}
-use mathlib.Core.Path.{_≡_, refl, sym, ap, ap₂, subst, _∙_}
+use mathlib.Core.Path.{_≡_, refl, sym, ap, subst, _∙_}
 use mathlib.Core.Bool.{Bool, true, false}
-use mathlib.Core.List.{List, [], _∷_, _++_, map}
+use mathlib.Core.List.{List, [], _∷_, map}
 use mathlib.Core.Option.{Option, none, some}
-use lib.ListN.{length, drop}
 use Rattle.values.specs.Bytes.{Bytes, ascii, same}
 use Rattle.values.specs.Integer.{u64Read}
-use Rattle.values.specs.Value.{Value, textOf, meaning, meaningOf}
+use Rattle.values.specs.Value.{textOf}
 use Rattle.values.specs.Field.{Field}
 use Rattle.values.specs.declared.cursor.Cursor.{Cursor}
 use Rattle.values.specs.declared.string.Text.{Text}
-use Rattle.values.proofs.Tests.{Test, pass, fail, test}
+use Rattle.values.proofs.Tests.{pass, fail, test}
 use Rattle.values.proofs.Lists.{OnSome}
 use Rattle.values.proofs.Fields.{part}
-use Rattle.values.proofs.Places.{valueBy, valueIn}
+use Rattle.values.proofs.Places.{valueBy}
 use Rattle.rules.specs.Answer.{first}
 use Rattle.rules.specs.Version.{Version}
-use Rattle.rules.specs.Known.{isIn, kindOf, nameOf, required}
+use Rattle.rules.specs.Known.{kindOf, nameOf, required}
 use Rattle.rules.specs.Map.{isSome, fieldNamed, valueOf, valueNamed, missing}
 use Rattle.rules.specs.Entry.{textNamed}
 use Rattle.rules.proofs.Alls.{All}
-use Rattle.rules.proofs.Shows.{TextIn, Both, named-text, value-means}
+use Rattle.rules.proofs.Shows.{Both, named-text, value-means}
 use Rattle.records.specs.Keys.{bytesOf, Named}
 use Rattle.records.specs.Tags.{knownBy, isKept, knows, tagName}
-use Rattle.records.specs.Maps.{get, slotted, OpenIs, OpenAre, textIn, meaningIn, Typed, TypedIs, TypedAre, Identified, Described, MapAre}
+use Rattle.records.specs.Maps.{get, slotted, OpenIs, OpenAre, textIn, meaningIn, Typed, TypedAre, Identified, Described}
 use Rattle.records.specs.declared.key.Key.{Key}
 use Rattle.records.specs.declared.key.Key.the-variants as key
 use Rattle.records.specs.declared.refusal.Refusal.{Refusal}
 use Rattle.records.specs.declared.refusal.Refusal.the-variants.{MissingId, MissingNumber, MissingType, MissingDescription}
 use Rattle.records.specs.declared.tag.Tag.{Tag}
 use Rattle.records.specs.declared.tag.Tag.the-variants.{Id, Number, ValueType, Description}
-use Rattle.records.specs.declared.map.Slot.{Slot}
 use Rattle.records.specs.declared.map.Slot.the-variants as slot
 use Rattle.records.specs.declared.map.Slots.{Slots}
 use Rattle.records.specs.declared.map.FieldsRead.{FieldsRead}
 use Rattle.records.specs.declared.map.FieldsRead.the-variants as fields
-use Rattle.records.specs.declared.map.MapRead.{MapRead}
 use Rattle.records.specs.declared.map.TypedRead.the-variants as typed
 use Rattle.records.proofs.Required.{RawField, asks, asked-first, asked-later, Fielded, fielded, holds, has, lacks, whole, asks-of}
 

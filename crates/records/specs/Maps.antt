@@ -1,8 +1,8 @@
 -- A map as the code reads it: one field after the other, with the texts that are kept. Assumes nothing.
-use Prim.Native.Nat.{ℕ, suc, _+_, _-_, _≤_, _<_}
+use Prim.Native.Nat.{ℕ, _+_, _-_, _≤_, _<_}
 use mathlib.Core.Path.{_≡_}
 use mathlib.Core.Bool.{Bool, true, false, not, _||_, _&&_}
-use mathlib.Core.List.{List, [], _∷_, _++_, map, tail}
+use mathlib.Core.List.{List, [], _∷_, _++_, map}
 use mathlib.Core.Option.{Option, none, some}
 use lib.ListN.{length, take, drop}
 use Rattle.values.specs.Bytes.{Bytes, ascii, is, empty, begins}
@@ -11,11 +11,11 @@ use Rattle.values.specs.Integer.{u64Read}
 use Rattle.values.specs.Field.{Field, writtenField, readField}
 use Rattle.values.specs.Places.{to}
 use Rattle.values.specs.declared.string.Text.{Text}
-use Rattle.rules.specs.Answer.{Answer, ok, refuse, unless, first, judged}
+use Rattle.rules.specs.Answer.{ok, refuse, unless, first, judged}
 use Rattle.rules.specs.Version.{Version, v4-5, since}
 use Rattle.rules.specs.Known.{isIn, kindOf, required, nameOf, tagOf, alwaysMap}
 use Rattle.rules.specs.Reserved.{tableOf}
-use Rattle.rules.specs.Map.{After, more, done, wrong, after, Scan, scan, readFields, isMeta, checkFields, isValue, valueNamed, misdeclared, readMap}
+use Rattle.rules.specs.Map.{After, more, done, wrong, after, Scan, scan, readFields, isMeta, checkFields, valueNamed, misdeclared, readMap}
 use Rattle.rules.specs.Entry.{textNamed}
 use Rattle.records.specs.Refusals.{number}
 use Rattle.records.specs.Keys.{bytesOf, Named}

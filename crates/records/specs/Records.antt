@@ -1,16 +1,16 @@
 -- A record as the code reads it: what its value is, and where its ID stands. Assumes nothing.
 use Prim.Native.Nat.{ℕ, _+_}
 use mathlib.Core.Path.{_≡_}
-use mathlib.Core.Bool.{Bool, true, false, _&&_}
-use mathlib.Core.List.{List, [], _∷_}
+use mathlib.Core.Bool.{Bool, true, _&&_}
+use mathlib.Core.List.{List}
 use lib.ListN.{length, drop}
 use Rattle.values.specs.Bytes.{Bytes, ascii, is, before, same}
 use Rattle.values.specs.Value.{meaning}
 use Rattle.values.specs.Field.{Field}
-use Rattle.rules.specs.Answer.{Answer, ok, refuse}
+use Rattle.rules.specs.Answer.{ok, refuse}
 use Rattle.rules.specs.Version.{Version}
 use Rattle.rules.specs.Entry.{fieldsStart, textNamed}
-use Rattle.rules.specs.Record.{Record, fileformat, fields, text, readValue, readKeyed, readRecord}
+use Rattle.rules.specs.Record.{fileformat, fields, text, readValue, readRecord}
 use Rattle.records.specs.Formats.{versionOf}
 use Rattle.records.specs.Refusals.{number}
 use Rattle.records.specs.Keys.{Named}

@@ -1,6 +1,6 @@
 // A header view: the lent bytes and the number of the next entry. Each step hands the view back with what it shows.
-use entries::shown::Shown;
 use header::shown;
+use header::shown::Shown;
 ghost use mathlib.Core.Path.{_≡_};
 ghost use lib.ListN.{length};
 ghost use Rattle.view.specs.Steps.{stepAt, movedTo, shownFrom};

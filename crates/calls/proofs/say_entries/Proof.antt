@@ -1,6 +1,5 @@
 use Prim.Native.Nat.{_-_, _+_, _≤_}
 use lib.ListN.{length}
-use mathlib.Core.Path.{_≡_}
 use borrow.Author.Needs.{needs}
 use Rattle.calls.proofs.say_entries.Statement.{statement}
 use Rattle.calls.proofs.say_entries.Tie as tie

@@ -1,6 +1,4 @@
-use Prim.Native.Nat.{_-_, _+_}
-use lib.ListN.{length}
-use mathlib.Core.Path.{_≡_}
+use Prim.Native.Nat.{_-_}
 use borrow.Author.Needs.{needs}
 use Rattle.calls.proofs.say_fields.Statement.{statement}
 use Rattle.calls.proofs.say_fields.Tie as tie

@@ -28,15 +28,7 @@ pub struct Part {
 
 extern "C" {
     fn vcfh_utf8(bytes: *const u8, length: usize) -> u64;
-    fn vcfh_read(
-        header: *const u8,
-        length: usize,
-        imposed: u64,
-        major: u32,
-        minor: u32,
-        table: *mut u64,
-        words: usize,
-    ) -> Answer;
+    fn vcfh_read(header: *const u8, length: usize, imposed: u64, major: u32, minor: u32, table: *mut u64, words: usize) -> Answer;
     fn vcfh_house(
         header: *const u8,
         length: usize,
@@ -50,16 +42,7 @@ extern "C" {
     ) -> Form;
     fn vcfh_entry(header: *const u8, length: usize, table: *const u64, words: usize, entry: u64) -> Part;
     fn vcfh_id(header: *const u8, length: usize, table: *const u64, words: usize, entry: u64) -> Part;
-    fn vcfh_field(
-        header: *const u8,
-        length: usize,
-        table: *const u64,
-        words: usize,
-        entry: u64,
-        major: u32,
-        minor: u32,
-        field: u64,
-    ) -> Part;
+    fn vcfh_field(header: *const u8, length: usize, table: *const u64, words: usize, entry: u64, major: u32, minor: u32, field: u64) -> Part;
 }
 
 pub fn utf8(bytes: &[u8]) -> bool {
@@ -79,19 +62,7 @@ pub fn read(header: &[u8], imposed: Option<Version>, table: &mut [u64]) -> Answe
 pub fn house(header: &[u8], imposed: Option<Version>, table: &mut [u64], out: &mut [u8]) -> Form {
     let (imposed, major, minor) = imposing(imposed);
     let (words, space) = (table.len(), out.len());
-    unsafe {
-        vcfh_house(
-            header.as_ptr(),
-            header.len(),
-            imposed,
-            major,
-            minor,
-            table.as_mut_ptr(),
-            words,
-            out.as_mut_ptr(),
-            space,
-        )
-    }
+    unsafe { vcfh_house(header.as_ptr(), header.len(), imposed, major, minor, table.as_mut_ptr(), words, out.as_mut_ptr(), space) }
 }
 
 pub fn entry(header: &[u8], table: &[u64], entry: u64) -> Part {
@@ -103,16 +74,5 @@ pub fn id(header: &[u8], table: &[u64], entry: u64) -> Part {
 }
 
 pub fn field(header: &[u8], table: &[u64], entry: u64, version: Version, field: u64) -> Part {
-    unsafe {
-        vcfh_field(
-            header.as_ptr(),
-            header.len(),
-            table.as_ptr(),
-            table.len(),
-            entry,
-            version.major,
-            version.minor,
-            field,
-        )
-    }
+    unsafe { vcfh_field(header.as_ptr(), header.len(), table.as_ptr(), table.len(), entry, version.major, version.minor, field) }
 }

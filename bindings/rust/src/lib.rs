@@ -42,18 +42,8 @@ pub enum Kind {
     Sample,
 }
 
-const KINDS: [Kind; 10] = [
-    Kind::FileFormat,
-    Kind::Info,
-    Kind::Filter,
-    Kind::Format,
-    Kind::Alt,
-    Kind::Contig,
-    Kind::OtherMap,
-    Kind::OtherText,
-    Kind::Columns,
-    Kind::Sample,
-];
+const KINDS: [Kind; 10] =
+    [Kind::FileFormat, Kind::Info, Kind::Filter, Kind::Format, Kind::Alt, Kind::Contig, Kind::OtherMap, Kind::OtherText, Kind::Columns, Kind::Sample];
 
 /// Why a header was refused, and where: the refusal's number, the line (from 1) and the byte at which it begins.
 #[derive(Clone, Copy, Debug, Eq, PartialEq)]

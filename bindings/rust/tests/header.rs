@@ -42,8 +42,7 @@ fn headers_of_one_meaning_have_one_house_form() {
 fn samples_follow_the_column_line() {
     let bytes = format!("##fileformat=VCFv4.3\n{COLUMNS}\tFORMAT\tNA1\t\tNA2");
     let header = Header::read(bytes.as_bytes(), None).unwrap();
-    let names: Vec<&[u8]> =
-        header.entries().filter(|entry| entry.kind() == Kind::Sample).map(|entry| entry.line()).collect();
+    let names: Vec<&[u8]> = header.entries().filter(|entry| entry.kind() == Kind::Sample).map(|entry| entry.line()).collect();
     assert_eq!(names, [&b"NA1"[..], b"", b"NA2"]);
 }
 

@@ -90,59 +90,70 @@ fn say_name_twice(l: &[u8]) {
     say(b"a sample name stands twice");
 }
 
-fn say_reason(refusal: Refusal, l: &[u8], version: FileFormat) {
-    match refusal {
-        Refusal::ExpectedEof => say(b"a line follows the column line"),
-        Refusal::LineTooLong => say(b"the line is longer than 65,535 bytes"),
-        Refusal::InvalidUtf8 => say(b"the line is not UTF-8"),
-        Refusal::MissingFileFormat => say(
-            b"the first line is a record, but not the fileformat line",
-        ),
-        Refusal::UnexpectedFileFormat => say(b"a fileformat line stands after the first line"),
-        Refusal::InvalidRecord => say(
-            b"the line does not begin with ##, has no =, or has nothing between them",
-        ),
-        Refusal::InvalidFileFormat => say(
-            b"the fileformat value is not VCFv, digits, a point and digits",
-        ),
-        Refusal::InvalidMap => say(
+// 1 to 9: a line that is no record, no map or no field.
+fn say_line(number: u64) {
+    match number {
+        1 => say(b"a line follows the column line"),
+        2 => say(b"the line is longer than 65,535 bytes"),
+        3 => say(b"the line is not UTF-8"),
+        4 => say(b"the first line is a record, but not the fileformat line"),
+        5 => say(b"a fileformat line stands after the first line"),
+        6 => say(b"the line does not begin with ##, has no =, or has nothing between them"),
+        7 => say(b"the fileformat value is not VCFv, digits, a point and digits"),
+        8 => say(
             b"the value is not a whole map: < or > is missing, or something else follows a value or the >",
         ),
-        Refusal::InvalidField => say(
+        _ => say(
             b"a field has a bad key or value, or is missing after a comma or in a META or PEDIGREE line",
         ),
-        Refusal::DuplicateTag => say(
-            b"a field key stands twice in the map, or the map names its ID twice",
-        ),
-        Refusal::InvalidNumber => say(
-            b"the Number is neither a count nor one of the letters allowed here",
-        ),
-        Refusal::InvalidType => say(b"the Type is not one of those allowed here"),
-        Refusal::InvalidInteger => say(
-            b"the IDX or length is not a number of at most 18446744073709551615",
-        ),
-        Refusal::MissingId => say_missing(l, b"ID"),
-        Refusal::MissingNumber => say_missing(l, b"Number"),
-        Refusal::MissingType => say_missing(l, b"Type"),
-        Refusal::MissingDescription => say_missing(l, b"Description"),
-        Refusal::DefinitionMismatch => say(
+    }
+}
+
+// 10 to 18: what the fields of a map say.
+fn say_map(number: u64, l: &[u8]) {
+    match number {
+        10 => say(b"a field key stands twice in the map, or the map names its ID twice"),
+        11 => say(b"the Number is neither a count nor one of the letters allowed here"),
+        12 => say(b"the Type is not one of those allowed here"),
+        13 => say(b"the IDX or length is not a number of at most 18446744073709551615"),
+        14 => say_missing(l, b"ID"),
+        15 => say_missing(l, b"Number"),
+        16 => say_missing(l, b"Type"),
+        17 => say_missing(l, b"Description"),
+        _ => say(
             b"a reserved ID is declared with a Number or Type that is not the specification's",
         ),
-        Refusal::DuplicateId => say_id_twice(l, version),
-        Refusal::MixedValues => say_around(
+    }
+}
+
+// 19 to 29: a line beside those before it, and the header as a whole.
+fn say_whole(number: u64, l: &[u8], version: FileFormat) {
+    match number {
+        19 => say_id_twice(l, version),
+        20 => say_around(
             b"the key ",
             key_of(l),
             b" has text in one line and a map in another",
         ),
-        Refusal::DuplicateOtherId => say_id_twice(l, version),
-        Refusal::InvalidHeader => say(b"a column is wrong or missing"),
-        Refusal::DuplicateSampleName => say_name_twice(l),
-        Refusal::TableFull => say(b"the table has no room for the line's entries"),
-        Refusal::Empty => say(b"there is no line at all"),
-        Refusal::MissingHeader => say(b"the column line is missing"),
-        Refusal::HeaderTooLong => say(b"the header is longer than 1,048,575 bytes"),
-        Refusal::FormTooLong => say(b"the house form is longer than the output"),
-        Refusal::InvalidEntry => say(b"there is no such entry, ID or field"),
+        21 => say_id_twice(l, version),
+        22 => say(b"a column is wrong or missing"),
+        23 => say_name_twice(l),
+        24 => say(b"the table has no room for the line's entries"),
+        25 => say(b"there is no line at all"),
+        26 => say(b"the column line is missing"),
+        27 => say(b"the header is longer than 1,048,575 bytes"),
+        28 => say(b"the house form is longer than the output"),
+        _ => say(b"there is no such entry, ID or field"),
+    }
+}
+
+fn say_reason(number: u64, l: &[u8], version: FileFormat) {
+    if number <= 9 {
+        say_line(number);
+    } else if number <= 18 {
+        say_map(number, l);
+    } else {
+        say_whole(number, l, version);
     }
 }
 
@@ -150,7 +161,7 @@ fn say_reason(refusal: Refusal, l: &[u8], version: FileFormat) {
 pub fn say_why(refusal: Refusal, header: &[u8], start: usize) {
     let found = line::next_line(header, start);
     say_reason(
-        refusal,
+        refusal.number(),
         bytes::part(header, start, found.end),
         version_of(header),
     );

@@ -1,7 +1,4 @@
-use Prim.Native.Nat.{_-_, _+_, _≤_}
-use lib.ListN.{length}
-use native.Mathlib.Omega.{arith}
-use mathlib.Core.Path.{_≡_}
+use Prim.Native.Nat.{_-_}
 use borrow.Author.Needs.{needs}
 use Rattle.vcfh.proofs.listing.say_entries.Statement.{statement}
 use Rattle.vcfh.proofs.listing.say_entries.Tie as tie

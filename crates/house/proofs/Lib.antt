@@ -6,3 +6,4 @@ pub mod Entries
 pub mod Arranged
 pub mod Answers
 pub mod Program
+pub mod Determined

@@ -19,7 +19,7 @@ use Rattle.rules.specs.Shown.{kindIn}
 use Rattle.rules.specs.House.{writeRecord, tooLong}
 use Rattle.ids.specs.Clashes.{lineIn}
 use Rattle.ids.proofs.Seen.{pair, Short, none as all-read, one, short}
-use Rattle.house.specs.declared.lines.Progress.{Progress}
+use Rattle.house.specs.declared.progress.Progress.{Progress}
 use Rattle.house.specs.declared.form.FormOutcome.the-variants.{Whole, TooLong, LineTooLong, NoRoom}
 use Rattle.house.specs.Writes.{longIn, WroteLines}
 use Rattle.house.specs.Keys.{AllReadable, PutsKeys, PutsOthers}

@@ -15,7 +15,7 @@ use Rattle.rules.specs.Version.{Version}
 use Rattle.rules.specs.Shown.{kindIn}
 use Rattle.ids.specs.Clashes.{lineIn}
 use Rattle.ids.proofs.Seen.{pair, Short, none, one, short}
-use Rattle.house.specs.declared.lines.Progress.{Progress}
+use Rattle.house.specs.declared.progress.Progress.{Progress}
 use Rattle.house.specs.Writes.{WroteLines}
 use Rattle.house.specs.Keys.{isUnder, picked, AllReadable, PutsKey, prefixIn, seenUnder, isFirst, given, otherLines, PutsOthers}
 use Rattle.house.proofs.Writes.{wrote-no-lines, then-lines}

@@ -23,7 +23,7 @@ use Rattle.rules.specs.House.{writeRecord, tooLong}
 use Rattle.forms.specs.Lines.{lineOf, ending, PutsLine}
 use Rattle.forms.proofs.Lines.{line-ended}
 use Rattle.forms.specs.declared.line.LineWritten.{LineWritten}
-use Rattle.house.specs.declared.lines.Progress.{Progress}
+use Rattle.house.specs.declared.progress.Progress.{Progress}
 use Rattle.house.specs.Writes.{longIn, isLong, noted, orElse, WroteLines, houseLine, PutsEntry}
 
 -- what answers the needs of `count_line`

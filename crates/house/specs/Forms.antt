@@ -16,7 +16,7 @@ use Rattle.rules.specs.Record.{fileformat}
 use Rattle.rules.specs.Shown.{kindIn}
 use Rattle.rules.specs.House.{writeRecord, tooLong}
 use Rattle.ids.specs.Clashes.{lineIn}
-use Rattle.house.specs.declared.lines.Progress.{Progress}
+use Rattle.house.specs.declared.progress.Progress.{Progress}
 use Rattle.house.specs.declared.form.FormOutcome.{FormOutcome}
 use Rattle.house.specs.declared.form.FormOutcome.the-variants.{Whole, TooLong, LineTooLong, NoRoom}
 use Rattle.house.specs.Writes.{WroteLines}

@@ -9,7 +9,7 @@ use Rattle.values.specs.Bytes.{Bytes, ascii, is, before, starts}
 use Rattle.rules.specs.Version.{Version}
 use Rattle.rules.specs.Shown.{kindIn}
 use Rattle.ids.specs.Clashes.{lineIn, prefixOf}
-use Rattle.house.specs.declared.lines.Progress.{Progress}
+use Rattle.house.specs.declared.progress.Progress.{Progress}
 use Rattle.house.specs.Writes.{WroteLines, houseLine, Readable}
 
 -- an entry of a map or a text; w is its first word

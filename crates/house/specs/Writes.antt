@@ -15,7 +15,7 @@ use Rattle.rules.specs.Lines.{writeLines}
 use Rattle.rules.specs.Record.{Record, readRecord}
 use Rattle.rules.specs.House.{tooLong}
 use Rattle.forms.specs.Lines.{lineOf, IsEntry}
-use Rattle.house.specs.declared.lines.Progress.{Progress}
+use Rattle.house.specs.declared.progress.Progress.{Progress}
 
 -- the first line that was too long
 abbrev pub longIn : Progress → Option (ℕ × ℕ)

@@ -1,7 +1,7 @@
 // The house form of a header: measured first, then written if it may stand and fits.
 use crate::keys;
-use crate::lines;
-use crate::lines::Progress;
+use crate::progress;
+use crate::progress::Progress;
 use entries::word;
 use header::file_format_option::FileFormatOption;
 use header::parser;
@@ -78,10 +78,10 @@ fn put_form(h: &[u8], words: &[u64], version: FileFormat, out: &mut [u8]) -> Pro
         long: 0,
         start: 0,
     };
-    let formatted = lines::put_version(version, out, begun);
+    let formatted = progress::put_version(version, out, begun);
     let recorded = put_records(h, words, version, out, formatted);
     let columns = scan::line_part(h, column_word(words));
-    lines::put_plain(columns, out, recorded)
+    progress::put_plain(columns, out, recorded)
 }
 
 // Nothing is written unless the whole form may stand and fits.

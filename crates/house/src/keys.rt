@@ -1,6 +1,6 @@
 // The entries of a key, as they follow one another in the header.
-use crate::lines;
-use crate::lines::Progress;
+use crate::progress;
+use crate::progress::Progress;
 use entries::word;
 use ids::scan;
 use records::file_format::FileFormat;
@@ -42,7 +42,7 @@ pub fn put_key(
         let w = words[k];
         k += 2;
         if is_under(h, w, prefix) {
-            progress = lines::put_entry(h, w, version, out, progress);
+            progress = progress::put_entry(h, w, version, out, progress);
         }
     }
     progress

@@ -1,4 +1,4 @@
 // The house form of a header.
 pub mod form;
 mod keys;
-mod lines;
+mod progress;

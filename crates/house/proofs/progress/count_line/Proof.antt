@@ -1,7 +1,7 @@
 use Rattle.house.proofs.Writes.{counts}
 use borrow.Author.Needs.{needs}
-use Rattle.house.proofs.lines.count_line.Statement.{statement}
-use Rattle.house.proofs.lines.count_line.Tie as tie
+use Rattle.house.proofs.progress.count_line.Statement.{statement}
+use Rattle.house.proofs.progress.count_line.Tie as tie
 
 add-result : tie.Need-add-result
 add-result c = search (counts, needs)

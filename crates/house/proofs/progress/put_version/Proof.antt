@@ -1,7 +1,7 @@
 use Rattle.house.proofs.Writes.{version-line}
 use borrow.Author.Needs.{needs}
-use Rattle.house.proofs.lines.put_version.Statement.{statement}
-use Rattle.house.proofs.lines.put_version.Tie as tie
+use Rattle.house.proofs.progress.put_version.Statement.{statement}
+use Rattle.house.proofs.progress.put_version.Tie as tie
 
 put-format-requires : tie.Need-put-format-requires
 put-format-requires c κs = search (version-line, needs)

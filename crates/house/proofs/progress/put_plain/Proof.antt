@@ -1,7 +1,7 @@
 use Rattle.house.proofs.Writes.{plain-line}
 use borrow.Author.Needs.{needs}
-use Rattle.house.proofs.lines.put_plain.Statement.{statement}
-use Rattle.house.proofs.lines.put_plain.Tie as tie
+use Rattle.house.proofs.progress.put_plain.Statement.{statement}
+use Rattle.house.proofs.progress.put_plain.Tie as tie
 
 put-bytes-requires : tie.Need-put-bytes-requires
 put-bytes-requires c κs = search (plain-line, needs)

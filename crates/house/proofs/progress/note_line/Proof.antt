@@ -1,7 +1,7 @@
 use Rattle.house.proofs.Writes.{notes}
 use borrow.Author.Needs.{needs}
-use Rattle.house.proofs.lines.note_line.Statement.{statement}
-use Rattle.house.proofs.lines.note_line.Tie as tie
+use Rattle.house.proofs.progress.note_line.Statement.{statement}
+use Rattle.house.proofs.progress.note_line.Tie as tie
 
 count-line-requires : tie.Need-count-line-requires
 count-line-requires c κs = search (notes, needs)

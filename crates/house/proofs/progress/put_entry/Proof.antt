@@ -1,7 +1,7 @@
 use Rattle.house.proofs.Writes.{entry-line}
 use borrow.Author.Needs.{needs}
-use Rattle.house.proofs.lines.put_entry.Statement.{statement}
-use Rattle.house.proofs.lines.put_entry.Tie as tie
+use Rattle.house.proofs.progress.put_entry.Statement.{statement}
+use Rattle.house.proofs.progress.put_entry.Tie as tie
 
 line-part-requires : tie.Need-line-part-requires
 line-part-requires c κs = search (entry-line, needs)

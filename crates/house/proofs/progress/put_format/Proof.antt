@@ -1,7 +1,7 @@
 use Rattle.house.proofs.Writes.{format-put}
 use borrow.Author.Needs.{needs}
-use Rattle.house.proofs.lines.put_format.Statement.{statement}
-use Rattle.house.proofs.lines.put_format.Tie as tie
+use Rattle.house.proofs.progress.put_format.Statement.{statement}
+use Rattle.house.proofs.progress.put_format.Tie as tie
 
 slice-aggregate-put-bytes : tie.Need-slice-aggregate-put-bytes
 slice-aggregate-put-bytes c = search (format-put, needs)

@@ -3,6 +3,7 @@ pub mod Lists
 pub mod Sames
 pub mod Rows
 pub mod Texts
+pub mod Ascii
 pub mod Integers
 pub mod Decimals
 pub mod Outputs

@@ -5,7 +5,7 @@ use mathlib.Core.Bool.{Bool, true, false}
 use mathlib.Core.List.{List, [], _∷_, _++_, map}
 use lib.ListN.{replicate}
 use Rattle.values.specs.Bytes.{Bytes, ascii, begins, any, before, from, same}
-use Rattle.values.specs.Utf8.{isUtf8, completes, followers}
+use Rattle.values.specs.Utf8.{isUtf8, isAscii, completes, followers}
 use Rattle.values.specs.Integer.{integerRead, u32Read, u64Read, unsignedRead, withoutSign, numberOf, decimal, digitsOf}
 use Rattle.values.specs.Value.{Value, written, quotedText, readValues, readValue, unescaped, meaning, escape, writeValue}
 use Rattle.values.specs.Field.{readKey, readField, writtenField}
@@ -24,7 +24,7 @@ Table {A} {B} f rows = map (λ (r : A × B). f (r .0)) rows ≡ map (λ (r : A �
 
 -- what the definitions need to compute
 unfoldable pub opened : Unit {0}
-unfolding begins any before from same completes followers unsignedRead withoutSign numberOf decimal digitsOf written quotedText readValues readValue unescaped escape readKey readField writtenField unescapedAt fieldAt
+unfolding begins any before from same completes followers isAscii unsignedRead withoutSign numberOf decimal digitsOf written quotedText readValues readValue unescaped escape readKey readField writtenField unescapedAt fieldAt
 opened = tt
 
 -- RFC 3629, section 7; then an overlong form, a surrogate, more than 10FFFF, lone and missing tails, and a cut last character
@@ -46,6 +46,10 @@ utf8-table : Table isUtf8 (
     )
 unfolding opened
 utf8-table = refl
+
+ascii-table : Table isAscii (([], true) ∷ (0x00 ∷ 0x7F ∷ [], true) ∷ (0x80 ∷ 0x41 ∷ [], false) ∷ (0x41 ∷ 0xCE ∷ 0x91 ∷ [], false) ∷ [])
+unfolding opened
+ascii-table = refl
 
 -- 64 bits with a sign, leading zeros without limit, and both sides of the bound
 u64-table : Table u64Read (

@@ -4,7 +4,7 @@ use Prim.Native.Nat.{ℕ}
 use mathlib.Core.Bool.{Bool, true, false, _&&_}
 use mathlib.Core.List.{List, [], _∷_}
 use mathlib.Core.Option.{Option, none, some}
-use lib.Dec.{leb}
+use lib.Dec.{leb, ltb}
 use Rattle.values.specs.Bytes.{Bytes}
 
 -- the bytes from low to high
@@ -61,3 +61,8 @@ completes (r ∷ due) (b ∷ bs) = elim (within r b) [ true ↦ completes due bs
 
 abbrev pub isUtf8 : Bytes → Bool
 isUtf8 bs = completes [] bs
+
+-- no byte is above 127
+unfoldable pub isAscii : Bytes → Bool
+isAscii [] = true
+isAscii (b ∷ bs) = ltb b 0x80 && isAscii bs

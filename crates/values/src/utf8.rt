@@ -1,6 +1,6 @@
 // Whether bytes are UTF-8.
 ghost use mathlib.Core.Path.{_≡_};
-ghost use Rattle.values.specs.Utf8.{isUtf8, followers};
+ghost use Rattle.values.specs.Utf8.{isUtf8, isAscii, followers};
 ghost use Rattle.values.specs.Lead.{leadMeans};
 
 // What a first byte asks of the bytes after it: how many, and the range of the next one. The later ones are 0x80 to 0xBF.
@@ -37,10 +37,29 @@ fn lead_of(b: u8) -> Lead
     }
 }
 
+// Whether no byte is above 127. Every byte is looked at, with no way out before the end, so that a compiler can take many at a time.
+pub fn is_ascii(s: &[u8]) -> bool
+    ensures { λ r. ⌜ r ≡ isAscii (now (s .entry)) ⌝ }
+{
+    let mut highest: u8 = 0;
+    let mut i: usize = 0;
+    while i < s.len() {
+        let b = s[i];
+        i += 1;
+        if highest < b {
+            highest = b;
+        }
+    }
+    highest < 0x80
+}
+
 // Of the character at hand `left` bytes are still to come, the next of them from `low` to `high`.
 pub fn utf8(s: &[u8]) -> bool
     ensures { λ r. ⌜ r ≡ isUtf8 (now (s .entry)) ⌝ }
 {
+    if is_ascii(s) {
+        return true;
+    }
     let mut left: u8 = 0;
     let mut low: u8 = 0x80;
     let mut high: u8 = 0xBF;

@@ -11,6 +11,7 @@ use borrow.Author.Tests.{eqb-true, ne-eqb}
 use Rattle.values.specs.Bytes.{Bytes, CR, LF, is, any, before, from}
 use Rattle.values.proofs.Tests.{or-l, or-r}
 use Rattle.values.proofs.Lists.{here, drop-past, before-from, before-none, from-at, from-first}
+use Rattle.values.proofs.Scans.{stopOf}
 use Rattle.values.proofs.Fields.{text-here}
 use Rattle.rules.specs.Lines.{pieces, ends, dropEnd, lineOf}
 use Rattle.rules.proofs.Pieces.{nothing, cut, cut-first, pieces-line, pieces-last, line-LF, line-last, ends-snoc, drop-end, drop-other}
@@ -78,8 +79,11 @@ last-of (b ∷ x) = go (last-of x)
     go (no-byte e) = byte [] b (ap (b ∷_) e)
     go (byte y d e) = byte (b ∷ y) d (ap (b ∷_) e)
 
--- the bytes up to the LF, or to the end
-module _ (h : Bytes) (at : ℕ) {lf : ℕ} (found : lf ≡ at + length (before (is LF) (drop at h))) where
+-- the bytes up to the LF, or to the end, found from a start between which and `at` there is none
+module _ (h : Bytes) (at start : ℕ) {lf : ℕ} (skipped : stopOf (is LF) h start ≡ stopOf (is LF) h at) (hit : lf ≡ stopOf (is LF) h start) where
+  found : lf ≡ stopOf (is LF) h at
+  found = hit ∙ skipped
+
   abbrev x : Bytes
   x = before (is LF) (drop at h)
 

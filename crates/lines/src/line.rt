@@ -1,5 +1,9 @@
 // LF ends a line, and one CR just before it goes with it; a last line without LF keeps a final CR.
 use values::bytes;
+ghost use mathlib.Core.Path.{_≡_};
+ghost use Prim.Native.Nat.{_+_};
+ghost use lib.ListN.{length, drop};
+ghost use Rattle.values.specs.Bytes.{LF, is, any, before};
 ghost use Rattle.lines.specs.Lines.{LineIs};
 
 // Where the line that was asked for ends, and where the next one stands.
@@ -8,10 +12,45 @@ pub struct Line {
     pub next: usize,
 }
 
+// Whether a LF is among the bytes; each is looked at, so that a compiler can take them all at once.
+fn has_lf(s: &[u8]) -> bool
+    ensures { λ r. ⌜ r ≡ any (is LF) (now (s .entry)) ⌝ }
+{
+    let mut found = false;
+    let mut k: usize = 0;
+    while k < s.len() {
+        let b = s[k];
+        k += 1;
+        if b == b'\n' {
+            found = true;
+        }
+    }
+    found
+}
+
+// Past blocks of 16 bytes that have no LF: the first one from there on is the first from `at` on.
+fn skip_blocks(h: &[u8], at: usize) -> usize
+    ensures { λ r. ⌜ r + length (before (is LF) (drop r (now (h .entry)))) ≡ at + length (before (is LF) (drop at (now (h .entry)))) ⌝ }
+{
+    if h.len() < 16 {
+        return at;
+    }
+    let last = h.len() - 16;
+    let mut i = at;
+    while i <= last {
+        let next = i + 16;
+        if has_lf(&h[i..next]) {
+            return i;
+        }
+        i = next;
+    }
+    i
+}
+
 pub fn next_line(h: &[u8], at: usize) -> Line
     ensures { λ r. ⌜ LineIs (now (h .entry)) at r ⌝ }
 {
-    let lf = bytes::find(h, at, b'\n');
+    let lf = bytes::find(h, skip_blocks(h, at), b'\n');
     if h.len() <= lf {
         return Line { end: lf, next: lf };
     }

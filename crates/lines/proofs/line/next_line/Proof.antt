@@ -3,6 +3,9 @@ use borrow.Author.Needs.{needs}
 use Rattle.lines.proofs.line.next_line.Statement.{statement}
 use Rattle.lines.proofs.line.next_line.Tie as tie
 
+skip-blocks-requires : tie.Need-skip-blocks-requires
+skip-blocks-requires c κs = search (ways, needs)
+
 find-requires : tie.Need-find-requires
 find-requires c κs = search (ways, needs)
 
@@ -31,6 +34,7 @@ pub next-line-spec : {M : Type 1} → statement M
 next-line-spec =
     tie.close
     (tie.spec
+    skip-blocks-requires
     find-requires
     returns
     add-next

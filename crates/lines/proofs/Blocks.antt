@@ -1,0 +1,72 @@
+-- Blocks without LF: a turn of each loop on plain values. Assumes nothing.
+use Prim.Native.Nat.{ℕ, _+_, _-_, _≤_, _<_}
+use native.Mathlib.Omega.{arith}
+use mathlib.Core.Path.{_≡_, refl, sym, ap, _∙_}
+use mathlib.Core.Bool.{Bool, true, false, _||_}
+use mathlib.Core.List.{List, [], _∷_, _++_}
+use lib.ListN.{length, getD, take, drop, length-append, length-drop, length-take, take-append-drop, drop-of-length-le}
+use lib.Seq.{drop-drop}
+use borrow.Author.Tests.{eq-eqb, ne-eqb}
+use Rattle.values.specs.Bytes.{Bytes, LF, is, any, before}
+use Rattle.values.proofs.Tests.{or-l, or-r, or-on}
+use Rattle.values.proofs.Lists.{here, before-miss}
+use Rattle.values.proofs.Scans.{Scanning, started, stopOf}
+
+-- a LF is among the bytes where it was found before k, or is among those from k on
+pub record Seeking (s : Bytes) (found : Bool) (k : ℕ) : Type 0 where
+  pub inside : k ≤ length s
+  pub same : any (is LF) s ≡ (found || any (is LF) (drop k s))
+
+pub sought : (s : Bytes) → Seeking s false 0
+sought s = record { inside = omega arith; same = refl }
+
+module _ {s : Bytes} {found : Bool} {k : ℕ} (g : Seeking s found k) (h : k < length s) where
+  turn : any (is LF) s ≡ (found || (is LF (getD s k 0) || any (is LF) (drop (k + 1) s)))
+  unfolding any
+  turn = g .same ∙ rw (here s k)
+
+  pub met : getD s k 0 ≡ LF → Seeking s true (k + 1)
+  met e = record { inside = omega arith; same = turn ∙ or-on found (rw (eq-eqb (getD s k 0) LF e)) }
+
+  pub unmet : (getD s k 0 ≡ LF → ⊥) → Seeking s found (k + 1)
+  unmet ne = record { inside = omega arith; same = turn ∙ rw (ne-eqb (getD s k 0) LF ne) }
+
+pub all-seen : {s : Bytes} {found : Bool} {k : ℕ} → Seeking s found k → length s ≤ k → found ≡ any (is LF) s
+unfolding any
+all-seen {s} {found} g h = sym (g .same ∙ rw (drop-of-length-le s h) (whole found))
+  where
+    whole : (q : Bool) → (q || false) ≡ q
+    whole true = refl
+    whole false = refl
+
+-- what answers the needs of `has_lf`
+pub ruleset seeks = (sought, met, unmet, all-seen)
+
+-- bytes that pass no test stand before the first that does
+before-past : (t : ℕ → Bool) (xs ys : Bytes) → any t xs ≡ false → before t (xs ++ ys) ≡ xs ++ before t ys
+unfolding any
+before-past t [] ys n = refl
+before-past t (b ∷ xs) ys n =
+    before-miss t b (xs ++ ys) (or-l (t b) (any t xs) n) ∙ ap (b ∷_) (before-past t xs ys (or-r (t b) (any t xs) n))
+
+-- so a scan may go on after them
+past : (t : ℕ → Bool) (s : Bytes) (i n : ℕ) → i + n ≤ length s → any t (take n (drop i s)) ≡ false → stopOf t s i ≡ stopOf t s (i + n)
+past t s i n l e =
+    let p = ap length (ap (before t) (sym (take-append-drop n (drop i s))) ∙ before-past t (take n (drop i s)) (drop n (drop i s)) e) in
+    let q = length-append (take n (drop i s)) (before t (drop n (drop i s))) in
+    let d : drop n (drop i s) ≡ drop (i + n) s = drop-drop n i s in
+    let m : length (take n (drop i s)) ≡ n = omega (arith, length-take n (drop i s), length-drop i s) in
+    rw (p, q, d, m) (omega arith)
+
+module _ {s : Bytes} {start i : ℕ} (g : Scanning (is LF) s start i) where
+  pub stops : stopOf (is LF) s i ≡ stopOf (is LF) s start
+  stops = sym (g .still)
+
+  pub skipped : 16 ≤ length s → i ≤ length s - 16 → {q : Bool} → q ≡ any (is LF) (take (i + 16 - i) (drop i s)) → q ≡ false
+      → Scanning (is LF) s start (i + 16)
+  skipped w l a e =
+      let n : i + 16 - i ≡ 16 = omega arith in
+      record { still = g .still ∙ past (is LF) s i 16 (omega arith) (rw n at (sym a ∙ e)) }
+
+-- what answers the needs of `skip_blocks`
+pub ruleset skips = (started, skipped, stops)

@@ -1,0 +1,51 @@
+use borrow.Author.Needs.{needs}
+use Prim.Native.Nat.{_-_}
+use lib.ListN.{length}
+use Rattle.lines.proofs.Blocks.{Seeking, seeks}
+use Rattle.lines.proofs.line.has_lf.Statement.{statement}
+use Rattle.lines.proofs.line.has_lf.Tie as tie
+
+abbrev Inv-loop : tie.InvT-loop
+Inv-loop s found₀ k₀ found k = Seeking s found k
+
+abbrev μ-loop : tie.MeasureT-loop
+μ-loop s found₀ k₀ found k = length s - k
+
+loop-holds : tie.Need-loop-holds Inv-loop μ-loop
+loop-holds c = search (seeks, needs)
+
+shared-slice-read-b : tie.Need-shared-slice-read-b Inv-loop μ-loop
+shared-slice-read-b c = search (seeks, needs)
+
+add-k : tie.Need-add-k Inv-loop μ-loop
+add-k c = search (seeks, needs)
+
+loop-less : tie.Need-loop-less Inv-loop μ-loop
+loop-less c = search (seeks, needs)
+
+loop-again : tie.Need-loop-again Inv-loop μ-loop
+loop-again c = search (seeks, needs)
+
+loop-less-2 : tie.Need-loop-less-2 Inv-loop μ-loop
+loop-less-2 c = search (seeks, needs)
+
+loop-again-2 : tie.Need-loop-again-2 Inv-loop μ-loop
+loop-again-2 c = search (seeks, needs)
+
+returns : tie.Need-returns Inv-loop μ-loop
+returns c = search (seeks, needs)
+
+pub has-lf-spec : {M : Type 1} → statement M
+has-lf-spec =
+    tie.close
+    (tie.spec
+    Inv-loop
+    μ-loop
+    loop-holds
+    shared-slice-read-b
+    add-k
+    loop-less
+    loop-again
+    loop-less-2
+    loop-again-2
+    returns)

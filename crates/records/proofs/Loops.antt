@@ -64,24 +64,24 @@ unfolding textNamed
 none-held n v k start = record { each = λ t e i. no-slot t }
 
 -- the fields before the cursor
-pub record Walking (n : Known) (v : Version) (m : Bool) (s : Bytes) (start at : ℕ) (slots : Slots) : Type 0 where
-  pub before : (k : Bytes) → Suits n k → (before : List Field) × Walk n v k m s start before at slots
+pub record Walking (n : Known) (v : Version) (m : Bool) (s : Bytes) (start at : ℕ) (slots : Slots) (plain : Bool) : Type 0 where
+  pub before : (k : Bytes) → Suits n k → (before : List Field) × Walk n v k m s start before at slots plain
 
-pub walk-start : (n : Known) (v : Version) (m : Bool) (s : Bytes) (start : ℕ) {slots : Slots} → slots ≡ noSlots → Walking n v m s start start slots
+pub walk-start : (n : Known) (v : Version) (m : Bool) (s : Bytes) (start : ℕ) {slots : Slots} → slots ≡ noSlots → Walking n v m s start start slots true
 unfolding checkFields
-walk-start n v m s start e = record { before = λ k suits. ([], record { fields = refl; fine = refl; held = rw e (none-held n v k start) }) }
+walk-start n v m s start e = record { before = λ k suits. ([], record { fields = refl; fine = refl; held = rw e (none-held n v k start); plainly = refl }) }
 
-module _ {n : Known} {v : Version} {m : Bool} {s : Bytes} {start at : ℕ} {slots : Slots} (g : Walking n v m s start at slots) {r : FieldStep} (a : Steps n v m s start at slots r) where
+module _ {n : Known} {v : Version} {m : Bool} {s : Bytes} {start at : ℕ} {slots : Slots} {plain : Bool} (g : Walking n v m s start at slots plain) {r : FieldStep} (a : Steps n v m s start at slots plain r) where
   stepped : {x : FieldStep} → r ≡ x → (k : Bytes) (suits : Suits n k) → StepIs n v k m s start (g .before k suits .0) at x
   stepped e k suits = subst (StepIs n v k m s start (g .before k suits .0) at) e (a .is k (g .before k suits .0) suits (g .before k suits .1))
 
   moved : {x : FieldStep} → r ≡ x → StepMoves s at x
   moved e = subst (StepMoves s at) e (a .moves)
 
-  pub walk-next : {d : Cursor} {kept : Slots} → r ≡ step.Next d kept → Walking n v m s start (d .at) kept
+  pub walk-next : {d : Cursor} {kept : Slots} {still : Bool} → r ≡ step.Next d kept still → Walking n v m s start (d .at) kept still
   walk-next e = record { before = λ k suits. let x = stepped e k suits in (g .before k suits .0 ++ x .0 ∷ [], x .1) }
 
-  pub walk-less : {d : Cursor} {kept : Slots} → r ≡ step.Next d kept → length s - d .at < length s - at
+  pub walk-less : {d : Cursor} {kept : Slots} {still : Bool} → r ≡ step.Next d kept still → length s - d .at < length s - at
   walk-less e = let x = moved e in omega arith
 
   scanned : (k : Bytes) (suits : Suits n k)

@@ -15,7 +15,7 @@ use Rattle.values.specs.declared.cursor.Cursor.{Cursor}
 use Rattle.values.specs.declared.string.Text.{Text}
 use Rattle.values.specs.declared.field.FieldRead.{FieldRead}
 use Rattle.values.specs.declared.field.FieldRead.the-variants as read
-use Rattle.values.proofs.Tests.{Test, pass, fail, test, and-r, both}
+use Rattle.values.proofs.Tests.{Test, pass, fail, test, and-l, and-r, both}
 use Rattle.values.proofs.Sames.{same-sound, same-self, same-sym, differ}
 use Rattle.values.proofs.Lists.{on-some}
 use Rattle.values.proofs.Fields.{part}
@@ -30,7 +30,7 @@ use Rattle.rules.proofs.Names.{name-id, name-other}
 use Rattle.rules.proofs.Fields.{SeenAfter, was-more, was-done, was-wrong, see-after, SeenField, no-field, a-field, see-field}
 use Rattle.records.specs.Refusals.{number}
 use Rattle.records.specs.Tags.{tagName, among, tagNamed, knows, namesIdIn, kept, tagBy, isKept, Suits}
-use Rattle.records.specs.Maps.{tagRefusal, checkNumber, get, put, slotted, FieldThen, FieldsFrom, keysOf, namesOf, HasKey, Held, Walk, Repeats, scanRefusal, scannedFrom, Taken, TakenIs, TakenMoves, Takes, StepIs, Steps, afterPlaced, afterAt}
+use Rattle.records.specs.Maps.{tagRefusal, checkNumber, get, put, slotted, FieldThen, FieldsFrom, keysOf, namesOf, HasKey, Held, allKept, Walk, Repeats, scanRefusal, scannedFrom, Taken, TakenIs, TakenMoves, Takes, StepIs, Steps, afterPlaced, afterAt}
 use Rattle.records.specs.declared.refusal.Refusal.{Refusal}
 use Rattle.records.specs.declared.refusal.Refusal.the-variants.{InvalidField, DuplicateTag, InvalidMap}
 use Rattle.records.specs.declared.tag.Tag.{Tag}
@@ -117,6 +117,15 @@ module _ (n : Known) (v : Version) (k : Bytes) (suits : Suits n k) (field : Byte
     other-keys e [] = refl
     other-keys e (f ∷ fs) = ap₂ _||_ (other-key e (f .key) ∙ ap (same (nameOf v k (f .key))) (sym (name-other v k field (other-lineage e)))) (other-keys e fs)
 
+    -- a tag goes by the key: among fields that are kept none has the key of one that is not
+    unkept-key : isKept t ≡ false → (fs : List Field) → allKept n v fs ≡ true → isIn field (keysOf fs) ≡ false
+    unfolding isIn
+    unkept-key e [] h = refl
+    unkept-key e (f ∷ fs) h = rw (
+      differ (f .key) field (λ z. both (and-l _ _ h) (ap (λ (x : Bytes). isKept (tagBy n v x)) z ∙ sym (ap isKept a) ∙ e)),
+      unkept-key e fs (and-r (isKept (tagBy n v (f .key))) _ h),
+    )
+
 filled-some : (o : Option (Bytes × Text)) {x : Text} {g : ℕ} → slotted o ≡ slot.Filled x g → isSome o ≡ true
 filled-some none e = let z : _≡_ {A = ℕ} 0 1 = cc in absurd (omega arith)
 filled-some (some p) e = refl
@@ -125,33 +134,40 @@ empty-none : (o : Option (Bytes × Text)) → slotted o ≡ slot.Empty → o ≡
 empty-none none e = refl
 empty-none (some p) e = let z : _≡_ {A = ℕ} 0 1 = cc in absurd (omega arith)
 
-module _ (m : Bool) (s : Bytes) (start at : ℕ) (field : Bytes) (t : Tag) (slots : Slots) {q : Bool} (a : q ≡ isKept t) where
+module _ (m : Bool) (s : Bytes) (start at : ℕ) (field : Bytes) (t : Tag) (slots : Slots) (plain : Bool) {q : Bool} (a : q ≡ isKept t) where
   held-in : q ≡ true → {x : Slot} → x ≡ get t slots → (n : Known) (v : Version) (k : Bytes) (before : List Field) → Suits n k → t ≡ tagBy n v field
-      → Walk n v k m s start before at slots → (x ≡ slotted (textNamed v k (tagName t) start before)) × (isSome (textNamed v k (tagName t) start before) ≡ isIn (nameOf v k field) (namesOf v k before))
+      → Walk n v k m s start before at slots plain → (x ≡ slotted (textNamed v k (tagName t) start before)) × (isSome (textNamed v k (tagName t) start before) ≡ isIn (nameOf v k field) (namesOf v k before))
   held-in e g n v k before suits b w =
       let i = sym a ∙ e in (
         g ∙ w .held .each t i (known-tag n v k suits field b i),
         text-in v k (tagName t) start before ∙ rw (kept-name n v k suits field b i),
       )
 
-  pub kept-filled : q ≡ true → {x : Slot} → x ≡ get t slots → {y : Text} {g : ℕ} → x ≡ slot.Filled y g → Repeats m s start at field t slots true
+  pub kept-filled : q ≡ true → {x : Slot} → x ≡ get t slots → {y : Text} {g : ℕ} → x ≡ slot.Filled y g → Repeats m s start at field t slots plain true
   kept-filled e g f = record {
     is = λ n v k before suits b w.
         let h = held-in e g n v k before suits b w in
         sym (sym (h .1) ∙ filled-some (textNamed v k (tagName t) start before) (sym (h .0) ∙ f));
   }
 
-  pub kept-empty : q ≡ true → {x : Slot} → x ≡ get t slots → x ≡ slot.Empty → Repeats m s start at field t slots false
+  pub kept-empty : q ≡ true → {x : Slot} → x ≡ get t slots → x ≡ slot.Empty → Repeats m s start at field t slots plain false
   kept-empty e g f = record {
     is = λ n v k before suits b w.
         let h = held-in e g n v k before suits b w in
         sym (sym (h .1) ∙ rw (empty-none (textNamed v k (tagName t) start before) (sym (h .0) ∙ f)));
   }
 
-  pub looked-for : q ≡ false → {r : Bool} → HasKey m s start at field r → Repeats m s start at field t slots r
+  pub looked-for : q ≡ false → {r : Bool} → HasKey m s start at field r → Repeats m s start at field t slots plain r
   looked-for e g = record { is = λ n v k before suits b w. g .among before (w .fields) ∙ other-keys n v k suits field b (sym a ∙ e) before }
 
-pub ruleset repeats = (kept-filled, kept-empty, looked-for)
+  pub all-kept : q ≡ false → plain ≡ true → Repeats m s start at field t slots plain false
+  all-kept e p = record {
+    is = λ n v k before suits b w.
+        let i = sym a ∙ e in
+        sym (sym (other-keys n v k suits field b i before) ∙ unkept-key n v k suits field b i before (sym (w .plainly) ∙ p));
+  }
+
+pub ruleset repeats = (kept-filled, kept-empty, looked-for, all-kept)
 
 -- What a field adds to the texts that are kept
 
@@ -222,6 +238,18 @@ fields-snoc : (m : Bool) (s : Bytes) (start : ℕ) (before : List Field) (at : �
 fields-snoc m s start [] at f w h = rw w (h, refl)
 fields-snoc m s start (g ∷ gs) at f w h = (w .0, fields-snoc m s (start + length (writtenField g) + 1) gs at f (w .1) h)
 
+kept-snoc : (n : Known) (v : Version) (before : List Field) (f : Field) → allKept n v (before ++ f ∷ []) ≡ (allKept n v before && isKept (tagBy n v (f .key)))
+kept-snoc n v [] f = and-true (isKept (tagBy n v (f .key)))
+  where
+    and-true : (b : Bool) → b && true ≡ b
+    and-true true = refl
+    and-true false = refl
+kept-snoc n v (g ∷ gs) f = rw (kept-snoc n v gs f) (assoc (isKept (tagBy n v (g .key))) (allKept n v gs) (isKept (tagBy n v (f .key))))
+  where
+    assoc : (a b c : Bool) → a && (b && c) ≡ (a && b) && c
+    assoc true b c = refl
+    assoc false b c = refl
+
 value-text : (q : Bool) (x : Bytes) {value : Value} → valueBy q x ≡ value → (x ≡ textOf value) × (q ≡ isQuoted value)
 value-text true x e = (ap textOf e, ap isQuoted e)
 value-text false x e = (ap textOf e, ap isQuoted e)
@@ -234,12 +262,12 @@ more-is e = cc
 comma-here : (s : Bytes) (i : ℕ) (t : Bytes) → after (drop i s) ≡ more t → drop i s ≡ 44 ∷ drop (i + 1) s
 comma-here s i t e = let d = after-more (drop i s) e in d ∙ ap (44 ∷_) (sym (ap tail d) ∙ drop-drop 1 i s)
 
-module _ (n : Known) (v : Version) (m : Bool) (s : Bytes) (start at : ℕ) (slots : Slots) {r : FieldRead} (a : r ≡ fieldAt m s at) where
-  pub field-unread : r ≡ read.Refused → Takes n v m s start at slots (taken.Refused InvalidField)
+module _ (n : Known) (v : Version) (m : Bool) (s : Bytes) (start at : ℕ) (slots : Slots) (plain : Bool) {r : FieldRead} (a : r ≡ fieldAt m s at) where
+  pub field-unread : r ≡ read.Refused → Takes n v m s start at slots plain (taken.Refused InvalidField)
   unfolding fieldAt first
   field-unread e = record { moves = tt; is = λ k before suits w fuel h. go k before w (see-field (readField m (drop at s))) fuel }
     where
-      go : (k : Bytes) (before : List Field) → Walk n v k m s start before at slots → SeenField (readField m (drop at s)) → (fuel : ℕ)
+      go : (k : Bytes) (before : List Field) → Walk n v k m s start before at slots plain → SeenField (readField m (drop at s)) → (fuel : ℕ)
           → scanRefusal v k (scannedFrom m s before at fuel) ≡ 9
       go k before w (no-field u) fuel = rw (scan-none fuel m (drop at s) u, append-nil before, w .fine)
       go k before w (a-field p u) fuel = let z = rw (u) at (sym a ∙ e) in let o : _≡_ {A = ℕ} 0 1 = cc in absurd (omega arith)
@@ -268,7 +296,7 @@ module _ (n : Known) (v : Version) (m : Bool) (s : Bytes) (start at : ℕ) (slot
         let u = scan-first m (drop at s) (told .read) fuel l in
         rw (u .1, h (u .0)) (first-suc z (scan fuel m (drop at s) .1 ∷ []))
 
-    pub field-checked : {q : Refusal} → y ≡ check.Refused q → Takes n v m s start at slots (taken.Refused q)
+    pub field-checked : {q : Refusal} → y ≡ check.Refused q → Takes n v m s start at slots plain (taken.Refused q)
     field-checked {q} u = record {
       moves = tt;
       is = λ k before suits l.
@@ -276,17 +304,17 @@ module _ (n : Known) (v : Version) (m : Bool) (s : Bytes) (start at : ℕ) (slot
           λ fuel h. refused-at k before (value-refused v k before (l .fine) f (refusal-is k suits ∙ ap checkNumber u ∙ o .1)) fuel h ∙ sym (o .1);
     }
 
-    module _ (u : y ≡ check.Passed) {q : Bool} (rep : Repeats m s start at p g slots q) where
+    module _ (u : y ≡ check.Passed) {q : Bool} (rep : Repeats m s start at p g slots plain q) where
       passes : (k : Bytes) → Suits n k → fieldRefusal v (kindOf k) (f .key) (meaningOf (f .value)) ≡ 0
       passes k suits = refusal-is k suits ∙ ap checkNumber u
 
-      repeated : (k : Bytes) (before : List Field) → Suits n k → Walk n v k m s start before at slots → q ≡ isIn (nameOf v k (f .key)) (namesOf v k before)
+      repeated : (k : Bytes) (before : List Field) → Suits n k → Walk n v k m s start before at slots plain → q ≡ isIn (nameOf v k (f .key)) (namesOf v k before)
       repeated k before suits l = rw key-is at (rep .is n v k before suits d l)
 
-      pub field-repeated : q ≡ true → Takes n v m s start at slots (taken.Refused DuplicateTag)
+      pub field-repeated : q ≡ true → Takes n v m s start at slots plain (taken.Refused DuplicateTag)
       field-repeated h = record { moves = tt; is = λ k before suits l. refused-at k before (name-refused v k before (l .fine) f (passes k suits) (sym (repeated k before suits l) ∙ h)) }
 
-      pub field-taken : q ≡ false → {tag : ℕ} → tag ≡ tagOf p → Takes n v m s start at slots (taken.Field g (slot.Filled t tag) x)
+      pub field-taken : q ≡ false → {tag : ℕ} → tag ≡ tagOf p → Takes n v m s start at slots plain (taken.Field g (slot.Filled t tag) x)
       field-taken h {tag} tg =
           let b′ = told .begun in
           let o′ = told .ordered in
@@ -300,6 +328,7 @@ module _ (n : Known) (v : Version) (m : Bool) (s : Bytes) (start at : ℕ) (slot
                   field = f;
                   read = told .read;
                   size = told .next;
+                  tag = d ∙ ap (tagBy n v) key-is;
                   fine = field-fine v k before (l .fine) f (passes k suits) fresh;
                   held =
                       subst (Held n v k start (before ++ f ∷ []))
@@ -312,21 +341,21 @@ pub ruleset takes = (field-unread, field-checked, field-repeated, field-taken)
 
 -- What follows it
 
-module _ (n : Known) (v : Version) (m : Bool) (s : Bytes) (start at : ℕ) (slots : Slots) (r : FieldTaken) (a : Takes n v m s start at slots r) where
-  pub step-refused : {x : Refusal} → r ≡ taken.Refused x → Steps n v m s start at slots (step.Refused x)
+module _ (n : Known) (v : Version) (m : Bool) (s : Bytes) (start at : ℕ) (slots : Slots) (plain : Bool) (r : FieldTaken) (a : Takes n v m s start at slots plain r) where
+  pub step-refused : {x : Refusal} → r ≡ taken.Refused x → Steps n v m s start at slots plain (step.Refused x)
   step-refused e = record { moves = tt; is = λ k before suits l. subst (TakenIs n v k m s start before at slots) e (a .is k before suits l) }
 
   module _ {g : Tag} {t : Slot} {x : Cursor} (e : r ≡ taken.Field g t x) {left : Slots} (pt : left ≡ put g t slots) {z : AfterRead} (af : z ≡ afterAt s (x .at)) where
-    took : (k : Bytes) (before : List Field) → Suits n k → Walk n v k m s start before at slots → Taken n v k m s start before at slots g t (x .at)
+    took : (k : Bytes) (before : List Field) → Suits n k → Walk n v k m s start before at slots plain → Taken n v k m s start before at slots g t (x .at)
     took k before suits l = subst (TakenIs n v k m s start before at slots) e (a .is k before suits l)
 
-    pub step-next : {y : Cursor} → z ≡ afters.More y → Steps n v m s start at slots (step.Next y left)
-    step-next {y} o = go (see-after (after (drop (x .at) s)))
+    pub step-next : {y : Cursor} → z ≡ afters.More y → {q : Bool} → q ≡ isKept g → Steps n v m s start at slots plain (step.Next y left (plain && q))
+    step-next {y} o {q} i = go (see-after (after (drop (x .at) s)))
       where
-        go : SeenAfter (after (drop (x .at) s)) → Steps n v m s start at slots (step.Next y left)
-        go (was-more q w) =
+        go : SeenAfter (after (drop (x .at) s)) → Steps n v m s start at slots plain (step.Next y left (plain && q))
+        go (was-more rest w) =
             let u : to (x .at + 1) ≡ y = more-is (sym (rw w at af) ∙ o) in
-            let comma = comma-here s (x .at) q w in
+            let comma = comma-here s (x .at) rest w in
             let moved = subst (TakenMoves s at) e (a .moves) in
             let size = sym (length-drop (x .at) s) ∙ ap length comma in
             rw (← u) (record {
@@ -339,13 +368,14 @@ module _ (n : Known) (v : Version) (m : Bool) (s : Bytes) (start at : ℕ) (slot
                       fields = subst (FieldsFrom m s start (before ++ f .field ∷ [])) (ap (λ (i : ℕ). i + 1) (sym (f .size))) (fields-snoc m s start before at (f .field) (l .fields) then);
                       fine = f .fine;
                       held = subst (Held n v k start (before ++ f .field ∷ [])) (sym pt) (f .held);
+                      plainly = ap₂ _&&_ (l .plainly) (i ∙ ap isKept (f .tag)) ∙ sym (kept-snoc n v before (f .field));
                     },
                   );
             })
-        go (was-done w) = let q = sym (rw w at af) ∙ o in let nope : _≡_ {A = ℕ} 0 1 = cc in absurd (omega arith)
-        go (was-wrong w) = let q = sym (rw w at af) ∙ o in let nope : _≡_ {A = ℕ} 0 1 = cc in absurd (omega arith)
+        go (was-done w) = let q′ = sym (rw w at af) ∙ o in let nope : _≡_ {A = ℕ} 0 1 = cc in absurd (omega arith)
+        go (was-wrong w) = let q′ = sym (rw w at af) ∙ o in let nope : _≡_ {A = ℕ} 0 1 = cc in absurd (omega arith)
 
-    pub step-last : z ≡ afters.Closed → Steps n v m s start at slots (step.Last left)
+    pub step-last : z ≡ afters.Closed → Steps n v m s start at slots plain (step.Last left)
     step-last o = record {
       moves = tt;
       is = λ k before suits l.
@@ -358,7 +388,7 @@ module _ (n : Known) (v : Version) (m : Bool) (s : Bytes) (start at : ℕ) (slot
         go (was-more q w) = let q′ = sym (rw w at af) ∙ o in let nope : _≡_ {A = ℕ} 0 1 = cc in absurd (omega arith)
         go (was-wrong w) = let q′ = sym (rw w at af) ∙ o in let nope : _≡_ {A = ℕ} 0 1 = cc in absurd (omega arith)
 
-    pub step-wrong : z ≡ afters.Other → Steps n v m s start at slots (step.Refused InvalidMap)
+    pub step-wrong : z ≡ afters.Other → Steps n v m s start at slots plain (step.Refused InvalidMap)
     unfolding first
     step-wrong o = record {
       moves = tt;

@@ -133,15 +133,21 @@ namesOf v k fs = map (λ (f : Field). nameOf v k (f .key)) fs
 pub record Held (n : Known) (v : Version) (k : Bytes) (start : ℕ) (fs : List Field) (slots : Slots) : Type 0 where
   pub each : (t : Tag) → isKept t ≡ true → knows n t ≡ true → get t slots ≡ slotted (textNamed v k (tagName t) start fs)
 
--- the fields from `start` up to `at` were read, and none was refused
-pub record Walk (n : Known) (v : Version) (k : Bytes) (m : Bool) (s : Bytes) (start : ℕ) (before : List Field) (at : ℕ) (slots : Slots) : Type 0 where
+-- whether each of these fields is of those that are kept
+abbrev pub allKept : Known → Version → List Field → Bool
+allKept n v [] = true
+allKept n v (f ∷ fs) = isKept (tagBy n v (f .key)) && allKept n v fs
+
+-- the fields from `start` up to `at` were read, and none was refused; `plain`: each of them is kept
+pub record Walk (n : Known) (v : Version) (k : Bytes) (m : Bool) (s : Bytes) (start : ℕ) (before : List Field) (at : ℕ) (slots : Slots) (plain : Bool) : Type 0 where
   pub fields : FieldsFrom m s start before at
   pub fine : checkFields v k [] before ≡ 0
   pub held : Held n v k start before slots
+  pub plainly : plain ≡ allKept n v before
 
 -- whether a field of this name stood before
-pub record Repeats (m : Bool) (s : Bytes) (start at : ℕ) (field : Bytes) (t : Tag) (slots : Slots) (r : Bool) : Type 0 where
-  pub is : (n : Known) (v : Version) (k : Bytes) (before : List Field) → Suits n k → t ≡ tagBy n v field → Walk n v k m s start before at slots
+pub record Repeats (m : Bool) (s : Bytes) (start at : ℕ) (field : Bytes) (t : Tag) (slots : Slots) (plain r : Bool) : Type 0 where
+  pub is : (n : Known) (v : Version) (k : Bytes) (before : List Field) → Suits n k → t ≡ tagBy n v field → Walk n v k m s start before at slots plain
       → r ≡ isIn (nameOf v k field) (namesOf v k before)
 
 -- the refusal of fields, and of what ended them
@@ -157,6 +163,7 @@ pub record Taken (n : Known) (v : Version) (k : Bytes) (m : Bool) (s : Bytes) (s
   pub field : Field
   pub read : readField m (drop at s) ≡ some (field, drop next s)
   pub size : next ≡ at + length (writtenField field)
+  pub tag : g ≡ tagBy n v (field .key)
   pub fine : checkFields v k [] (before ++ field ∷ []) ≡ 0
   pub held : Held n v k start (before ++ field ∷ []) (put g t slots)
 
@@ -168,26 +175,26 @@ abbrev pub TakenMoves : Bytes → ℕ → FieldTaken → Type 0
 TakenMoves s at (taken.Field g t next) = (at < next .at) × (next .at ≤ length s)
 TakenMoves s at (taken.Refused x) = Unit {0}
 
-pub record Takes (n : Known) (v : Version) (m : Bool) (s : Bytes) (start at : ℕ) (slots : Slots) (r : FieldTaken) : Type 0 where
+pub record Takes (n : Known) (v : Version) (m : Bool) (s : Bytes) (start at : ℕ) (slots : Slots) (plain : Bool) (r : FieldTaken) : Type 0 where
   pub moves : TakenMoves s at r
-  pub is : (k : Bytes) (before : List Field) → Suits n k → Walk n v k m s start before at slots → TakenIs n v k m s start before at slots r
+  pub is : (k : Bytes) (before : List Field) → Suits n k → Walk n v k m s start before at slots plain → TakenIs n v k m s start before at slots r
 
 -- one field more
 abbrev pub StepIs : Known → Version → Bytes → Bool → Bytes → ℕ → List Field → ℕ → FieldStep → Type 0
-StepIs n v k m s start before at (step.Next d slots) = (f : Field) × Walk n v k m s start (before ++ f ∷ []) (d .at) slots
+StepIs n v k m s start before at (step.Next d slots plain) = (f : Field) × Walk n v k m s start (before ++ f ∷ []) (d .at) slots plain
 StepIs n v k m s start before at (step.Last slots) =
     (f : Field) × Held n v k start (before ++ f ∷ []) slots × (checkFields v k [] (before ++ f ∷ []) ≡ 0)
     × ((fuel : ℕ) → length (drop at s) ≤ fuel → scan fuel m (drop at s) ≡ (f ∷ [], 0))
 StepIs n v k m s start before at (step.Refused x) = (fuel : ℕ) → length (drop at s) ≤ fuel → scanRefusal v k (scannedFrom m s before at fuel) ≡ number x
 
 abbrev pub StepMoves : Bytes → ℕ → FieldStep → Type 0
-StepMoves s at (step.Next d slots) = (at < d .at) × (d .at ≤ length s)
+StepMoves s at (step.Next d slots plain) = (at < d .at) × (d .at ≤ length s)
 StepMoves s at (step.Last slots) = Unit {0}
 StepMoves s at (step.Refused x) = Unit {0}
 
-pub record Steps (n : Known) (v : Version) (m : Bool) (s : Bytes) (start at : ℕ) (slots : Slots) (r : FieldStep) : Type 0 where
+pub record Steps (n : Known) (v : Version) (m : Bool) (s : Bytes) (start at : ℕ) (slots : Slots) (plain : Bool) (r : FieldStep) : Type 0 where
   pub moves : StepMoves s at r
-  pub is : (k : Bytes) (before : List Field) → Suits n k → Walk n v k m s start before at slots → StepIs n v k m s start before at r
+  pub is : (k : Bytes) (before : List Field) → Suits n k → Walk n v k m s start before at slots plain → StepIs n v k m s start before at r
 
 -- the fields of a map, and what is kept of them
 abbrev pub ScanIs : Known → Version → Bytes → ℕ → Scan → FieldsRead → Type 0

@@ -65,8 +65,9 @@ pub enum FieldTaken {
     Refused(Refusal),
 }
 
+// Past a field: where the next one stands, what is kept, and whether all fields so far are kept.
 pub enum FieldStep {
-    Next(Cursor, Slots),
+    Next(Cursor, Slots, bool),
     Last(Slots),
     Refused(Refusal),
 }
@@ -265,7 +266,8 @@ fn has_key(s: &[u8], start: usize, upto: usize, brackets: bool, key: &[u8]) -> b
     false
 }
 
-// Whether a field of the same name stands before `at`: the kept ones are at hand, others are looked for.
+// Whether a field of the same name stands before `at`: the kept ones are at hand, others are looked for, unless each
+// field before is kept (`plain`).
 fn is_repeated(
     s: &[u8],
     start: usize,
@@ -274,14 +276,18 @@ fn is_repeated(
     field: &[u8],
     tag: Tag,
     slots: Slots,
+    plain: bool,
 ) -> bool
-    ensures { λ r. ⌜ Repeats brackets (now (s .entry)) start at (now (field .entry)) tag slots r ⌝ }
+    ensures { λ r. ⌜ Repeats brackets (now (s .entry)) start at (now (field .entry)) tag slots plain r ⌝ }
 {
     if tag.is_kept() {
         return match slots.get(tag) {
             Slot::Empty => false,
             Slot::Filled(_, _) => true,
         };
+    }
+    if plain {
+        return false;
     }
     has_key(s, start, at, brackets, field)
 }
@@ -295,8 +301,9 @@ fn take_field(
     version: FileFormat,
     brackets: bool,
     slots: Slots,
+    plain: bool,
 ) -> FieldTaken
-    ensures { λ r. ⌜ Takes known (versionOf version) brackets (now (s .entry)) start (c .at) slots r ⌝ }
+    ensures { λ r. ⌜ Takes known (versionOf version) brackets (now (s .entry)) start (c .at) slots plain r ⌝ }
 {
     let at = c.at;
     let FieldRead::Field(equals, text, next) = c.split_field(s, brackets) else {
@@ -309,7 +316,7 @@ fn take_field(
         Check::Refused(x) => return FieldTaken::Refused(x),
         Check::Passed => {}
     }
-    if is_repeated(s, start, at, brackets, field, tag, slots) {
+    if is_repeated(s, start, at, brackets, field, tag, slots, plain) {
         return FieldTaken::Refused(Refusal::DuplicateTag);
     }
     FieldTaken::Field(tag, Slot::Filled(text, tag::id_tag(field)), next)
@@ -324,15 +331,16 @@ fn read_field(
     version: FileFormat,
     brackets: bool,
     slots: Slots,
+    plain: bool,
 ) -> FieldStep
-    ensures { λ r. ⌜ Steps known (versionOf version) brackets (now (s .entry)) start (c .at) slots r ⌝ }
+    ensures { λ r. ⌜ Steps known (versionOf version) brackets (now (s .entry)) start (c .at) slots plain r ⌝ }
 {
-    match take_field(s, start, c, known, version, brackets, slots) {
+    match take_field(s, start, c, known, version, brackets, slots, plain) {
         FieldTaken::Refused(x) => FieldStep::Refused(x),
         FieldTaken::Field(tag, slot, next) => {
             let kept = slots.put(tag, slot);
             match after_field(s, next) {
-                After::More(d) => FieldStep::Next(d, kept),
+                After::More(d) => FieldStep::Next(d, kept, plain & tag.is_kept()),
                 After::Closed => FieldStep::Last(kept),
                 After::Other => FieldStep::Refused(Refusal::InvalidMap),
             }
@@ -353,11 +361,13 @@ fn walk_fields(
     let start = from.at;
     let mut c = from;
     let mut slots = Slots::empty();
+    let mut plain = true;
     loop {
-        match read_field(s, start, c, known, version, brackets, slots) {
-            FieldStep::Next(d, kept) => {
+        match read_field(s, start, c, known, version, brackets, slots, plain) {
+            FieldStep::Next(d, kept, still) => {
                 c = d;
                 slots = kept;
+                plain = still;
             }
             FieldStep::Last(kept) => return FieldsRead::Fields(kept),
             FieldStep::Refused(x) => return FieldsRead::Refused(x),

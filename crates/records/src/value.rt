@@ -155,7 +155,15 @@ pub fn parse_value(s: &[u8], c: Cursor, key: Key, version: FileFormat) -> ValueP
         return ValueParsed::Text;
     }
     match parse_map_value(s, c, key, version) {
-        MapRead::Map(id, tag) => ValueParsed::Map(id, tag),
+        // Field by field: a copy of the whole text drags its padding along, and reading that back stalls the processor.
+        MapRead::Map(id, tag) => ValueParsed::Map(
+            Text {
+                start: id.start,
+                end: id.end,
+                quoted: id.quoted,
+            },
+            tag,
+        ),
         MapRead::Refused(x) => ValueParsed::Refused(x),
     }
 }

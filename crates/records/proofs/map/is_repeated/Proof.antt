@@ -21,11 +21,14 @@ returns c = search (repeats, needs)
 returns-2 : tie.Need-returns-2
 returns-2 c = search (repeats, needs)
 
+returns-3 : tie.Need-returns-3
+returns-3 c = search (repeats, needs)
+
 has-key-requires : tie.Need-has-key-requires
 has-key-requires c κs = search needs
 
-returns-3 : tie.Need-returns-3
-returns-3 c = search (repeats, needs)
+returns-4 : tie.Need-returns-4
+returns-4 c = search (repeats, needs)
 
 pub is-repeated-spec : {M : Type 1} → statement M
 is-repeated-spec =
@@ -37,5 +40,6 @@ is-repeated-spec =
     enum-told-2
     returns
     returns-2
+    returns-3
     has-key-requires
-    returns-3)
+    returns-4)

@@ -21,6 +21,9 @@ after-field-requires c κs = search needs
 enum-known-d : tie.Need-enum-known-d
 enum-known-d c = search needs
 
+is-kept-requires : tie.Need-is-kept-requires
+is-kept-requires c κs = search needs
+
 enum-told : tie.Need-enum-told
 enum-told c = search needs
 
@@ -49,6 +52,7 @@ read-field-spec =
     put-requires
     after-field-requires
     enum-known-d
+    is-kept-requires
     enum-told
     enum-told-2
     returns

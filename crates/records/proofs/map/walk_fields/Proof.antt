@@ -7,10 +7,10 @@ use Rattle.records.proofs.map.walk_fields.Statement.{statement}
 use Rattle.records.proofs.map.walk_fields.Tie as tie
 
 abbrev Inv-loop : tie.InvT-loop
-Inv-loop s known version brackets start c₀ slots₀ c slots = Walking known (versionOf version) brackets s start (c .at) slots
+Inv-loop s known version brackets start c₀ slots₀ plain₀ c slots plain = Walking known (versionOf version) brackets s start (c .at) slots plain
 
 abbrev μ-loop : tie.MeasureT-loop
-μ-loop s known version brackets start c₀ slots₀ c slots = length s - c .at
+μ-loop s known version brackets start c₀ slots₀ plain₀ c slots plain = length s - c .at
 
 empty-requires : tie.Need-empty-requires Inv-loop μ-loop
 empty-requires c κs = search (walks, needs)

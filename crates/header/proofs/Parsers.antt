@@ -5,10 +5,12 @@ use mathlib.Core.Path.{_≡_, refl, sym, ap, subst, _∙_}
 use mathlib.Core.Bool.{Bool, true, false, not}
 use mathlib.Core.List.{List, [], _∷_, _++_, append-assoc, append-nil}
 use mathlib.Core.Option.{Option, none}
-use lib.ListN.{length, take, drop, length-append}
-use lib.Seq.{sets, length-sets, sets-eq}
+use lib.ListN.{length, take, drop, set, length-append}
+use lib.Seq.{sets, length-sets, sets-eq, take-append-seam, take-set-le, take-take}
 use borrow.Author.Tests.{le-leb, lt-leb}
 use Rattle.values.specs.Bytes.{Bytes, LF, is, any}
+use Rattle.values.specs.Utf8.{isAscii}
+use Rattle.values.proofs.Ascii.{ascii-utf8, ascii-part}
 use Rattle.values.proofs.Tests.{not-true, not-false}
 use Rattle.values.proofs.Fields.{part}
 use Rattle.values.proofs.Outputs.{sets-append}
@@ -36,8 +38,10 @@ use Rattle.lines.specs.declared.line.Line.{Line}
 use Rattle.lines.proofs.Lines.{pieces-past, pieces-there}
 use Rattle.columns.specs.HeaderLines.{ColumnsWritten}
 use Rattle.columns.proofs.Answers.{columns-room}
+use Rattle.ids.specs.Marks.{markAll, AllMarked}
+use Rattle.ids.proofs.Markings.{all-length, all-more}
 use Rattle.header.specs.Verdicts.{PhaseIs, Tabled, Says, New, Ended, Begun, LineJudged}
-use Rattle.header.specs.Parsers.{told, tells, Kept, LineHere, Stops, PartialIs, Bounds, Keeps, Parses, Finishes}
+use Rattle.header.specs.Parsers.{told, tells, refusedAs, ReadIs, Kept, LineHere, Stops, PartialIs, Bounds, Keeps, Parses, Finishes}
 use Rattle.header.specs.declared.verdict.Phase.{Phase}
 use Rattle.header.specs.declared.verdict.Phase.the-variants as phase
 use Rattle.header.specs.declared.verdict.Verdict.{Verdict}
@@ -63,6 +67,11 @@ sets-more : (t₀ : List ℕ) (es fs : List Entry) {t : List ℕ} → t ≡ sets
 sets-more t₀ es fs e {n} c =
     let i : 2 * n ≡ 0 + length (words es) = omega (arith, c, words-count es) in
     rw (e, i) (sets-append t₀ 0 (words es) (words fs) ∙ ap (sets t₀ 0) (sym (words-append es fs)))
+
+-- what stands before them stays
+take-before : (t : List ℕ) (i j : ℕ) (ws : List ℕ) → i ≤ j → take i (sets t j ws) ≡ take i t
+take-before t i j [] l = refl
+take-before t i j (w ∷ ws) l = take-before (set t j w) i (suc j) ws (omega arith) ∙ take-set-le i t j w l
 
 rows-snoc : (h : Bytes) (v : Version) (es : List Entry) (rs : List Record) (e : Entry) (r : Record) → Rows limits h v es rs → Row limits h v e r → Rows limits h v (es ++ e ∷ []) (rs ++ r ∷ [])
 rows-snoc h v [] [] e r a b = (b, tt)
@@ -109,7 +118,7 @@ module _ (imposed : Option Version) (h t₀ t : List ℕ) (p : Parser) (l : Byte
 
     line-kept : 2 * (p .count + length (q .1)) ≤ length t → {t′ : List ℕ} → t′ ≡ sets t (2 * p .count) (words (q .1)) → (x : Phase) → PhaseIs x (q .0) → Tabled h (q .0) (k .es ++ q .1)
         → {n : ℕ} → n ≡ p .count + length (q .1)
-        → Kept imposed h t₀ t′ (record { phase = x; line = p .line + 1; at = next; count = n }) × (p .at < next)
+        → PartialIs imposed h t₀ p t (partial.Next (record { phase = x; line = p .line + 1; at = next; count = n })) t′
     line-kept f {t′} s x ph tb {n} c =
         let i : suc (p .line) ≡ p .line + 1 = omega arith in (
           record {
@@ -129,7 +138,7 @@ module _ (imposed : Option Version) (h t₀ t : List ℕ) (p : Parser) (l : Byte
                 ∙ rw (i, ← here .stepped, ← c, ← here .left))
                 ∙ following-append (k .es) (q .1) (run limits imposed (length t₀) (p .line + 1) next n (q .0) (pieces (drop next h)));
           },
-          here .moves,
+          record { at = here .moves; count = omega (arith, c); words = ap (take (2 * p .count)) s ∙ take-before t (2 * p .count) (2 * p .count) (words (q .1)) (omega arith) },
         )
 
     line-taken : Taken limits imposed (p .at) (k .state) l q
@@ -271,14 +280,10 @@ pub ruleset keeps = (keep-refused, begin-full, begin-kept, entry-full, entry-kep
 -- One line: found, judged, kept
 
 pub take-sets : (t₀ : List ℕ) (ws : List ℕ) (n : ℕ) → n ≡ length ws → length ws ≤ length t₀ → take n (sets t₀ 0 ws) ≡ ws
-take-sets t₀ ws n e l = rw (e, sets-eq ws t₀ 0 (omega arith)) (take-front ws (drop (0 + length ws) t₀))
-  where
-    take-front : (a b : List ℕ) → take (length a) (a ++ b) ≡ a
-    take-front [] b = refl
-    take-front (x ∷ a) b = ap (x ∷_) (take-front a b)
+take-sets t₀ ws n e l = rw (e, sets-eq ws t₀ 0 (omega arith)) (take-append-seam ws (drop (0 + length ws) t₀))
 
-module _ (imposed : Option Version) (p : Parser) (h t : List ℕ) {line : Line} (a : LineIs h (p .at) line) {l : Bytes} (b : l ≡ take (line .end - p .at) (drop (p .at) h))
-    {v : Verdict} (d : LineJudged h (take (2 * p .count) t) l (p .phase) imposed v) (r : Partial) (t′ : List ℕ) (e : Keeps p l (line .next) v t r t′) where
+module _ (imposed : Option Version) (plain : Bool) (p : Parser) (h ms t : List ℕ) {line : Line} (a : LineIs h (p .at) line) {l : Bytes} (b : l ≡ take (line .end - p .at) (drop (p .at) h))
+    {v : Verdict} (d : LineJudged h (take (2 * p .count) t) ms plain l (p .phase) imposed v) (r : Partial) (t′ : List ℕ) (e : Keeps p l (line .next) v t r t′) where
   line-here : p .at ≤ length h → p .at < length h → LineHere h (p .at) l (line .next)
   line-here i m =
       let s = pieces-there h (p .at) m in
@@ -294,15 +299,17 @@ module _ (imposed : Option Version) (p : Parser) (h t : List ℕ) {line : Line} 
         inside = a .inside i;
       }
 
-  pub line-parsed : Parses imposed p h t r t′
+  pub line-parsed : Parses imposed plain p h ms t r t′
   line-parsed = record {
-    is = λ t₀ k m.
+    is = λ t₀ k f g m.
         let here = line-here (k .inside) m in
         let fine : Pieces (here .piece ∷ here .pieces-after) = subst Pieces (here .first) (pieces-fine (drop (p .at) h)) in
         let n = words-count (k .es) in
         e .is imposed h t₀ k here (d .is (p .at) (k .state) (k .phase-is) (record {
           es = k .es;
           stored = ap (take (2 * p .count)) (k .stored) ∙ take-sets t₀ (words (k .es)) (2 * p .count) (omega (arith, k .counted)) (omega (arith, k .counted, k .room));
+          marked = g;
+          utf8 = λ i. rw b (ascii-utf8 _ (ascii-part (line .end - p .at) (p .at) h (f i)));
           tabled = k .tabled;
           small = k .small;
           line = ap (any (is LF)) (here .is-line) ∙ piece-line (here .piece) (fine .0);
@@ -364,72 +371,105 @@ module _ (imposed : Option Version) (h t₀ : List ℕ) where
   unfolding reading
   too-long e = rw (reading, lt-leb (length h) 1048575 e)
 
-  pub long-told : 1048575 < length h → told (record { outcome = outcome.Refused HeaderTooLong; line = 0; start = 0; entries = 0 }) ≡ tells (reading limits imposed (length t₀) h)
-  long-told e = rw (too-long e)
-
-  pub long-table : 1048575 < length h → t₀ ≡ sets t₀ 0 (words (reading limits imposed (length t₀) h .entries))
+  pub read-long : 1048575 < length h → {r : ReadAnswer} → r ≡ refusedAs HeaderTooLong 0 0 0 → ReadIs imposed h t₀ r t₀
   unfolding words
-  long-table e = rw (too-long e)
+  read-long e f = record { answer = rw (f, too-long e); table = rw (too-long e) }
 
-  pub read-start : length h ≤ 1048575 → Kept imposed h t₀ t₀ (record { phase = phase.Empty; line = 0; at = 0; count = 0 })
+  -- the lines before the parser are read, and the entries before the last line's are marked
+  pub record Going (plain : Bool) (ms₀ t : List ℕ) (p : Parser) (n : ℕ) (ms : Bytes) : Type 0 where
+    pub kept : Kept imposed h t₀ t p
+    pub ascii-header : plain ≡ true → isAscii h ≡ true
+    pub marked : AllMarked h (take (2 * n) t) ms
+    pub behind : n ≤ p .count
+    pub long : length ms ≡ length ms₀
+
+  pub read-start : length h ≤ 1048575 → {plain : Bool} → plain ≡ isAscii h → (ms : Bytes) → Going plain ms t₀ (record { phase = phase.Empty; line = 0; at = 0; count = 0 }) 0 ms
   unfolding reading words
-  read-start e = record {
-    state = empty;
-    es = [];
-    phase-is = tt;
-    tabled = refl;
-    stored = refl;
-    counted = refl;
-    room = omega arith;
-    lines = omega arith;
-    inside = omega arith;
-    small = e;
-    rest = rw (reading, le-leb (length h) 1048575 e);
+  read-start e a ms = record {
+    kept = record {
+      state = empty;
+      es = [];
+      phase-is = tt;
+      tabled = refl;
+      stored = refl;
+      counted = refl;
+      room = omega arith;
+      lines = omega arith;
+      inside = omega arith;
+      small = e;
+      rest = rw (reading, le-leb (length h) 1048575 e);
+    };
+    ascii-header = λ i. sym a ∙ i;
+    marked = tt;
+    behind = omega arith;
+    long = refl;
   }
 
-  module _ {t : List ℕ} {p : Parser} (k : Kept imposed h t₀ t p) where
+  module _ {plain : Bool} {ms₀ t : List ℕ} {p : Parser} {n : ℕ} {ms : Bytes} (g : Going plain ms₀ t p n ms) where
+    abbrev k : Kept imposed h t₀ t p
+    k = g .kept
+
     pub kept-length : length t ≡ length t₀
     kept-length = ap length (k .stored) ∙ length-sets t₀ 0 (words (k .es))
 
+    pub kept-room : 2 * p .count ≤ length t
+    kept-room = omega (arith, kept-length, k .room)
+
     pub kept-bounds : Bounds (length t) p
-    kept-bounds = record { count = omega (arith, kept-length, k .room); line = omega (arith, k .lines, k .inside, k .small) }
+    kept-bounds = record { count = kept-room; line = omega (arith, k .lines, k .inside, k .small) }
 
-    pub read-end : length h ≤ p .at → {r : ReadAnswer} → Finishes p r → told r ≡ tells (reading limits imposed (length t₀) h)
-    read-end e f = f .is imposed h t₀ t k e
+    pub marks-length : length ms ≡ length ms₀
+    marks-length = g .long
 
-    pub read-table : length h ≤ p .at → t ≡ sets t₀ 0 (words (reading limits imposed (length t₀) h .entries))
-    read-table e = k .stored ∙ ap (λ (es : List Entry). sets t₀ 0 (words es)) (sym (entries-at (k .es) (k .state) (at-end p imposed h t₀ t k e)))
+    pub read-end : length h ≤ p .at → {r : ReadAnswer} → Finishes p r → ReadIs imposed h t₀ r t
+    read-end e f = record {
+      answer = f .is imposed h t₀ t k e;
+      table = k .stored ∙ ap (λ (es : List Entry). sets t₀ 0 (words es)) (sym (entries-at (k .es) (k .state) (at-end p imposed h t₀ t k e)));
+    }
       where
         entries-at : (es : List Entry) (s : State) {x : Reading} → x ≡ following es (atEnd (p .line) (p .at) s) → x .entries ≡ es
         entries-at es empty w = ap (λ (r : Reading). r .entries) w ∙ append-nil es
         entries-at es (ready v rs) w = ap (λ (r : Reading). r .entries) w ∙ append-nil es
         entries-at es (done v rs c) w = ap (λ (r : Reading). r .entries) w ∙ append-nil es
 
-    module _ (m : p .at < length h) (r : Partial) (t′ : List ℕ) (f : Parses imposed p h t r t′) where
-      parsed : {x : Partial} → r ≡ x → PartialIs imposed h t₀ p x t′
-      parsed e = subst (λ (y : Partial). PartialIs imposed h t₀ p y t′) e (f .is t₀ k m)
+    -- the last line's entries are marked too
+    module _ {ns : Bytes} (e : ns ≡ markAll h (drop (2 * n) (take (2 * p .count) t)) ms) where
+      pub marks-kept : length ns ≡ length ms₀
+      marks-kept = ap length e ∙ all-length h (drop (2 * n) (take (2 * p .count) t)) ms ∙ g .long
 
-      pub read-next : {q : Parser} → r ≡ partial.Next q → Kept imposed h t₀ t′ q
-      read-next e = parsed e .0
+      all-marked : AllMarked h (take (2 * p .count) t) ns
+      all-marked = rw e (all-more h n (take (2 * p .count) t) ms (rw (take-take (2 * n) (2 * p .count) t (omega (arith, g .behind))) (g .marked)))
 
-      pub read-less : {q : Parser} → r ≡ partial.Next q → length h - q .at < length h - p .at
-      read-less e = let s = parsed e in omega (arith, s .1, s .0 .inside)
+      module _ (m : p .at < length h) (r : Partial) (t′ : List ℕ) (f : Parses imposed plain p h ns t r t′) where
+        parsed : {x : Partial} → r ≡ x → PartialIs imposed h t₀ p t x t′
+        parsed i = subst (λ (y : Partial). PartialIs imposed h t₀ p t y t′) i (f .is t₀ k (g .ascii-header) all-marked m)
 
-      pub stop-told : {x : Refusal} → r ≡ partial.Refused x
-          → told (record { outcome = outcome.Refused x; line = p .line + 1; start = p .at; entries = p .count }) ≡ tells (reading limits imposed (length t₀) h)
-      stop-told {x} e = let s = parsed e in refused-told (s .es) (s .counted) (s .state) (s .whole)
-        where
-          refused-told : (es : List Entry) → length es ≡ p .count → (s : State) {y : Reading} → y ≡ following es (stop (number x) (suc (p .line)) (p .at) s)
-              → told (record { outcome = outcome.Refused x; line = p .line + 1; start = p .at; entries = p .count }) ≡ tells y
-          refused-told es c s w =
-              let i : suc (p .line) ≡ p .line + 1 = omega arith in
-              let n = number-suc x in
-              rw (w, all-entries p es c, i, n .1)
+        pub read-next : {q : Parser} → r ≡ partial.Next q → Going plain ms₀ t′ q (p .count) ns
+        read-next i = let s = parsed i in record {
+          kept = s .0;
+          ascii-header = g .ascii-header;
+          marked = rw (s .1 .words) all-marked;
+          behind = s .1 .count;
+          long = marks-kept;
+        }
 
-      pub stop-length : {x : Refusal} → r ≡ partial.Refused x → length t′ ≡ length t₀
-      stop-length e = let s = parsed e in ap length (s .stored) ∙ length-sets t₀ 0 (words (s .es))
+        pub read-less : {q : Parser} → r ≡ partial.Next q → length h - q .at < length h - p .at
+        read-less i = let s = parsed i in omega (arith, s .1 .at, s .0 .inside)
 
-      pub stop-table : {x : Refusal} → r ≡ partial.Refused x → t′ ≡ sets t₀ 0 (words (reading limits imposed (length t₀) h .entries))
-      stop-table e = let s = parsed e in s .stored ∙ ap (λ (es : List Entry). sets t₀ 0 (words es)) (sym (ap (λ (y : Reading). y .entries) (s .whole) ∙ append-nil (s .es)))
+        pub stop-length : {x : Refusal} → r ≡ partial.Refused x → length t′ ≡ length t₀
+        stop-length i = let s = parsed i in ap length (s .stored) ∙ length-sets t₀ 0 (words (s .es))
 
-pub ruleset whole = (long-told, long-table, read-start, kept-length, kept-bounds, read-end, read-table, read-next, read-less, stop-told, stop-length, stop-table)
+        pub read-stop : {x : Refusal} → r ≡ partial.Refused x → {a : ReadAnswer} → a ≡ refusedAs x (p .line + 1) (p .at) (p .count) → ReadIs imposed h t₀ a t′
+        read-stop {x} i b = let s = parsed i in record {
+          answer = ap told b ∙ refused-told (s .es) (s .counted) (s .state) (s .whole);
+          table = s .stored ∙ ap (λ (es : List Entry). sets t₀ 0 (words es)) (sym (ap (λ (y : Reading). y .entries) (s .whole) ∙ append-nil (s .es)));
+        }
+          where
+            refused-told : (es : List Entry) → length es ≡ p .count → (s : State) {y : Reading} → y ≡ following es (stop (number x) (suc (p .line)) (p .at) s)
+                → told (refusedAs x (p .line + 1) (p .at) (p .count)) ≡ tells y
+            refused-told es c s w =
+                let i : suc (p .line) ≡ p .line + 1 = omega arith in
+                let n = number-suc x in
+                rw (w, all-entries p es c, i, n .1)
+
+pub ruleset whole = (read-long, read-start, kept-length, kept-room, kept-bounds, marks-length, read-end, marks-kept, read-next, read-less, stop-length, read-stop)

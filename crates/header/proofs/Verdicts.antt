@@ -49,12 +49,14 @@ use Rattle.columns.specs.HeaderLines.{HeaderRead}
 use Rattle.columns.specs.declared.header_line.ColumnsRead.{ColumnsRead}
 use Rattle.columns.specs.declared.header_line.ColumnsRead.the-variants as columns
 use Rattle.columns.proofs.Answers.{columns-read, column-wrong, sample-twice}
-use Rattle.ids.specs.Clashes.{clashNumber, clashIn, prefixOf, Describes}
+use Rattle.ids.specs.Clashes.{clashNumber, prefixOf, Describes}
+use Rattle.ids.specs.Marks.{clashFound}
 use Rattle.ids.specs.declared.scan.Clash.{Clash}
 use Rattle.ids.specs.declared.scan.Clash.the-variants as clashes
 use Rattle.ids.proofs.KeyKinds.{number-small}
 use Rattle.ids.proofs.Clashes.{found-clash}
-use Rattle.header.specs.Verdicts.{imposedOf, PhaseIs, isDonePhase, Says, Scene, FirstJudged, IdJudged, MapJudged, RecordJudged, ColumnsJudged, TextJudged, LineJudged}
+use Rattle.ids.proofs.Markings.{clash-sure}
+use Rattle.header.specs.Verdicts.{imposedOf, PhaseIs, isDonePhase, Says, Scene, FirstJudged, IdJudged, MapJudged, RecordJudged, ColumnsJudged, TextJudged, Utf8Told, LineJudged}
 use Rattle.header.specs.declared.file_format_option.FileFormatOption.{FileFormatOption}
 use Rattle.header.specs.declared.file_format_option.FileFormatOption.the-variants as option
 use Rattle.header.specs.declared.verdict.Phase.{Phase}
@@ -122,13 +124,13 @@ described-small v (fileformat w) prefix kind id q d = absurd d
 described-small v (fields k fs) prefix kind id q d = omega (arith, d .number, number-small (kindOf k) .1)
 described-small v (text k t) prefix kind id q d = omega (arith, d .number)
 
-module _ (h ws prefix : Bytes) (kind : ℕ) (id : Bytes) (quoted : Bool) (w : ℕ) {a : Clash} (e : a ≡ clashIn h ws prefix kind (meaning quoted id)) where
-  found : (l : Bytes) (v : Version) (rs : List Record) (x : Record) → Scene h ws l (ready v rs) → Describes v x prefix kind id quoted → clashNumber a ≡ clash v x rs
+module _ (h ws ms prefix : Bytes) (kind : ℕ) (id : Bytes) (quoted : Bool) (w : ℕ) {a : Clash} (e : a ≡ clashFound h ws ms prefix kind (meaning quoted id)) where
+  found : (l : Bytes) (v : Version) (rs : List Record) (x : Record) → Scene h ws ms l (ready v rs) → Describes v x prefix kind id quoted → clashNumber a ≡ clash v x rs
   found l v rs x s d =
       let t = s .tabled in
-      found-clash limits packed h (s .small) v (t .own) (t .kind) (t .rows) rs (t .all) (t .good) x prefix kind id quoted d {vs = ws} (s .stored ∙ ap words (t .is)) {a = a} e
+      found-clash limits packed h (s .small) v (t .own) (t .kind) (t .rows) rs (t .all) (t .good) x prefix kind id quoted d {vs = ws} (s .stored ∙ ap words (t .is)) {a = a} (e ∙ clash-sure h ws ms prefix kind (meaning quoted id) (s .marked))
 
-  pub id-free : a ≡ clashes.Free → IdJudged h ws prefix kind id quoted w (verdict.Entry kind w)
+  pub id-free : a ≡ clashes.Free → IdJudged h ws ms prefix kind id quoted w (verdict.Entry kind w)
   id-free f = record {
     is = λ l start v rs x s g d q. record {
       v = v;
@@ -144,19 +146,19 @@ module _ (h ws prefix : Bytes) (kind : ℕ) (id : Bytes) (quoted : Bool) (w : �
     };
   }
 
-  pub id-clash : (y : Refusal) {b : Clash} → a ≡ b → {n : ℕ} → clashNumber b ≡ suc n → number y ≡ suc n → IdJudged h ws prefix kind id quoted w (verdict.Refused y)
+  pub id-clash : (y : Refusal) {b : Clash} → a ≡ b → {n : ℕ} → clashNumber b ≡ suc n → number y ≡ suc n → IdJudged h ws ms prefix kind id quoted w (verdict.Refused y)
   id-clash y f g i = record {
     is = λ l start v rs x s r d q.
         enter-judged v rs start l x prefix kind id quoted d ∙ judged-by (ready v (rs ++ x ∷ []), recordEntry v start l x ∷ []) (found l v rs x s d) (ap clashNumber f ∙ g) ∙ ap refuse (sym i);
   }
 
-  pub id-twice : a ≡ clashes.TypedId → IdJudged h ws prefix kind id quoted w (verdict.Refused DuplicateId)
+  pub id-twice : a ≡ clashes.TypedId → IdJudged h ws ms prefix kind id quoted w (verdict.Refused DuplicateId)
   id-twice f = id-clash DuplicateId f refl refl
 
-  pub id-mixed : a ≡ clashes.Mixed → IdJudged h ws prefix kind id quoted w (verdict.Refused MixedValues)
+  pub id-mixed : a ≡ clashes.Mixed → IdJudged h ws ms prefix kind id quoted w (verdict.Refused MixedValues)
   id-mixed f = id-clash MixedValues f refl refl
 
-  pub id-other : a ≡ clashes.OtherId → IdJudged h ws prefix kind id quoted w (verdict.Refused DuplicateOtherId)
+  pub id-other : a ≡ clashes.OtherId → IdJudged h ws ms prefix kind id quoted w (verdict.Refused DuplicateOtherId)
   id-other f = id-clash DuplicateOtherId f refl refl
 
 pub ruleset ids = (id-free, id-twice, id-mixed, id-other)
@@ -233,9 +235,9 @@ module _ (v : Version) (l k : Bytes) (fs : List Field) (line : l ≡ writeRecord
       let c : tag % 4 ≡ tagOf (x .key) = mod-eq-of-lt (omega (arith, x .tagged, tag-small (x .key))) ∙ sym (x .tagged) in
       rw (x .is, a, b, c)
 
-module _ (h ws l : Bytes) (key : Key) (value : ℕ) (id : Text) (tag : ℕ) {prefix : Bytes} (a : prefix ≡ take (value - 0) (drop 0 l)) {name : Bytes} (b : name ≡ textIn l id)
+module _ (h ws ms l : Bytes) (key : Key) (value : ℕ) (id : Text) (tag : ℕ) {prefix : Bytes} (a : prefix ≡ take (value - 0) (drop 0 l)) {name : Bytes} (b : name ≡ textIn l id)
     {w : ℕ} (c : w ≡ identity (id .start % 65536) (length name % 65536) (id .quoted) (tag % 4)) {kind : ℕ} (d : kind ≡ keyKind key) where
-  pub map-judged : (r : Verdict) → IdJudged h ws prefix kind name (id .quoted) w r → MapJudged h ws l key value id tag r
+  pub map-judged : (r : Verdict) → IdJudged h ws ms prefix kind name (id .quoted) w r → MapJudged h ws ms l key value id tag r
   unfolding recordEntry
   map-judged r j = record {
     is = λ start v rs fs s named at read held.
@@ -254,24 +256,24 @@ module _ (h ws l : Bytes) (key : Key) (value : ℕ) (id : Text) (tag : ℕ) {pre
 
 -- A record
 
-module _ (h ws l : Bytes) (v : Version) (x : RecordRead) (a : RecordAre v l x) where
+module _ (h ws ms l : Bytes) (v : Version) (x : RecordRead) (a : RecordAre v l x) where
   record-is : {y : Record} → readRecord v l ≡ ok y → (start : ℕ) (rs : List Record) → (readRecord v l >>= enter v rs start l) ≡ enter v rs start l y
   record-is e start rs = rw e
 
-  pub record-format : {w : FileFormat} → x ≡ read.FileFormat w → RecordJudged h ws v l (verdict.Refused UnexpectedFileFormat)
+  pub record-format : {w : FileFormat} → x ≡ read.FileFormat w → RecordJudged h ws ms v l (verdict.Refused UnexpectedFileFormat)
   record-format e = record { is = λ start rs s. record-is (subst (RecordIs v l) e (a .is)) start rs }
 
-  pub record-refused : {y : Refusal} → x ≡ read.Refused y → RecordJudged h ws v l (verdict.Refused y)
+  pub record-refused : {y : Refusal} → x ≡ read.Refused y → RecordJudged h ws ms v l (verdict.Refused y)
   record-refused e = record { is = λ start rs s. ap (λ (y : Answer Record). y >>= enter v rs start l) (subst (RecordIs v l) e (a .is)) }
 
-  pub record-map : {key : Key} {at : ℕ} {id : Text} {tag : ℕ} → x ≡ read.Map key at id tag → (r : Verdict) → MapJudged h ws l key at id tag r → RecordJudged h ws v l r
+  pub record-map : {key : Key} {at : ℕ} {id : Text} {tag : ℕ} → x ≡ read.Map key at id tag → (r : Verdict) → MapJudged h ws ms l key at id tag r → RecordJudged h ws ms v l r
   record-map e r j = record {
     is = λ start rs s.
         let m = subst (RecordIs v l) e (a .is) in
         subst (λ (y : Answer (State × List Entry)). Says y start (ready v rs) l r) (sym (record-is (m .3) start rs)) (j .is start v rs (m .0) s (m .1) (m .2) (m .3) (m .4));
   }
 
-  pub record-text : {at : ℕ} → x ≡ read.Text at → {prefix : Bytes} → prefix ≡ take (at - 0) (drop 0 l) → {id : Bytes} (r : Verdict) → IdJudged h ws prefix 8 id false 0 r → RecordJudged h ws v l r
+  pub record-text : {at : ℕ} → x ≡ read.Text at → {prefix : Bytes} → prefix ≡ take (at - 0) (drop 0 l) → {id : Bytes} (r : Verdict) → IdJudged h ws ms prefix 8 id false 0 r → RecordJudged h ws ms v l r
   unfolding recordEntry
   record-text {at} e p r j = record {
     is = λ start rs s.
@@ -312,8 +314,8 @@ pub ruleset all-columns = (columns-good, columns-wrong, columns-twice)
 
 -- A line, by its phase
 
-module _ (h ws l : Bytes) (imposed : Option Version) (p : Phase) where
-  pub text-first : p ≡ phase.Empty → (r : Verdict) → FirstJudged imposed l r → TextJudged h ws l p imposed r
+module _ (h ws ms l : Bytes) (imposed : Option Version) (p : Phase) where
+  pub text-first : p ≡ phase.Empty → (r : Verdict) → FirstJudged imposed l r → TextJudged h ws ms l p imposed r
   text-first e r j = record { is = λ start s q c. go start s (subst (λ (x : Phase). PhaseIs x s) e q) }
     where
       go : (start : ℕ) (s : State) → PhaseIs phase.Empty s → Says (stepText imposed start s l) start s l r
@@ -321,7 +323,7 @@ module _ (h ws l : Bytes) (imposed : Option Version) (p : Phase) where
       go start (ready v rs) q = absurd q
       go start (done v rs c) q = absurd q
 
-  pub text-done : {f : FileFormat} {n : ℕ} → p ≡ phase.Done f n → TextJudged h ws l p imposed (verdict.Refused ExpectedEof)
+  pub text-done : {f : FileFormat} {n : ℕ} → p ≡ phase.Done f n → TextJudged h ws ms l p imposed (verdict.Refused ExpectedEof)
   unfolding stepText
   text-done {f} {n} e = record { is = λ start s q c. go start s (subst (λ (x : Phase). PhaseIs x s) e q) }
     where
@@ -331,13 +333,13 @@ module _ (h ws l : Bytes) (imposed : Option Version) (p : Phase) where
       go start (done v rs c) q = refl
 
   module _ {f : FileFormat} (e : p ≡ phase.Ready f) {q : Bool} (a : q ≡ starts (ascii "#CHROM") l) where
-    in-ready : (r : Verdict) → ((start : ℕ) (rs : List Record) → Scene h ws l (ready (versionOf f) rs) → Says (stepText imposed start (ready (versionOf f) rs) l) start (ready (versionOf f) rs) l r)
-        → TextJudged h ws l p imposed r
+    in-ready : (r : Verdict) → ((start : ℕ) (rs : List Record) → Scene h ws ms l (ready (versionOf f) rs) → Says (stepText imposed start (ready (versionOf f) rs) l) start (ready (versionOf f) rs) l r)
+        → TextJudged h ws ms l p imposed r
     in-ready r j = record { is = λ start s x c. go start s (subst (λ (y : Phase). PhaseIs y s) e x) c }
       where
-        go : (start : ℕ) (s : State) → PhaseIs (phase.Ready f) s → Scene h ws l s → Says (stepText imposed start s l) start s l r
+        go : (start : ℕ) (s : State) → PhaseIs (phase.Ready f) s → Scene h ws ms l s → Says (stepText imposed start s l) start s l r
         go start empty x c = absurd x
-        go start (ready v rs) x c = subst (λ (w : Version). Scene h ws l (ready w rs) → Says (stepText imposed start (ready w rs) l) start (ready w rs) l r) (sym x) (j start rs) c
+        go start (ready v rs) x c = subst (λ (w : Version). Scene h ws ms l (ready w rs) → Says (stepText imposed start (ready w rs) l) start (ready w rs) l r) (sym x) (j start rs) c
         go start (done v rs k) x c = absurd x
 
     ready-columns : q ≡ true → (start : ℕ) (rs : List Record) → stepText imposed start (ready (versionOf f) rs) l ≡ (readColumns l >>= finish (versionOf f) rs start l)
@@ -348,10 +350,10 @@ module _ (h ws l : Bytes) (imposed : Option Version) (p : Phase) where
     unfolding stepText
     ready-record b start rs = rw (stepText, sym a ∙ b)
 
-    pub text-columns : q ≡ true → (r : Verdict) → ColumnsJudged l f r → TextJudged h ws l p imposed r
+    pub text-columns : q ≡ true → (r : Verdict) → ColumnsJudged l f r → TextJudged h ws ms l p imposed r
     text-columns b r j = in-ready r (λ start rs c. subst (λ (y : Answer (State × List Entry)). Says y start (ready (versionOf f) rs) l r) (sym (ready-columns b start rs)) (j .is start rs))
 
-    pub text-record : q ≡ false → (r : Verdict) → RecordJudged h ws (versionOf f) l r → TextJudged h ws l p imposed r
+    pub text-record : q ≡ false → (r : Verdict) → RecordJudged h ws ms (versionOf f) l r → TextJudged h ws ms l p imposed r
     text-record b r j = in-ready r (λ start rs c. subst (λ (y : Answer (State × List Entry)). Says y start (ready (versionOf f) rs) l r) (sym (ready-record b start rs)) (j .is start rs c))
 
 pub ruleset texts = (text-first, text-done, text-columns, text-record)
@@ -367,30 +369,47 @@ phase-done (phase.Done f n) empty x = absurd x
 phase-done (phase.Done f n) (ready v rs) x = absurd x
 phase-done (phase.Done f n) (done v rs c) x = refl
 
-module _ (h ws l : Bytes) (imposed : Option Version) (p : Phase) {d : Bool} (a : d ≡ isDonePhase p) where
-  pub line-done : d ≡ true → LineJudged h ws l p imposed (verdict.Refused ExpectedEof)
+-- what answers the needs of `is_utf8`
+pub utf8-known : (l : Bytes) {plain : Bool} → plain ≡ true → Utf8Told plain l true
+utf8-known l e = record { is = λ f. sym (f e) }
+
+pub utf8-looked : (plain : Bool) (l : Bytes) {r : Bool} → r ≡ isUtf8 l → Utf8Told plain l r
+utf8-looked plain l e = record { is = λ f. e }
+
+pub ruleset utf8s = (utf8-known, utf8-looked)
+
+module _ (h ws ms : Bytes) (plain : Bool) (l : Bytes) (imposed : Option Version) (p : Phase) {d : Bool} (a : d ≡ isDonePhase p) where
+  pub line-done : d ≡ true → LineJudged h ws ms plain l p imposed (verdict.Refused ExpectedEof)
   unfolding step
   line-done e = record { is = λ start s x u. rw (step, phase-done p s x ∙ sym a ∙ e) }
 
   module _ (e : d ≡ false) where
-    pub line-long : 65535 < length l → LineJudged h ws l p imposed (verdict.Refused LineTooLong)
+    pub line-long : 65535 < length l → LineJudged h ws ms plain l p imposed (verdict.Refused LineTooLong)
     unfolding step
     line-long n = record { is = λ start s x u. rw (step, phase-done p s x ∙ sym a ∙ e, lt-leb (length l) 65535 n) }
 
-    module _ (n : length l ≤ 65535) {q : Bool} (b : q ≡ isUtf8 l) where
-      pub line-bytes : not q ≡ true → LineJudged h ws l p imposed (verdict.Refused InvalidUtf8)
+    module _ (n : length l ≤ 65535) {q : Bool} (b : Utf8Told plain l q) where
+      pub line-bytes : not q ≡ true → LineJudged h ws ms plain l p imposed (verdict.Refused InvalidUtf8)
       unfolding step
-      line-bytes f = record { is = λ start s x u. rw (step, phase-done p s x ∙ sym a ∙ e, le-leb (length l) 65535 n, sym b ∙ not-true q f) }
+      line-bytes f = record { is = λ start s x u. rw (step, phase-done p s x ∙ sym a ∙ e, le-leb (length l) 65535 n, sym (b .is (u .utf8)) ∙ not-true q f) }
 
-      pub line-text : not q ≡ false → (r : Verdict) → TextJudged h ws l p imposed r → LineJudged h ws l p imposed r
+      pub line-text : not q ≡ false → (r : Verdict) → TextJudged h ws ms l p imposed r → LineJudged h ws ms plain l p imposed r
       unfolding step
       line-text f r j = record {
         is = λ start s x u.
-            subst (λ (y : Answer (State × List Entry)). Says y start s l r) (sym (stepped start s x))
-            (j .is start s x (record { es = u .es; stored = u .stored; tabled = u .tabled; small = u .small; short = n; pure = record { utf8 = sym b ∙ not-false q f; line = u .line } }));
+            subst (λ (y : Answer (State × List Entry)). Says y start s l r) (sym (stepped start s x (sym (b .is (u .utf8)) ∙ not-false q f)))
+            (j .is start s x (record {
+              es = u .es;
+              stored = u .stored;
+              marked = u .marked;
+              tabled = u .tabled;
+              small = u .small;
+              short = n;
+              pure = record { utf8 = sym (b .is (u .utf8)) ∙ not-false q f; line = u .line };
+            }));
       }
         where
-          stepped : (start : ℕ) (s : State) → PhaseIs p s → step limits imposed start s l ≡ stepText imposed start s l
-          stepped start s x = rw (step, phase-done p s x ∙ sym a ∙ e, le-leb (length l) 65535 n, sym b ∙ not-false q f)
+          stepped : (start : ℕ) (s : State) → PhaseIs p s → isUtf8 l ≡ true → step limits imposed start s l ≡ stepText imposed start s l
+          stepped start s x t = rw (step, phase-done p s x ∙ sym a ∙ e, le-leb (length l) 65535 n, t)
 
 pub ruleset all-lines = (line-done, line-long, line-bytes, line-text)

@@ -1,11 +1,13 @@
 -- The line machine beside the rules' run over a header's pieces, and what a reading answers. Assumes nothing.
 use Prim.Native.Nat.{ℕ, zero, suc, _+_, _*_, _≤_, _<_}
 use mathlib.Core.Path.{_≡_}
+use mathlib.Core.Bool.{Bool, true}
 use mathlib.Core.List.{List, _∷_}
 use mathlib.Core.Option.{Option, none, some}
-use lib.ListN.{length, drop}
+use lib.ListN.{length, take, drop}
 use lib.Seq.{sets}
-use Rattle.values.specs.Bytes.{Bytes, is}
+use Rattle.values.specs.Bytes.{Bytes}
+use Rattle.values.specs.Utf8.{isAscii}
 use Rattle.rules.specs.Sizes.{limits}
 use Rattle.rules.specs.Version.{Version}
 use Rattle.rules.specs.Lines.{pieces, lineOf}
@@ -14,6 +16,7 @@ use Rattle.rules.specs.Reading.{State, empty, ready, done, step, Reading, stop,
 use Rattle.records.specs.Formats.{versionOf}
 use Rattle.records.specs.Refusals.{number}
 use Rattle.records.specs.declared.refusal.Refusal.{Refusal}
+use Rattle.ids.specs.Marks.{AllMarked}
 use Rattle.header.specs.Verdicts.{PhaseIs, Tabled, Says}
 use Rattle.header.specs.declared.verdict.Verdict.{Verdict}
 use Rattle.header.specs.declared.parser.Outcome.{Outcome}
@@ -52,6 +55,14 @@ acceptedIn (suc n) s = none
 abbrev pub tells : Reading → Told
 tells r = record { number = r .number; line = r .line; start = r .start; entries = length (r .entries); accepted = acceptedIn (r .number) (r .state) }
 
+abbrev pub refusedAs : Refusal → ℕ → ℕ → ℕ → ReadAnswer
+refusedAs x line start entries = record { outcome = outcome.Refused x; line = line; start = start; entries = entries }
+
+-- what a reading answers, and the table after it
+pub record ReadIs (imposed : Option Version) (h t : List ℕ) (r : ReadAnswer) (t′ : List ℕ) : Type 0 where
+  pub answer : told r ≡ tells (reading limits imposed (length t) h)
+  pub table : t′ ≡ sets t 0 (words (reading limits imposed (length t) h .entries))
+
 -- the rest of the header, read from here, gives the whole reading; the table holds the entries kept so far
 pub record Kept (imposed : Option Version) (h t₀ t : List ℕ) (p : Parser) : Type 0 where
   pub state : State
@@ -85,9 +96,16 @@ pub record Stops (imposed : Option Version) (h t₀ t : List ℕ) (p : Parser) (
   pub counted : length es ≡ p .count
   pub whole : reading limits imposed (length t₀) h ≡ following es (stop (number x) (suc (p .line)) (p .at) state)
 
-abbrev pub PartialIs : Option Version → Bytes → List ℕ → Parser → Partial → List ℕ → Type 0
-PartialIs imposed h t₀ p (partial.Next q) t = Kept imposed h t₀ t q × (p .at < q .at)
-PartialIs imposed h t₀ p (partial.Refused x) t = Stops imposed h t₀ t p x
+-- a line further, where the words of the entries before it stay as they are
+pub record Further (p : Parser) (t : List ℕ) (q : Parser) (t′ : List ℕ) : Type 0 where
+  pub at : p .at < q .at
+  pub count : p .count ≤ q .count
+  pub words : take (2 * p .count) t′ ≡ take (2 * p .count) t
+
+-- t is the table before, t′ the one after
+abbrev pub PartialIs : Option Version → Bytes → List ℕ → Parser → List ℕ → Partial → List ℕ → Type 0
+PartialIs imposed h t₀ p t (partial.Next q) t′ = Kept imposed h t₀ t′ q × Further p t q t′
+PartialIs imposed h t₀ p t (partial.Refused x) t′ = Stops imposed h t₀ t′ p x
 
 pub record Bounds (n : ℕ) (p : Parser) : Type 0 where
   pub count : 2 * p .count ≤ n
@@ -95,10 +113,12 @@ pub record Bounds (n : ℕ) (p : Parser) : Type 0 where
 
 pub record Keeps (p : Parser) (l : Bytes) (next : ℕ) (v : Verdict) (t : List ℕ) (r : Partial) (t′ : List ℕ) : Type 0 where
   pub is : (imposed : Option Version) (h t₀ : List ℕ) (k : Kept imposed h t₀ t p) → LineHere h (p .at) l next
-      → Says (step limits imposed (p .at) (k .state) l) (p .at) (k .state) l v → PartialIs imposed h t₀ p r t′
+      → Says (step limits imposed (p .at) (k .state) l) (p .at) (k .state) l v → PartialIs imposed h t₀ p t r t′
 
-pub record Parses (imposed : Option Version) (p : Parser) (h t : List ℕ) (r : Partial) (t′ : List ℕ) : Type 0 where
-  pub is : (t₀ : List ℕ) → Kept imposed h t₀ t p → p .at < length h → PartialIs imposed h t₀ p r t′
+-- plain: the header is known to be ASCII; ms: the marks of the entries kept so far
+pub record Parses (imposed : Option Version) (plain : Bool) (p : Parser) (h ms t : List ℕ) (r : Partial) (t′ : List ℕ) : Type 0 where
+  pub is : (t₀ : List ℕ) → Kept imposed h t₀ t p → (plain ≡ true → isAscii h ≡ true) → AllMarked h (take (2 * p .count) t) ms → p .at < length h
+      → PartialIs imposed h t₀ p t r t′
 
 pub record Finishes (p : Parser) (r : ReadAnswer) : Type 0 where
   pub is : (imposed : Option Version) (h t₀ t : List ℕ) → Kept imposed h t₀ t p → length h ≤ p .at → told r ≡ tells (reading limits imposed (length t₀) h)

@@ -6,6 +6,7 @@ use mathlib.Core.List.{List, [], _∷_, _++_}
 use mathlib.Core.Option.{Option, none, some}
 use lib.ListN.{length}
 use Rattle.values.specs.Bytes.{Bytes, LF, ascii, is, any}
+use Rattle.values.specs.Utf8.{isUtf8}
 use Rattle.values.specs.Field.{Field}
 use Rattle.values.specs.declared.string.Text.{Text}
 use Rattle.rules.specs.Answer.{Answer, ok, refuse, _>>=_}
@@ -30,6 +31,7 @@ use Rattle.records.specs.declared.key.Key.{Key}
 use Rattle.records.specs.declared.file_format.FileFormat.{FileFormat}
 use Rattle.records.specs.declared.map.Slot.the-variants as slot
 use Rattle.ids.specs.Clashes.{Describes}
+use Rattle.ids.specs.Marks.{AllMarked}
 use Rattle.header.specs.declared.file_format_option.FileFormatOption.{FileFormatOption}
 use Rattle.header.specs.declared.file_format_option.FileFormatOption.the-variants as option
 use Rattle.header.specs.declared.verdict.Phase.{Phase}
@@ -106,18 +108,21 @@ Says a start s l (verdict.Columns f n) = Ended a start s l f n
 Says a start s l (verdict.Refused x) = a ≡ refuse (number x)
 
 -- a line in its header, with the entries kept so far
-pub record Scene (h ws l : Bytes) (s : State) : Type 0 where
+pub record Scene (h ws ms l : Bytes) (s : State) : Type 0 where
   pub es : List Entry
   pub stored : ws ≡ words es
+  pub marked : AllMarked h ws ms
   pub tabled : Tabled h s es
   pub small : length h ≤ limits .header
   pub short : length l ≤ limits .line
   pub pure : Pure l
 
--- the same before the line's length and bytes are looked at
-pub record Unchecked (h ws l : Bytes) (s : State) : Type 0 where
+-- the same before the line's length and bytes are looked at; plain: the header is known to be ASCII
+pub record Unchecked (h ws ms : Bytes) (plain : Bool) (l : Bytes) (s : State) : Type 0 where
   pub es : List Entry
   pub stored : ws ≡ words es
+  pub marked : AllMarked h ws ms
+  pub utf8 : plain ≡ true → isUtf8 l ≡ true
   pub tabled : Tabled h s es
   pub small : length h ≤ limits .header
   pub line : any (is LF) l ≡ false
@@ -126,23 +131,27 @@ pub record FirstJudged (imposed : Option Version) (l : Bytes) (r : Verdict) : Ty
   pub is : (start : ℕ) → Says (stepText imposed start empty l) start empty l r
 
 -- a new record that is described so
-pub record IdJudged (h ws prefix : Bytes) (kind : ℕ) (id : Bytes) (quoted : Bool) (w : ℕ) (r : Verdict) : Type 0 where
-  pub is : (l : Bytes) (start : ℕ) (v : Version) (rs : List Record) (x : Record) → Scene h ws l (ready v rs) → readRecord v l ≡ ok x → Describes v x prefix kind id quoted
+pub record IdJudged (h ws ms prefix : Bytes) (kind : ℕ) (id : Bytes) (quoted : Bool) (w : ℕ) (r : Verdict) : Type 0 where
+  pub is : (l : Bytes) (start : ℕ) (v : Version) (rs : List Record) (x : Record) → Scene h ws ms l (ready v rs) → readRecord v l ≡ ok x → Describes v x prefix kind id quoted
       → recordEntry v start l x ≡ (place kind start (length l), w) → Says (enter v rs start l x) start (ready v rs) l r
 
-pub record MapJudged (h ws l : Bytes) (key : Key) (value : ℕ) (id : Text) (tag : ℕ) (r : Verdict) : Type 0 where
-  pub is : (start : ℕ) (v : Version) (rs : List Record) (fs : List Field) → Scene h ws l (ready v rs) → Named (keyIn l) key → value ≡ valueStart l → readRecord v l ≡ ok (fields (keyIn l) fs)
+pub record MapJudged (h ws ms l : Bytes) (key : Key) (value : ℕ) (id : Text) (tag : ℕ) (r : Verdict) : Type 0 where
+  pub is : (start : ℕ) (v : Version) (rs : List Record) (fs : List Field) → Scene h ws ms l (ready v rs) → Named (keyIn l) key → value ≡ valueStart l → readRecord v l ≡ ok (fields (keyIn l) fs)
       → slotted (textNamed v (keyIn l) (ascii "ID") (fieldsStart (keyIn l)) fs) ≡ slot.Filled id tag → Says (enter v rs start l (fields (keyIn l) fs)) start (ready v rs) l r
 
-pub record RecordJudged (h ws : Bytes) (v : Version) (l : Bytes) (r : Verdict) : Type 0 where
-  pub is : (start : ℕ) (rs : List Record) → Scene h ws l (ready v rs) → Says (readRecord v l >>= enter v rs start l) start (ready v rs) l r
+pub record RecordJudged (h ws ms : Bytes) (v : Version) (l : Bytes) (r : Verdict) : Type 0 where
+  pub is : (start : ℕ) (rs : List Record) → Scene h ws ms l (ready v rs) → Says (readRecord v l >>= enter v rs start l) start (ready v rs) l r
 
 pub record ColumnsJudged (l : Bytes) (f : FileFormat) (r : Verdict) : Type 0 where
   pub is : (start : ℕ) (rs : List Record) → Says (readColumns l >>= finish (versionOf f) rs start l) start (ready (versionOf f) rs) l r
 
-pub record TextJudged (h ws l : Bytes) (p : Phase) (imposed : Option Version) (r : Verdict) : Type 0 where
-  pub is : (start : ℕ) (s : State) → PhaseIs p s → Scene h ws l s → Says (stepText imposed start s l) start s l r
+pub record TextJudged (h ws ms l : Bytes) (p : Phase) (imposed : Option Version) (r : Verdict) : Type 0 where
+  pub is : (start : ℕ) (s : State) → PhaseIs p s → Scene h ws ms l s → Says (stepText imposed start s l) start s l r
+
+-- whether the line is UTF-8, where it is so in an ASCII header
+pub record Utf8Told (plain : Bool) (l : Bytes) (r : Bool) : Type 0 where
+  pub is : (plain ≡ true → isUtf8 l ≡ true) → r ≡ isUtf8 l
 
 -- 1, 2 and 3 come first
-pub record LineJudged (h ws l : Bytes) (p : Phase) (imposed : Option Version) (r : Verdict) : Type 0 where
-  pub is : (start : ℕ) (s : State) → PhaseIs p s → Unchecked h ws l s → Says (step limits imposed start s l) start s l r
+pub record LineJudged (h ws ms : Bytes) (plain : Bool) (l : Bytes) (p : Phase) (imposed : Option Version) (r : Verdict) : Type 0 where
+  pub is : (start : ℕ) (s : State) → PhaseIs p s → Unchecked h ws ms plain l s → Says (step limits imposed start s l) start s l r

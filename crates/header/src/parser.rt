@@ -6,10 +6,12 @@ use crate::verdict::Verdict;
 use columns::header_line;
 use entries::table;
 use entries::word;
+use ids::marks;
 use lines::line;
 use records::file_format::FileFormat;
 use records::refusal::Refusal;
 use values::bytes;
+use values::utf8;
 ghost use mathlib.Core.Path.{_≡_};
 ghost use lib.ListN.{length};
 ghost use lib.Seq.{sets};
@@ -17,7 +19,7 @@ ghost use Rattle.rules.specs.Sizes.{limits};
 ghost use Rattle.rules.specs.Entry.{words};
 ghost use Rattle.rules.specs.Reading.{reading};
 ghost use Rattle.header.specs.Verdicts.{imposedOf};
-ghost use Rattle.header.specs.Parsers.{told, tells, Bounds, Keeps, Parses, Finishes};
+ghost use Rattle.header.specs.Parsers.{told, tells, refusedAs, Bounds, Keeps, Parses, Finishes, ReadIs};
 
 // What a header is found to be: accepted, with the version in force and the number of samples, or refused.
 pub enum Outcome {
@@ -100,17 +102,24 @@ impl Parser {
         }
     }
 
-    // One line: found, judged, then kept.
-    fn parse_partial(self, h: &[u8], imposed: FileFormatOption, table: &mut [u64]) -> Partial
+    // One line: found, judged, then kept. `marks` are those of the entries kept so far; `ascii`: the header is known to be ASCII.
+    fn parse_partial(
+        self,
+        h: &[u8],
+        imposed: FileFormatOption,
+        ascii: bool,
+        marks: &[u8],
+        table: &mut [u64],
+    ) -> Partial
         requires { ⌜ Bounds (length (now table)) self ⌝ }
-        ensures { λ r. ⌜ Parses (imposedOf imposed) self (now (h .entry)) (now (table .entry)) r (now (table .exit)) ⌝ }
+        ensures { λ r. ⌜ Parses (imposedOf imposed) ascii self (now (h .entry)) (now (marks .entry)) (now (table .entry)) r (now (table .exit)) ⌝ }
     {
         let start = self.at;
         let count = self.count;
         let phase = self.phase;
         let found = line::next_line(h, start);
         let l = bytes::part(h, start, found.end);
-        let verdict = verdict::judge_line(h, &table[..2 * count], l, phase, imposed);
+        let verdict = verdict::judge_line(h, &table[..2 * count], marks, l, phase, imposed, ascii);
         self.keep(l, found.next, verdict, table)
     }
 
@@ -141,19 +150,31 @@ impl Parser {
     }
 }
 
-// Reads a header into the table: two words for each entry, from the first word on.
-pub fn read(header: &[u8], imposed: FileFormatOption, table: &mut [u64]) -> ReadAnswer
-    ensures answer { λ r. ⌜ told r ≡ tells (reading limits (imposedOf imposed) (length (now (table .entry))) (now (header .entry))) ⌝ }
-    ensures table { λ _. ⌜ now (table .exit) ≡ sets (now (table .entry)) 0 (words (reading limits (imposedOf imposed) (length (now (table .entry))) (now (header .entry)) .entries)) ⌝ }
+fn refuse(x: Refusal, line: usize, start: usize, entries: usize) -> ReadAnswer
+    ensures { λ r. ⌜ r ≡ refusedAs x line start entries ⌝ }
+{
+    ReadAnswer {
+        outcome: Outcome::Refused(x),
+        line,
+        start,
+        entries,
+    }
+}
+
+// The entries are marked in `marks`, whatever stands there before.
+fn read_lines(
+    header: &[u8],
+    imposed: FileFormatOption,
+    table: &mut [u64],
+    marks: &mut [u8],
+) -> ReadAnswer
+    ensures { λ r. ⌜ ReadIs (imposedOf imposed) (now (header .entry)) (now (table .entry)) r (now (table .exit)) ⌝ }
 {
     if 1048575 < header.len() {
-        return ReadAnswer {
-            outcome: Outcome::Refused(Refusal::HeaderTooLong),
-            line: 0,
-            start: 0,
-            entries: 0,
-        };
+        return refuse(Refusal::HeaderTooLong, 0, 0, 0);
     }
+    let ascii = utf8::is_ascii(header);
+    let mut marked = 0;
     let mut parser = Parser {
         phase: Phase::Empty,
         line: 0,
@@ -161,17 +182,27 @@ pub fn read(header: &[u8], imposed: FileFormatOption, table: &mut [u64]) -> Read
         count: 0,
     };
     while parser.at < header.len() {
-        match parser.parse_partial(header, imposed, table) {
+        let count = parser.count;
+        marks::mark_entries(header, &table[..2 * count], marked, marks);
+        marked = count;
+        match parser.parse_partial(header, imposed, ascii, marks, table) {
             Partial::Next(next) => parser = next,
-            Partial::Refused(x) => {
-                return ReadAnswer {
-                    outcome: Outcome::Refused(x),
-                    line: parser.line + 1,
-                    start: parser.at,
-                    entries: parser.count,
-                };
-            }
+            Partial::Refused(x) => return refuse(x, parser.line + 1, parser.at, count),
         }
     }
     parser.finish()
+}
+
+// Reads a header into the table: two words for each entry, from the first word on.
+pub fn read(header: &[u8], imposed: FileFormatOption, table: &mut [u64]) -> ReadAnswer
+    ensures answer { λ r. ⌜ told r ≡ tells (reading limits (imposedOf imposed) (length (now (table .entry))) (now (header .entry))) ⌝ }
+    ensures table { λ _. ⌜ now (table .exit) ≡ sets (now (table .entry)) 0 (words (reading limits (imposedOf imposed) (length (now (table .entry))) (now (header .entry)) .entries)) ⌝ }
+{
+    // A short header has few entries, and clearing more marks than they need would take longer than reading it.
+    if header.len() < 65536 {
+        let mut marks = [0u8; 4096];
+        return read_lines(header, imposed, table, &mut marks);
+    }
+    let mut marks = [0u8; 65536];
+    read_lines(header, imposed, table, &mut marks)
 }

@@ -17,7 +17,7 @@ ghost use mathlib.Core.Path.{_≡_};
 ghost use Rattle.rules.specs.Version.{inForce};
 ghost use Rattle.rules.proofs.Versions.{Sized};
 ghost use Rattle.records.specs.Formats.{versionOf};
-ghost use Rattle.header.specs.Verdicts.{imposedOf, isDonePhase, IdJudged, FirstJudged, MapJudged, RecordJudged, ColumnsJudged, TextJudged, LineJudged};
+ghost use Rattle.header.specs.Verdicts.{imposedOf, isDonePhase, IdJudged, FirstJudged, MapJudged, RecordJudged, ColumnsJudged, TextJudged, Utf8Told, LineJudged};
 
 // Before the fileformat line; after it, with the version in force; after the column line, with the number of samples too.
 pub enum Phase {
@@ -60,15 +60,16 @@ fn judge_first(l: &[u8], imposed: FileFormatOption) -> Verdict
 fn judge_id(
     h: &[u8],
     words: &[u64],
+    marks: &[u8],
     prefix: &[u8],
     kind: u64,
     id: &[u8],
     quoted: bool,
     identity: u64,
 ) -> Verdict
-    ensures { λ r. ⌜ IdJudged (now (h .entry)) (now (words .entry)) (now (prefix .entry)) kind (now (id .entry)) quoted identity r ⌝ }
+    ensures { λ r. ⌜ IdJudged (now (h .entry)) (now (words .entry)) (now (marks .entry)) (now (prefix .entry)) kind (now (id .entry)) quoted identity r ⌝ }
 {
-    match scan::find_clash(h, words, prefix, kind, id, quoted) {
+    match scan::find_clash(h, words, marks, prefix, kind, id, quoted) {
         Clash::Free => Verdict::Entry(kind, identity),
         Clash::TypedId => Verdict::Refused(Refusal::DuplicateId),
         Clash::Mixed => Verdict::Refused(Refusal::MixedValues),
@@ -79,28 +80,47 @@ fn judge_id(
 fn judge_map(
     h: &[u8],
     words: &[u64],
+    marks: &[u8],
     l: &[u8],
     key: Key,
     value: usize,
     id: Text,
     tag: u8,
 ) -> Verdict
-    ensures { λ r. ⌜ MapJudged (now (h .entry)) (now (words .entry)) (now (l .entry)) key value id tag r ⌝ }
+    ensures { λ r. ⌜ MapJudged (now (h .entry)) (now (words .entry)) (now (marks .entry)) (now (l .entry)) key value id tag r ⌝ }
 {
     let prefix = bytes::part(l, 0, value);
     let name = bytes::part(l, id.start, id.end);
     let length = name.len();
     let identity = word::identity(id.start, length, id.quoted, tag);
-    judge_id(h, words, prefix, key.kind(), name, id.quoted, identity)
+    judge_id(
+        h,
+        words,
+        marks,
+        prefix,
+        key.kind(),
+        name,
+        id.quoted,
+        identity,
+    )
 }
 
-fn judge_record(h: &[u8], words: &[u64], l: &[u8], version: FileFormat) -> Verdict
-    ensures { λ r. ⌜ RecordJudged (now (h .entry)) (now (words .entry)) (versionOf version) (now (l .entry)) r ⌝ }
+fn judge_record(h: &[u8], words: &[u64], marks: &[u8], l: &[u8], version: FileFormat) -> Verdict
+    ensures { λ r. ⌜ RecordJudged (now (h .entry)) (now (words .entry)) (now (marks .entry)) (versionOf version) (now (l .entry)) r ⌝ }
 {
     match record::parse_record(l, version) {
         RecordRead::FileFormat(_) => Verdict::Refused(Refusal::UnexpectedFileFormat),
-        RecordRead::Map(key, value, id, tag) => judge_map(h, words, l, key, value, id, tag),
-        RecordRead::Text(value) => judge_id(h, words, bytes::part(l, 0, value), 8, b"", false, 0),
+        RecordRead::Map(key, value, id, tag) => judge_map(h, words, marks, l, key, value, id, tag),
+        RecordRead::Text(value) => judge_id(
+            h,
+            words,
+            marks,
+            bytes::part(l, 0, value),
+            8,
+            b"",
+            false,
+            0,
+        ),
         RecordRead::Refused(x) => Verdict::Refused(x),
     }
 }
@@ -109,15 +129,27 @@ fn judge_columns(l: &[u8], version: FileFormat) -> Verdict
     ensures { λ r. ⌜ ColumnsJudged (now (l .entry)) version r ⌝ }
 {
     match header_line::parse_header(l) {
-        ColumnsRead::Columns(_, samples) => Verdict::Columns(version, samples),
+        // Field by field: a copy of the whole lies across an entry's words, and reading those back stalls the processor.
+        ColumnsRead::Columns(_, samples) => {
+            let major = version.major;
+            let minor = version.minor;
+            Verdict::Columns(FileFormat { major, minor }, samples)
+        }
         ColumnsRead::WrongColumn => Verdict::Refused(Refusal::InvalidHeader),
         ColumnsRead::DuplicateSample => Verdict::Refused(Refusal::DuplicateSampleName),
     }
 }
 
 // A line of UTF-8, by its phase.
-fn judge_text(h: &[u8], words: &[u64], l: &[u8], phase: Phase, imposed: FileFormatOption) -> Verdict
-    ensures { λ r. ⌜ TextJudged (now (h .entry)) (now (words .entry)) (now (l .entry)) phase (imposedOf imposed) r ⌝ }
+fn judge_text(
+    h: &[u8],
+    words: &[u64],
+    marks: &[u8],
+    l: &[u8],
+    phase: Phase,
+    imposed: FileFormatOption,
+) -> Verdict
+    ensures { λ r. ⌜ TextJudged (now (h .entry)) (now (words .entry)) (now (marks .entry)) (now (l .entry)) phase (imposedOf imposed) r ⌝ }
 {
     match phase {
         Phase::Empty => judge_first(l, imposed),
@@ -125,7 +157,7 @@ fn judge_text(h: &[u8], words: &[u64], l: &[u8], phase: Phase, imposed: FileForm
             if bytes::starts_with(l, b"#CHROM") {
                 return judge_columns(l, version);
             }
-            judge_record(h, words, l, version)
+            judge_record(h, words, marks, l, version)
         }
         Phase::Done(_, _) => Verdict::Refused(Refusal::ExpectedEof),
     }
@@ -143,15 +175,27 @@ impl Phase {
     }
 }
 
-// A line, by 1, 2, 3, then its grammar; `words` are those of the entries before it.
+// An ASCII header is not looked at line by line.
+fn is_utf8(l: &[u8], ascii: bool) -> bool
+    ensures { λ r. ⌜ Utf8Told ascii (now (l .entry)) r ⌝ }
+{
+    if ascii {
+        return true;
+    }
+    utf8::utf8(l)
+}
+
+// A line, by 1, 2, 3, then its grammar; `words` are those of the entries before it, which are marked.
 pub fn judge_line(
     h: &[u8],
     words: &[u64],
+    marks: &[u8],
     l: &[u8],
     phase: Phase,
     imposed: FileFormatOption,
+    ascii: bool,
 ) -> Verdict
-    ensures { λ r. ⌜ LineJudged (now (h .entry)) (now (words .entry)) (now (l .entry)) phase (imposedOf imposed) r ⌝ }
+    ensures { λ r. ⌜ LineJudged (now (h .entry)) (now (words .entry)) (now (marks .entry)) ascii (now (l .entry)) phase (imposedOf imposed) r ⌝ }
 {
     if phase.is_done() {
         return Verdict::Refused(Refusal::ExpectedEof);
@@ -159,8 +203,8 @@ pub fn judge_line(
     if 65535 < l.len() {
         return Verdict::Refused(Refusal::LineTooLong);
     }
-    if !utf8::utf8(l) {
+    if !is_utf8(l, ascii) {
         return Verdict::Refused(Refusal::InvalidUtf8);
     }
-    judge_text(h, words, l, phase, imposed)
+    judge_text(h, words, marks, l, phase, imposed)
 }

@@ -7,7 +7,7 @@ use header::file_format_option::FileFormatOption;
 use header::parser;
 use header::parser::Outcome;
 use header::parser::ReadAnswer;
-use ids::scan;
+use ids::parts;
 use records::file_format::FileFormat;
 use records::refusal::Refusal;
 ghost use mathlib.Core.Path.{_≡_};
@@ -80,7 +80,7 @@ fn put_form(h: &[u8], words: &[u64], version: FileFormat, out: &mut [u8]) -> Pro
     };
     let formatted = progress::put_version(version, out, begun);
     let recorded = put_records(h, words, version, out, formatted);
-    let columns = scan::line_part(h, column_word(words));
+    let columns = parts::line_part(h, column_word(words));
     progress::put_plain(columns, out, recorded)
 }
 

@@ -2,7 +2,7 @@
 use crate::progress;
 use crate::progress::Progress;
 use entries::word;
-use ids::scan;
+use ids::parts;
 use records::file_format::FileFormat;
 use values::bytes;
 ghost use mathlib.Core.Path.{_≡_};
@@ -21,7 +21,7 @@ fn is_under(h: &[u8], w: u64, prefix: &[u8]) -> bool
     if 8 < kind {
         return false;
     }
-    let line = scan::line_part(h, w);
+    let line = parts::line_part(h, w);
     bytes::starts_with(line, prefix)
 }
 
@@ -82,7 +82,7 @@ pub fn put_typed(
 fn prefix_part(h: &[u8], w: u64) -> &[u8]
     ensures { λ r. ⌜ now r ≡ prefixIn (now (h .entry)) w ⌝ }
 {
-    let line = scan::line_part(h, w);
+    let line = parts::line_part(h, w);
     let end = bytes::find(line, 0, b'=');
     if line.len() <= end {
         return line;

@@ -1,6 +1,6 @@
 // Lines of the form, one after another: what does not fit into the output is counted and not written.
 use forms::line;
-use ids::scan;
+use ids::parts;
 use records::file_format::FileFormat;
 use values::output;
 ghost use mathlib.Core.Path.{_≡_};
@@ -61,7 +61,7 @@ fn note_line(s: Progress, end: usize, next: usize) -> Progress
 pub fn put_entry(h: &[u8], w: u64, version: FileFormat, out: &mut [u8], s: Progress) -> Progress
     ensures { λ r. ⌜ PutsEntry (versionOf version) (lineIn (now (h .entry)) w) (now (out .entry)) s r (now (out .exit)) ⌝ }
 {
-    let line = scan::line_part(h, w);
+    let line = parts::line_part(h, w);
     let at = s.next;
     let put = line::put_line(out, at, line, version);
     note_line(s, put.end, put.next)

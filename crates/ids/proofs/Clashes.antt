@@ -30,7 +30,7 @@ use Rattle.rules.proofs.Sound.{Good}
 use Rattle.rules.proofs.Texts.{LineOf, record-in}
 use Rattle.rules.proofs.Trace.{LineAt, Row, Rows}
 use Rattle.rules.proofs.Shows.{Packed, place-kind, place-start, place-length, part-part, id-in, map-words}
-use Rattle.ids.specs.Clashes.{clashNumber, lineIn, idIn, idMeaning, hasKey, keySeen, isUnder, hasId, idSeen, clashIn, prefixOf, Describes}
+use Rattle.ids.specs.Clashes.{clashNumber, lineIn, idIn, idMeaning, hasKey, keySeen, isUnder, hasId, idSeen, clashBy, clashIn, prefixOf, Describes}
 use Rattle.ids.specs.declared.scan.Clash.{Clash}
 use Rattle.ids.proofs.KeyKinds.{typed-below, number-small, untyped-number, one-key}
 
@@ -290,19 +290,19 @@ module _ (v : Version) (k : Bytes) (fs : List Field) where
 -- What the words answer
 
 answer-typed : (h : Bytes) (ws : List ℕ) (prefix : Bytes) (kind : ℕ) (m : Bytes) → ltb kind 7 ≡ true → clashNumber (clashIn h ws prefix kind m) ≡ cond (idSeen h prefix kind m ws) 19 0
-unfolding clashIn
-answer-typed h ws prefix kind m l = elim (test (idSeen h prefix kind m ws)) [ pass e ↦ rw (clashIn, l, e) | fail e ↦ rw (clashIn, l, e) ]
+unfolding clashBy
+answer-typed h ws prefix kind m l = elim (test (idSeen h prefix kind m ws)) [ pass e ↦ rw (clashBy, l, e) | fail e ↦ rw (clashBy, l, e) ]
 
 answer-map : (h : Bytes) (ws : List ℕ) (prefix m : Bytes) → clashNumber (clashIn h ws prefix 7 m) ≡ cond (keySeen h prefix 8 ws) 20 (cond (idSeen h prefix 7 m ws) 21 0)
-unfolding clashIn
+unfolding clashBy
 answer-map h ws prefix m = elim (test (keySeen h prefix 8 ws)) [
-  | pass e ↦ rw (clashIn, e)
-  | fail e ↦ elim (test (idSeen h prefix 7 m ws)) [ pass f ↦ rw (clashIn, e, f) | fail f ↦ rw (clashIn, e, f) ]
+  | pass e ↦ rw (clashBy, e)
+  | fail e ↦ elim (test (idSeen h prefix 7 m ws)) [ pass f ↦ rw (clashBy, e, f) | fail f ↦ rw (clashBy, e, f) ]
 ]
 
 answer-text : (h : Bytes) (ws : List ℕ) (prefix m : Bytes) → clashNumber (clashIn h ws prefix 8 m) ≡ cond (keySeen h prefix 7 ws) 20 0
-unfolding clashIn
-answer-text h ws prefix m = elim (test (keySeen h prefix 7 ws)) [ pass e ↦ rw (clashIn, e) | fail e ↦ rw (clashIn, e) ]
+unfolding clashBy
+answer-text h ws prefix m = elim (test (keySeen h prefix 7 ws)) [ pass e ↦ rw (clashBy, e) | fail e ↦ rw (clashBy, e) ]
 
 -- the fileformat line's entry has no part in it
 module _ (h prefix : Bytes) (e₀ : Entry) (format : kindIn (e₀ .0) ≡ 1) (es : List Entry) where

@@ -1,3 +1,4 @@
 pub mod Seen
 pub mod KeyKinds
 pub mod Clashes
+pub mod Markings

@@ -19,7 +19,7 @@ use Rattle.values.specs.declared.cursor.ByteRead.{ByteRead}
 use Rattle.values.specs.declared.cursor.ByteRead.the-variants.{Byte, End}
 use Rattle.values.proofs.Meanings.{Comparing, compare, both-end, right-longer, left-longer, differ as byte-differs, agree, told-less}
 use Rattle.rules.specs.Shown.{kindIn, startIn, lengthIn, offsetIn, idLengthIn, quotedIn}
-use Rattle.ids.specs.Clashes.{lineIn, idIn, idMeaning, hasKey, keySeen, isUnder, hasId, idSeen, clashIn, lastOf, MayEqual, Candidate}
+use Rattle.ids.specs.Clashes.{lineIn, idIn, idMeaning, hasKey, keySeen, isUnder, hasId, idSeen, clashBy, lastOf, MayEqual, Candidate}
 use Rattle.ids.specs.declared.scan.Clash.the-variants.{Free, TypedId, Mixed, OtherId}
 
 -- the parts of an entry, as the code cuts them
@@ -248,40 +248,37 @@ pub ruleset bytes = (both-ended, entry-ended, new-ended, bytes-differ, bytes-agr
 
 -- What is answered of the two scans
 
-module _ (h : Bytes) (ws : List ℕ) (prefix : Bytes) (kind : ℕ) (id : Bytes) (quoted : Bool) where
-  abbrev m : Bytes
-  m = meaning quoted id
+module _ (kind : ℕ) {i : Bool} (m x : Bool) where
+  module _ (l : kind < 7) {r : Bool} (er : r ≡ i) where
+    pub typed-clash : r ≡ true → TypedId ≡ clashBy kind i m x
+    unfolding clashBy
+    typed-clash e = rw (clashBy, lt-ltb kind 7 l, ← er, e)
 
-  module _ (l : kind < 7) {r : Bool} (er : r ≡ idSeen h prefix kind m ws) where
-    pub typed-clash : r ≡ true → TypedId ≡ clashIn h ws prefix kind m
-    unfolding clashIn
-    typed-clash e = rw (clashIn, lt-ltb kind 7 l, ← er, e)
+    pub typed-free : r ≡ false → Free ≡ clashBy kind i m x
+    unfolding clashBy
+    typed-free e = rw (clashBy, lt-ltb kind 7 l, ← er, e)
 
-    pub typed-free : r ≡ false → Free ≡ clashIn h ws prefix kind m
-    unfolding clashIn
-    typed-free e = rw (clashIn, lt-ltb kind 7 l, ← er, e)
+module _ (kind : ℕ) (i : Bool) {m : Bool} (x : Bool) (l : 7 ≤ kind) (ek : kind ≡ 7) {t : Bool} (et : t ≡ m) where
+  pub map-mixed : t ≡ true → Mixed ≡ clashBy kind i m x
+  unfolding clashBy
+  map-mixed e = rw (clashBy, le-ltb kind 7 l, eq-eqb kind 7 ek, ← et, e)
 
-  module _ (l : 7 ≤ kind) (ek : kind ≡ 7) {t : Bool} (et : t ≡ keySeen h prefix 8 ws) where
-    pub map-mixed : t ≡ true → Mixed ≡ clashIn h ws prefix kind m
-    unfolding clashIn
-    map-mixed e = rw (clashIn, le-ltb kind 7 l, eq-eqb kind 7 ek, ← et, e)
+  module _ (e : t ≡ false) {r : Bool} (er : r ≡ i) where
+    pub map-clash : r ≡ true → OtherId ≡ clashBy kind i m x
+    unfolding clashBy
+    map-clash f = rw (clashBy, le-ltb kind 7 l, eq-eqb kind 7 ek, ← et, e, ← er, f)
 
-    module _ (e : t ≡ false) {r : Bool} (er : r ≡ idSeen h prefix kind m ws) where
-      pub map-clash : r ≡ true → OtherId ≡ clashIn h ws prefix kind m
-      unfolding clashIn
-      map-clash f = rw (clashIn, le-ltb kind 7 l, eq-eqb kind 7 ek, ← et, e, ← er, f)
+    pub map-free : r ≡ false → Free ≡ clashBy kind i m x
+    unfolding clashBy
+    map-free f = rw (clashBy, le-ltb kind 7 l, eq-eqb kind 7 ek, ← et, e, ← er, f)
 
-      pub map-free : r ≡ false → Free ≡ clashIn h ws prefix kind m
-      unfolding clashIn
-      map-free f = rw (clashIn, le-ltb kind 7 l, eq-eqb kind 7 ek, ← et, e, ← er, f)
+module _ (kind : ℕ) (i m : Bool) {x : Bool} (l : 7 ≤ kind) (ne : kind ≡ 7 → ⊥) {t : Bool} (et : t ≡ x) where
+  pub text-mixed : t ≡ true → Mixed ≡ clashBy kind i m x
+  unfolding clashBy
+  text-mixed e = rw (clashBy, le-ltb kind 7 l, ne-eqb kind 7 ne, ← et, e)
 
-  module _ (l : 7 ≤ kind) (ne : kind ≡ 7 → ⊥) {t : Bool} (et : t ≡ keySeen h prefix 7 ws) where
-    pub text-mixed : t ≡ true → Mixed ≡ clashIn h ws prefix kind m
-    unfolding clashIn
-    text-mixed e = rw (clashIn, le-ltb kind 7 l, ne-eqb kind 7 ne, ← et, e)
-
-    pub text-free : t ≡ false → Free ≡ clashIn h ws prefix kind m
-    unfolding clashIn
-    text-free e = rw (clashIn, le-ltb kind 7 l, ne-eqb kind 7 ne, ← et, e)
+  pub text-free : t ≡ false → Free ≡ clashBy kind i m x
+  unfolding clashBy
+  text-free e = rw (clashBy, le-ltb kind 7 l, ne-eqb kind 7 ne, ← et, e)
 
 pub ruleset clashes = (typed-clash, typed-free, map-mixed, map-clash, map-free, text-mixed, text-free)

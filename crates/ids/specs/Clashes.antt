@@ -59,18 +59,18 @@ idSeen h prefix kind id [] = false
 idSeen h prefix kind id (w ∷ []) = false
 idSeen h prefix kind id (w ∷ x ∷ ws) = hasId h prefix kind id w x || idSeen h prefix kind id ws
 
--- 19 for a typed kind; 20, then 21, for an other map; 20 for an other text
-unfoldable pub clashIn : Bytes → List ℕ → Bytes → ℕ → Bytes → Clash
-clashIn h ws prefix kind id = elim (ltb kind 7) [
-  | true ↦ elim (idSeen h prefix kind id ws) [ true ↦ TypedId | false ↦ Free ]
+-- 19 for a typed kind; 20, then 21, for an other map; 20 for an other text: whether the ID was seen, the key with a text, and with a map
+unfoldable pub clashBy : ℕ → Bool → Bool → Bool → Clash
+clashBy kind idIs textIs mapIs = elim (ltb kind 7) [
+  | true ↦ elim idIs [ true ↦ TypedId | false ↦ Free ]
   | false ↦ elim (eqb kind 7) [
-    | true ↦ elim (keySeen h prefix 8 ws) [
-      | true ↦ Mixed
-      | false ↦ elim (idSeen h prefix kind id ws) [ true ↦ OtherId | false ↦ Free ]
-    ]
-    | false ↦ elim (keySeen h prefix 7 ws) [ true ↦ Mixed | false ↦ Free ]
+    | true ↦ elim textIs [ true ↦ Mixed | false ↦ elim idIs [ true ↦ OtherId | false ↦ Free ] ]
+    | false ↦ elim mapIs [ true ↦ Mixed | false ↦ Free ]
   ]
 ]
+
+abbrev pub clashIn : Bytes → List ℕ → Bytes → ℕ → Bytes → Clash
+clashIn h ws prefix kind id = clashBy kind (idSeen h prefix kind id ws) (keySeen h prefix 8 ws) (keySeen h prefix 7 ws)
 
 -- 0 where there is none
 abbrev pub lastOf : Bytes → ℕ

@@ -1,31 +1,20 @@
-// Refusals 19 to 21: a new line against the entries kept so far, by the words of their table.
+// What a new line clashes with among the entries kept so far, by the words of their table.
+use crate::marks;
+use crate::parts;
 use entries::word;
 use values::bytes;
 use values::cursor::ByteRead;
 use values::cursor::Cursor;
 ghost use mathlib.Core.Path.{_≡_};
 ghost use Rattle.values.specs.Value.{meaning};
-ghost use Rattle.ids.specs.Clashes.{lineIn, idIn, lastOf, isUnder, MayEqual, Candidate, keySeen, idSeen, clashIn};
+ghost use Rattle.ids.specs.Clashes.{lastOf, isUnder, MayEqual, Candidate, keySeen, idSeen};
+ghost use Rattle.ids.specs.Marks.{keyFound, idFound, clashFound};
 
 pub enum Clash {
     Free,
     TypedId,
     Mixed,
     OtherId,
-}
-
-pub fn line_part(h: &[u8], w: u64) -> &[u8]
-    ensures { λ r. ⌜ now r ≡ lineIn (now (h .entry)) w ⌝ }
-{
-    let start = word::start_in(w);
-    bytes::part(h, start, start + word::length_in(w))
-}
-
-fn id_part(h: &[u8], w: u64, x: u64) -> &[u8]
-    ensures { λ r. ⌜ now r ≡ idIn (now (h .entry)) w x ⌝ }
-{
-    let start = word::start_in(w) + word::offset_in(x);
-    bytes::part(h, start, start + word::id_length_in(x))
 }
 
 // A typed kind has one key; an other record's key is told by its line.
@@ -35,7 +24,7 @@ fn is_under(h: &[u8], w: u64, prefix: &[u8], kind: u64) -> bool
     if kind < 7 {
         return true;
     }
-    let line = line_part(h, w);
+    let line = parts::line_part(h, w);
     bytes::starts_with(line, prefix)
 }
 
@@ -105,7 +94,7 @@ fn key_seen(h: &[u8], words: &[u64], prefix: &[u8], kind: u64) -> bool
         let w = words[k];
         k += 2;
         if word::kind_in(w) == kind {
-            let line = line_part(h, w);
+            let line = parts::line_part(h, w);
             if bytes::starts_with(line, prefix) {
                 return true;
             }
@@ -129,7 +118,7 @@ fn id_seen(h: &[u8], words: &[u64], prefix: &[u8], kind: u64, id: &[u8], quoted:
         if !is_candidate(h, w, x, prefix, kind, id, last, quoted) {
             continue 'entries;
         }
-        let p = id_part(h, w, x);
+        let p = parts::id_part(h, w, x);
         let q = word::quoted_in(x);
         let mut i = Cursor { at: 0 };
         let mut j = Cursor { at: 0 };
@@ -154,35 +143,64 @@ fn id_seen(h: &[u8], words: &[u64], prefix: &[u8], kind: u64, id: &[u8], quoted:
     found
 }
 
-// What is wrong with a new line beside the entries kept so far. `prefix` is the line's `##key=`, `kind` its kind's number,
-// `id` its ID's bytes without quotes, empty for a text.
+// The same two, where the marks don't tell it already.
+fn has_key(h: &[u8], words: &[u64], marks: &[u8], prefix: &[u8], kind: u64) -> bool
+    ensures { λ r. ⌜ r ≡ keyFound (now (h .entry)) (now (words .entry)) (now (marks .entry)) (now (prefix .entry)) kind ⌝ }
+{
+    if !marks::is_marked(marks, kind, b"", false) {
+        return false;
+    }
+    key_seen(h, words, prefix, kind)
+}
+
+fn has_id(
+    h: &[u8],
+    words: &[u64],
+    marks: &[u8],
+    prefix: &[u8],
+    kind: u64,
+    id: &[u8],
+    quoted: bool,
+) -> bool
+    ensures { λ r.
+        ⌜ r ≡ idFound (now (h .entry)) (now (words .entry)) (now (marks .entry)) (now (prefix .entry)) kind (meaning quoted (now (id .entry))) ⌝ }
+{
+    if !marks::is_marked(marks, kind, id, quoted) {
+        return false;
+    }
+    id_seen(h, words, prefix, kind, id, quoted)
+}
+
+// What is wrong with a new line beside the entries kept so far, which are marked. `prefix` is the line's `##key=`, `kind`
+// its kind's number, `id` its ID's bytes without quotes, empty for a text.
 pub fn find_clash(
     h: &[u8],
     words: &[u64],
+    marks: &[u8],
     prefix: &[u8],
     kind: u64,
     id: &[u8],
     quoted: bool,
 ) -> Clash
     ensures { λ r.
-        ⌜ r ≡ clashIn (now (h .entry)) (now (words .entry)) (now (prefix .entry)) kind (meaning quoted (now (id .entry))) ⌝ }
+        ⌜ r ≡ clashFound (now (h .entry)) (now (words .entry)) (now (marks .entry)) (now (prefix .entry)) kind (meaning quoted (now (id .entry))) ⌝ }
 {
     if kind < 7 {
-        if id_seen(h, words, prefix, kind, id, quoted) {
+        if has_id(h, words, marks, prefix, kind, id, quoted) {
             return Clash::TypedId;
         }
         return Clash::Free;
     }
     if kind == 7 {
-        if key_seen(h, words, prefix, 8) {
+        if has_key(h, words, marks, prefix, 8) {
             return Clash::Mixed;
         }
-        if id_seen(h, words, prefix, kind, id, quoted) {
+        if has_id(h, words, marks, prefix, kind, id, quoted) {
             return Clash::OtherId;
         }
         return Clash::Free;
     }
-    if key_seen(h, words, prefix, 7) {
+    if has_key(h, words, marks, prefix, 7) {
         return Clash::Mixed;
     }
     Clash::Free

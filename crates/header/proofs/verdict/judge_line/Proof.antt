@@ -12,8 +12,8 @@ returns c = search (all-lines, needs)
 returns-2 : tie.Need-returns-2
 returns-2 c = search (all-lines, needs)
 
-utf8-requires : tie.Need-utf8-requires
-utf8-requires c κs = search (all-lines, needs)
+is-utf8-requires : tie.Need-is-utf8-requires
+is-utf8-requires c κs = search (all-lines, needs)
 
 returns-3 : tie.Need-returns-3
 returns-3 c = search (all-lines, needs)
@@ -31,7 +31,7 @@ judge-line-spec =
     is-done-requires
     returns
     returns-2
-    utf8-requires
+    is-utf8-requires
     returns-3
     judge-text-requires
     returns-4)

@@ -3,8 +3,8 @@ use borrow.Author.Needs.{needs}
 use Rattle.ids.proofs.scan.find_clash.Statement.{statement}
 use Rattle.ids.proofs.scan.find_clash.Tie as tie
 
-id-seen-requires : tie.Need-id-seen-requires
-id-seen-requires c κs = search (clashes, needs)
+has-id-requires : tie.Need-has-id-requires
+has-id-requires c κs = search (clashes, needs)
 
 returns : tie.Need-returns
 returns c = search (clashes, needs)
@@ -12,14 +12,14 @@ returns c = search (clashes, needs)
 returns-2 : tie.Need-returns-2
 returns-2 c = search (clashes, needs)
 
-key-seen-requires : tie.Need-key-seen-requires
-key-seen-requires c κs = search (clashes, needs)
+has-key-requires : tie.Need-has-key-requires
+has-key-requires c κs = search (clashes, needs)
 
 returns-3 : tie.Need-returns-3
 returns-3 c = search (clashes, needs)
 
-id-seen-requires-2 : tie.Need-id-seen-requires-2
-id-seen-requires-2 c κs = search (clashes, needs)
+has-id-requires-2 : tie.Need-has-id-requires-2
+has-id-requires-2 c κs = search (clashes, needs)
 
 returns-4 : tie.Need-returns-4
 returns-4 c = search (clashes, needs)
@@ -27,8 +27,8 @@ returns-4 c = search (clashes, needs)
 returns-5 : tie.Need-returns-5
 returns-5 c = search (clashes, needs)
 
-key-seen-requires-2 : tie.Need-key-seen-requires-2
-key-seen-requires-2 c κs = search (clashes, needs)
+has-key-requires-2 : tie.Need-has-key-requires-2
+has-key-requires-2 c κs = search (clashes, needs)
 
 returns-6 : tie.Need-returns-6
 returns-6 c = search (clashes, needs)
@@ -40,14 +40,14 @@ pub find-clash-spec : {M : Type 1} → statement M
 find-clash-spec =
     tie.close
     (tie.spec
-    id-seen-requires
+    has-id-requires
     returns
     returns-2
-    key-seen-requires
+    has-key-requires
     returns-3
-    id-seen-requires-2
+    has-id-requires-2
     returns-4
     returns-5
-    key-seen-requires-2
+    has-key-requires-2
     returns-6
     returns-7)

@@ -1,7 +1,7 @@
 use Rattle.ids.proofs.Seen.{cuts}
 use borrow.Author.Needs.{needs}
-use Rattle.ids.proofs.scan.id_part.Statement.{statement}
-use Rattle.ids.proofs.scan.id_part.Tie as tie
+use Rattle.ids.proofs.parts.id_part.Statement.{statement}
+use Rattle.ids.proofs.parts.id_part.Tie as tie
 
 start-in-requires : tie.Need-start-in-requires
 start-in-requires c κs = search (cuts, needs)

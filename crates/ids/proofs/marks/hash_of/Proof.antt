@@ -1,0 +1,59 @@
+use Prim.Native.Nat.{_-_}
+use lib.ListN.{length}
+use Rattle.ids.proofs.Markings.{Hashing, hashes}
+use borrow.Author.Needs.{needs}
+use Rattle.ids.proofs.marks.hash_of.Statement.{statement}
+use Rattle.ids.proofs.marks.hash_of.Tie as tie
+
+abbrev Inv-loop : tie.InvT-loop
+Inv-loop kind id quoted hash₀ c₀ hash c = Hashing kind id quoted hash (c .at)
+
+abbrev μ-loop : tie.MeasureT-loop
+μ-loop kind id quoted hash₀ c₀ hash c = length id - c .at
+
+loop-holds : tie.Need-loop-holds Inv-loop μ-loop
+loop-holds c = search (hashes, needs)
+
+next-unescaped-requires : tie.Need-next-unescaped-requires Inv-loop μ-loop
+next-unescaped-requires c κs = search (hashes, needs)
+
+enum-known-b : tie.Need-enum-known-b Inv-loop μ-loop
+enum-known-b c = search (hashes, needs)
+
+enum-told : tie.Need-enum-told Inv-loop μ-loop
+enum-told c = search (hashes, needs)
+
+returns : tie.Need-returns Inv-loop μ-loop
+returns c = search (hashes, needs)
+
+mul-hash : tie.Need-mul-hash Inv-loop μ-loop
+mul-hash c = search (hashes, needs)
+
+cast-hash : tie.Need-cast-hash Inv-loop μ-loop
+cast-hash c = search (hashes, needs)
+
+add-hash : tie.Need-add-hash Inv-loop μ-loop
+add-hash c = search (hashes, needs)
+
+loop-less : tie.Need-loop-less Inv-loop μ-loop
+loop-less c = search (hashes, needs)
+
+loop-again : tie.Need-loop-again Inv-loop μ-loop
+loop-again c = search (hashes, needs)
+
+pub hash-of-spec : {M : Type 1} → statement M
+hash-of-spec =
+    tie.close
+    (tie.spec
+    Inv-loop
+    μ-loop
+    loop-holds
+    next-unescaped-requires
+    enum-known-b
+    enum-told
+    returns
+    mul-hash
+    cast-hash
+    add-hash
+    loop-less
+    loop-again)

@@ -1,0 +1,24 @@
+use Rattle.ids.proofs.Markings.{scans}
+use borrow.Author.Needs.{needs}
+use Rattle.ids.proofs.scan.has_key.Statement.{statement}
+use Rattle.ids.proofs.scan.has_key.Tie as tie
+
+slice-aggregate-is-marked : tie.Need-slice-aggregate-is-marked
+slice-aggregate-is-marked c = search (scans, needs)
+
+is-marked-requires : tie.Need-is-marked-requires
+is-marked-requires c κs = search (scans, needs)
+
+returns : tie.Need-returns
+returns c = search (scans, needs)
+
+key-seen-requires : tie.Need-key-seen-requires
+key-seen-requires c κs = search (scans, needs)
+
+returns-2 : tie.Need-returns-2
+returns-2 c = search (scans, needs)
+
+pub has-key-spec : {M : Type 1} → statement M
+has-key-spec =
+    tie.close
+    (tie.spec slice-aggregate-is-marked is-marked-requires returns key-seen-requires returns-2)

@@ -1,86 +1,22 @@
 -- Marks: what they tell of the entries, and a turn of each loop on plain values. Assumes nothing.
-use Prim.Native.Nat.{ℕ, zero, suc, _+_, _-_, _*_, _/_, _%_, _<_, _≤_}
+use Prim.Native.Nat.{ℕ, zero, suc, _+_, _*_, _/_, _<_, _≤_}
 use native.Mathlib.Omega.{arith}
-use native.Mathlib.Nat.{mod-lt}
-use mathlib.Core.Path.{_≡_, refl, sym, ap, subst, _∙_}
-use mathlib.Core.Bool.{Bool, true, false, not, _||_, _&&_, false≢true}
+use mathlib.Core.Path.{_≡_, refl, sym, ap, _∙_}
+use mathlib.Core.Bool.{Bool, true, false, not, _&&_, false≢true}
 use mathlib.Core.List.{List, [], _∷_}
 use lib.Dec.{eqb}
-use lib.ListN.{length, getD, take, drop, set, length-set}
-use lib.Seq.{getD-set-same, getD-set-other}
-use borrow.Author.Tests.{eq-eqb, ne-eqb, eqb-true, eqb-false}
+use lib.ListN.{length, getD, take, drop}
+use borrow.Author.Tests.{eqb-true}
 use Rattle.values.specs.Bytes.{Bytes, starts, same}
 use Rattle.values.specs.Value.{meaning}
-use Rattle.values.specs.Places.{unescapedAt}
-use Rattle.values.specs.declared.cursor.Cursor.{Cursor}
-use Rattle.values.specs.declared.cursor.ByteRead.{ByteRead}
-use Rattle.values.specs.declared.cursor.ByteRead.the-variants.{Byte, End}
-use Rattle.values.proofs.Tests.{pass, fail, test, and-l, and-r, not-true, not-false, or-on}
+use Rattle.values.specs.Marks.{isMarked, mark}
+use Rattle.values.proofs.Tests.{pass, fail, test, and-l, and-r, not-true, not-false}
 use Rattle.values.proofs.Sames.{same-sound}
-use Rattle.values.proofs.Meanings.{told-end, told-byte, told-less}
+use Rattle.values.proofs.Markings.{mark-length, mark-own, mark-kept, sure}
 use Rattle.rules.specs.Shown.{kindIn, quotedIn}
 use Rattle.ids.specs.Clashes.{lineIn, idIn, idMeaning, hasKey, keySeen, isUnder, hasId, idSeen, clashIn}
-use Rattle.ids.specs.Marks.{hashed, hashOf, isMarked, mark, markEntry, markAll, Marked, AllMarked, keyFound, idFound, clashFound}
+use Rattle.ids.specs.Marks.{markEntry, markAll, Marked, AllMarked, keyFound, idFound, clashFound}
 use Rattle.ids.proofs.Seen.{pair, Short, none, one, short}
-
--- The hash of what is left of an ID, from here on, is the whole hash
-
-pub record Hashing (kind : ℕ) (id : Bytes) (quoted : Bool) (hash i : ℕ) : Type 0 where
-  pub bound : hash < 4294967296
-  pub still : hashOf kind (meaning quoted id) ≡ hashed hash (meaning quoted (drop i id))
-
-pub hash-start : (kind : ℕ) (id : Bytes) (quoted : Bool) → Hashing kind id quoted (kind % 4294967296) 0
-hash-start kind id quoted = record { bound = omega arith; still = refl }
-
-module _ {kind : ℕ} {id : Bytes} {quoted : Bool} {hash i : ℕ} (g : Hashing kind id quoted hash i) where
-  pub hash-small : hash < 4294967296
-  hash-small = g .bound
-
-  module _ {r : ByteRead} (a : r ≡ unescapedAt quoted id i) where
-    pub hash-end : r ≡ End → hash ≡ hashOf kind (meaning quoted id)
-    unfolding hashed
-    hash-end e = sym (g .still ∙ rw (told-end quoted id i a e))
-
-    pub hash-next : {b : ℕ} {c : Cursor} → r ≡ Byte b c → Hashing kind id quoted ((hash * 16777619 + b) % 4294967296) (c .at)
-    unfolding hashed
-    hash-next e = record { bound = omega arith; still = g .still ∙ rw (told-byte quoted id i a e) }
-
-pub ruleset hashes = (hash-start, hash-small, hash-end, hash-next, told-less)
-
--- A slot
-
-module _ (ms : Bytes) (kind : ℕ) (id : Bytes) where
-  pub none-marked : length ms ≡ 0 → true ≡ isMarked ms kind id
-  unfolding isMarked
-  none-marked e = rw e
-
-  pub none-to-mark : length ms ≡ 0 → ms ≡ mark ms kind id
-  unfolding mark
-  none-to-mark e = go ms e
-    where
-      go : (ns : Bytes) → length ns ≡ 0 → ns ≡ set ns (hashOf kind id % length ns) 1
-      go [] e = refl
-      go (n ∷ ns) e = absurd (omega arith)
-
-  module _ (some : length ms ≡ 0 → ⊥) {at : ℕ} (e : at ≡ hashOf kind id % length ms) where
-    pub slot-inside : at < length ms
-    slot-inside = rw e (mod-lt (hashOf kind id) (omega (arith, some)))
-
-    pub slot-marked : eqb (getD ms at 0) 1 ≡ isMarked ms kind id
-    unfolding isMarked
-    slot-marked = rw (e, ne-eqb (length ms) 0 some)
-
-  pub slot-mark : {at : ℕ} → at ≡ hashOf kind id % length ms → set ms at 1 ≡ mark ms kind id
-  unfolding mark
-  slot-mark e = rw e
-
-pub slot-some : {n : ℕ} → (n ≡ 0 → ⊥) → 0 < n
-slot-some ne = omega (arith, ne)
-
-pub slot-is : {hash : ℕ} (n : ℕ) {other : ℕ} → hash ≡ other → hash % n ≡ other % n
-slot-is n e = rw e
-
-pub ruleset slots = (none-marked, none-to-mark, slot-inside, slot-marked, slot-mark, slot-some, slot-is)
 
 -- the code holds the entry's kind in n and its ID in p and q
 pub entry-mark : (h : Bytes) (w x : ℕ) (ms : Bytes) {n : ℕ} → n ≡ kindIn w → {p : Bytes} → p ≡ idIn h w x → {q : Bool} → q ≡ quotedIn x
@@ -89,10 +25,8 @@ unfolding markEntry
 entry-mark h w x ms en ep eq ea eb = eb ∙ rw (ea, en, ep, eq)
 
 entry-length : (h : Bytes) (w x : ℕ) (ms : Bytes) → length (markEntry h w x ms) ≡ length ms
-unfolding markEntry mark
-entry-length h w x ms =
-    let ns = mark ms (kindIn w) [] in
-    length-set ns (hashOf (kindIn w) (idMeaning h w x) % length ns) 1 ∙ length-set ms (hashOf (kindIn w) [] % length ms) 1
+unfolding markEntry
+entry-length h w x ms = mark-length (mark ms (kindIn w) []) (kindIn w) (idMeaning h w x) ∙ mark-length ms (kindIn w) []
 
 -- The entries before k are marked
 
@@ -124,31 +58,6 @@ module _ {h : Bytes} {ws : List ℕ} {from : ℕ} {ms₀ : Bytes} {k : ℕ} {ms 
 pub ruleset markings = (marking-start, marking-next, marking-length, marking-end)
 
 -- What is marked stays so
-
-mark-own : (ms : Bytes) (kind : ℕ) (id : Bytes) → isMarked (mark ms kind id) kind id ≡ true
-unfolding isMarked mark
-mark-own ms kind id = elim (test (eqb (length ms) 0)) [
-  | pass e ↦ rw (length-set ms (hashOf kind id % length ms) 1, e)
-  | fail e ↦
-      let i = hashOf kind id % length ms in
-      let l : i < length ms = mod-lt (hashOf kind id) (omega (arith, eqb-false (length ms) 0 e)) in
-      rw (length-set ms i 1, e, getD-set-same ms i 1 0 l)
-]
-
-mark-kept : (ms : Bytes) (kind : ℕ) (id : Bytes) (j : ℕ) (m : Bytes) → isMarked ms j m ≡ true → isMarked (mark ms kind id) j m ≡ true
-unfolding isMarked mark
-mark-kept ms kind id j m a = elim (test (eqb (length ms) 0)) [
-  | pass e ↦ rw (length-set ms (hashOf kind id % length ms) 1, e)
-  | fail e ↦
-      let i = hashOf kind id % length ms in
-      let n = hashOf j m % length ms in
-      let l : i < length ms = mod-lt (hashOf kind id) (omega (arith, eqb-false (length ms) 0 e)) in
-      let b : eqb (getD ms n 0) 1 ≡ true = rw e at a in
-      rw (length-set ms i 1, e) (elim (test (eqb n i)) [
-        | pass f ↦ rw (eqb-true n i f, getD-set-same ms i 1 0 l)
-        | fail f ↦ rw (getD-set-other ms i n 1 0 (eqb-false n i f)) b
-      ])
-]
 
 entry-own : (h : Bytes) (w x : ℕ) (ms : Bytes) → Marked h w x (markEntry h w x ms)
 unfolding markEntry
@@ -217,12 +126,6 @@ module _ (h ms prefix : Bytes) (kind : ℕ) where
         rw (eqb-true (kindIn w) kind k, same-sound (idMeaning h w x) m i) at (a .0 .id)
     | fail f ↦ id-marked m ws (a .1) (rw f at e)
   ]
-
-  -- so nothing is lost by not looking for what is not marked
-  sure : (q t : Bool) → (t ≡ true → q ≡ true) → (q && t) ≡ t
-  sure true t f = refl
-  sure false true f = f refl
-  sure false false f = refl
 
   key-sure : (ws : List ℕ) → AllMarked h ws ms → keyFound h ws ms prefix kind ≡ keySeen h prefix kind ws
   unfolding keyFound

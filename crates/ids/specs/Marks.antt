@@ -1,30 +1,13 @@
 -- Marks of the entries kept so far, by which a scan of their words may be left out. Assumes nothing.
-use Prim.Native.Nat.{ℕ, _+_, _*_, _%_}
+use Prim.Native.Nat.{ℕ}
 use mathlib.Core.Path.{_≡_}
-use mathlib.Core.Bool.{Bool, true, _||_, _&&_}
+use mathlib.Core.Bool.{Bool, true, _&&_}
 use mathlib.Core.List.{List, [], _∷_}
-use lib.Dec.{eqb}
-use lib.ListN.{length, getD, set}
 use Rattle.values.specs.Bytes.{Bytes}
+use Rattle.values.specs.Marks.{isMarked, mark}
 use Rattle.rules.specs.Shown.{kindIn}
 use Rattle.ids.specs.Clashes.{idMeaning, keySeen, idSeen, clashBy}
 use Rattle.ids.specs.declared.scan.Clash.{Clash}
-
--- with the prime of FNV-1
-unfoldable pub hashed : ℕ → Bytes → ℕ
-hashed n [] = n
-hashed n (b ∷ s) = hashed ((n * 16777619 + b) % 4294967296) s
-
--- of a kind and of what an ID means
-abbrev pub hashOf : ℕ → Bytes → ℕ
-hashOf kind id = hashed (kind % 4294967296) id
-
--- where there are no marks, anything may stand among the entries
-unfoldable pub isMarked : Bytes → ℕ → Bytes → Bool
-isMarked ms kind id = eqb (length ms) 0 || eqb (getD ms (hashOf kind id % length ms) 0) 1
-
-unfoldable pub mark : Bytes → ℕ → Bytes → Bytes
-mark ms kind id = set ms (hashOf kind id % length ms) 1
 
 -- the entry with the words w and x: its kind alone, and its ID
 unfoldable pub markEntry : Bytes → ℕ → ℕ → Bytes → Bytes

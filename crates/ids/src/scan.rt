@@ -1,10 +1,10 @@
 // What a new line clashes with among the entries kept so far, by the words of their table.
-use crate::marks;
 use crate::parts;
 use entries::word;
 use values::bytes;
 use values::cursor::ByteRead;
 use values::cursor::Cursor;
+use values::marks;
 ghost use mathlib.Core.Path.{_≡_};
 ghost use Rattle.values.specs.Value.{meaning};
 ghost use Rattle.ids.specs.Clashes.{lastOf, isUnder, MayEqual, Candidate, keySeen, idSeen};

@@ -6,4 +6,5 @@ pub mod Value
 pub mod Field
 pub mod Places
 pub mod Written
+pub mod Marks
 pub mod Examples

@@ -3,6 +3,7 @@ pub mod bytes;
 pub mod cursor;
 pub mod field;
 pub mod integer;
+pub mod marks;
 pub mod output;
 pub mod string;
 pub mod utf8;

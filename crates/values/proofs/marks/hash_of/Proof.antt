@@ -1,15 +1,15 @@
 use Prim.Native.Nat.{_-_}
 use lib.ListN.{length}
-use Rattle.ids.proofs.Markings.{Hashing, hashes}
+use Rattle.values.proofs.Markings.{Hashing, hashes}
 use borrow.Author.Needs.{needs}
-use Rattle.ids.proofs.marks.hash_of.Statement.{statement}
-use Rattle.ids.proofs.marks.hash_of.Tie as tie
+use Rattle.values.proofs.marks.hash_of.Statement.{statement}
+use Rattle.values.proofs.marks.hash_of.Tie as tie
 
 abbrev Inv-loop : tie.InvT-loop
-Inv-loop kind id quoted hash₀ c₀ hash c = Hashing kind id quoted hash (c .at)
+Inv-loop seed text quoted hash₀ c₀ hash c = Hashing seed text quoted hash (c .at)
 
 abbrev μ-loop : tie.MeasureT-loop
-μ-loop kind id quoted hash₀ c₀ hash c = length id - c .at
+μ-loop seed text quoted hash₀ c₀ hash c = length text - c .at
 
 loop-holds : tie.Need-loop-holds Inv-loop μ-loop
 loop-holds c = search (hashes, needs)

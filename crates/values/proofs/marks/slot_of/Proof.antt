@@ -1,7 +1,7 @@
-use Rattle.ids.proofs.Markings.{slots}
+use Rattle.values.proofs.Markings.{slots}
 use borrow.Author.Needs.{needs}
-use Rattle.ids.proofs.marks.slot_of.Statement.{statement}
-use Rattle.ids.proofs.marks.slot_of.Tie as tie
+use Rattle.values.proofs.marks.slot_of.Statement.{statement}
+use Rattle.values.proofs.marks.slot_of.Tie as tie
 
 hash-of-requires : tie.Need-hash-of-requires
 hash-of-requires c κs = search (slots, needs)

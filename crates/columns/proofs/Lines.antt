@@ -99,18 +99,18 @@ module _ (s : Bytes) {q : Bool} (a : q ≡ starts fixed s) where
 
       -- g tells whether names do
       module _ {g : Bool} (d : g ≡ starts FORMAT-names r) where
-        pub wrong-format : (length r ≡ 0 → ⊥) → f ≡ false → g ≡ false → HeaderRead s read.WrongColumn
+        pub wrong-format : (length r ≡ 0 → ⊥) → f ≡ false → not g ≡ true → HeaderRead s read.WrongColumn
         unfolding HeaderRead
         wrong-format n h k = elim (ending r) [
           | no-format z ↦ absurd (n (ap length z))
           | alone z ↦ both (rw z (same-self FORMAT-alone)) (sym c ∙ h)
-          | names t z ↦ both (rw z (starts-self FORMAT-names t)) (sym d ∙ k)
+          | names t z ↦ both (rw z (starts-self FORMAT-names t)) (sym d ∙ not-true g k)
           | wrong z ↦ whole ∙ z
         ]
 
-        pub names-line : g ≡ true → (x : ColumnsRead) → x ≡ samplesRead (distinct (split (drop 46 s))) (length (split (drop 46 s))) → HeaderRead s x
+        pub names-line : not g ≡ false → (x : ColumnsRead) → x ≡ samplesRead (distinct (split (drop 46 s))) (length (split (drop 46 s))) → HeaderRead s x
         names-line h x k = subst (HeaderRead s) (sym k) (judged-line s (split (drop 46 s))
-            (whole ∙ rw (starts-is FORMAT-names r (sym d ∙ h), names-stand (drop 8 r), b, rest s 38, drop-drop 8 38 s)))
+            (whole ∙ rw (starts-is FORMAT-names r (sym d ∙ not-false g h), names-stand (drop 8 r), b, rest s 38, drop-drop 8 38 s)))
 
 pub ruleset lines = (wrong-start, bare-line, format-line, names-line, wrong-format)
 

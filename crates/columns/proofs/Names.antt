@@ -1,99 +1,180 @@
--- Whether a name is among others, and how many names there are: a turn of each loop on plain values. Assumes nothing.
+-- Whether a name was met, and how many names there are: a turn of each loop on plain values. Assumes nothing.
 use Prim.Native.Nat.{ℕ, _+_, _-_, _≤_, _<_}
 use native.Mathlib.Omega.{arith}
 use mathlib.Core.Path.{_≡_, refl, sym, ap, _∙_}
-use mathlib.Core.Bool.{Bool, true, false, not, _||_, _&&_}
-use mathlib.Core.List.{List}
-use lib.ListN.{length, drop, take}
+use mathlib.Core.Bool.{Bool, true, false, not, _||_, false≢true}
+use mathlib.Core.List.{List, [], _∷_, _++_}
+use lib.ListN.{length, drop, take, length-append, take-append-drop}
+use lib.Seq.{drop-drop}
 use Rattle.values.specs.Bytes.{Bytes, is, before, same}
-use Rattle.values.proofs.Lists.{Stands, there, past, stands}
+use Rattle.values.specs.Marks.{isMarked, mark}
+use Rattle.values.proofs.Tests.{pass, fail, test, both, or-l, or-r, or-on, and-l, and-r, and-off, not-true, not-false}
+use Rattle.values.proofs.Lists.{there, past, stands, before-none}
+use Rattle.values.proofs.Sames.{same-sound, same-sym}
+use Rattle.values.proofs.Markings.{mark-length, mark-own, mark-kept, sure}
 use Rattle.rules.specs.Known.{isIn}
 use Rattle.rules.specs.Columns.{TAB, split, distinct}
-use Rattle.columns.specs.declared.header_line.ColumnsRead.{ColumnsRead}
 use Rattle.columns.specs.declared.header_line.ColumnsRead.the-variants as read
-use Rattle.columns.specs.HeaderLines.{samplesRead}
-use Rattle.columns.proofs.Splits.{name-part, split-last, split-more}
+use Rattle.columns.specs.HeaderLines.{samplesRead, ended, isRepeated}
+use Rattle.columns.proofs.Splits.{name-part, part-tab, split-last, split-more, ended-none, ended-more, ended-names, names-more}
 
--- the names from `from` to `at` are others
-pub record Looking (s : Bytes) (start end from : ℕ) (name : Bytes) (at : ℕ) : Type 0 where
-  pub part : name ≡ take (end - start) (drop start s)
-  pub still : isIn name (split (drop from s)) ≡ isIn name (split (drop at s))
+-- the names before `at` are others
+pub record Looking (names name : Bytes) (at : ℕ) : Type 0 where
+  pub still : isIn name (ended names) ≡ isIn name (ended (drop at names))
 
-pub look-all : (s : Bytes) (start end from : ℕ) {name : Bytes} → name ≡ take (end - start) (drop start s) → Looking s start end from name from
-look-all s start end from p = record { part = p; still = refl }
+pub look-all : (names name : Bytes) → Looking names name 0
+look-all names name = record { still = refl }
 
-module _ {s : Bytes} {start end from : ℕ} {name : Bytes} {at : ℕ} (g : Looking s start end from name at) {stop : ℕ} (a : stop ≡ at + length (before (is TAB) (drop at s))) {p : Bytes} (b : p ≡ take (stop - at) (drop at s))
-    {q : Bool} (c : q ≡ same p name) where
-  hit : q ≡ same (before (is TAB) (drop at s)) name
-  hit = c ∙ ap (λ (x : Bytes). same x name) (b ∙ name-part s at a)
-
-  whole : {x : Bool} → isIn name (split (drop at s)) ≡ x → x ≡ isIn (take (end - start) (drop start s)) (split (drop from s))
-  whole e = sym (ap (λ (n : Bytes). isIn n (split (drop from s))) (sym (g .part)) ∙ g .still ∙ e)
-
-  last : length s ≤ stop → isIn name (split (drop at s)) ≡ q
+module _ {names name : Bytes} {at : ℕ} (g : Looking names name at) {end : ℕ} (a : end ≡ at + length (before (is TAB) (drop at names))) where
+  pub names-ended : length names ≤ end → false ≡ isIn name (ended names)
   unfolding isIn
-  last h = rw (split-last s at a h, ← hit) (go q)
-    where
-      go : (q : Bool) → (q || false) ≡ q
-      go true = refl
-      go false = refl
+  names-ended h = sym (g .still ∙ rw (ended-none names at a h))
 
-  more : stop < length s → isIn name (split (drop at s)) ≡ (q || isIn name (split (drop (stop + 1) s)))
-  unfolding isIn
-  more h = rw (split-more s at a h, ← hit)
+  -- q tells whether the one at `at` is the name
+  module _ (h : end < length names) {p : Bytes} (b : p ≡ take (end - at) (drop at names)) {q : Bool} (c : q ≡ same p name) where
+    turn : isIn name (ended names) ≡ (q || isIn name (ended (drop (end + 1) names)))
+    unfolding isIn
+    turn = g .still ∙ rw (ended-more names at a h, c, b, name-part names at a)
 
-  pub name-found : q ≡ true → true ≡ isIn (take (end - start) (drop start s)) (split (drop from s))
-  name-found e = whole (found (stands s stop))
-    where
-      found : Stands s stop → isIn name (split (drop at s)) ≡ true
-      found (there h) = more h ∙ rw e
-      found (past h) = last h ∙ e
+    pub name-found : q ≡ true → true ≡ isIn name (ended names)
+    name-found e = sym (turn ∙ rw e)
 
-  pub names-ended : q ≡ false → length s ≤ stop → false ≡ isIn (take (end - start) (drop start s)) (split (drop from s))
-  names-ended e h = whole (last h ∙ e)
-
-  pub name-next : q ≡ false → stop < length s → Looking s start end from name (stop + 1)
-  name-next e h = record { part = g .part; still = g .still ∙ more h ∙ rw e }
+    pub name-next : q ≡ false → Looking names name (end + 1)
+    name-next e = record { still = turn ∙ rw e }
 
 pub name-less : (s : Bytes) (at : ℕ) {stop : ℕ} → stop ≡ at + length (before (is TAB) (drop at s)) → stop < length s → length s - (stop + 1) < length s - at
 name-less s at a h = omega arith
 
-pub ruleset looks = (look-all, name-found, names-ended, name-next, name-less)
+pub ruleset looks = (look-all, names-ended, name-found, name-next, name-less)
 
--- the answer where these names follow n that no later one repeats
-abbrev readAfter : ℕ → List Bytes → ColumnsRead
-readAfter n xs = samplesRead (distinct xs) (n + length xs)
+-- q is what the marks answered
+module _ (names ms name : Bytes) {q : Bool} (e : q ≡ isMarked ms 0 name) where
+  pub name-unmarked : not q ≡ true → false ≡ isRepeated names ms name
+  unfolding isRepeated
+  name-unmarked n = rw (← e, not-true q n)
 
-pub record Counting (s : Bytes) (at n : ℕ) : Type 0 where
+  pub name-looked : not q ≡ false → {r : Bool} → r ≡ isIn name (ended names) → r ≡ isRepeated names ms name
+  unfolding isRepeated
+  name-looked n f = f ∙ rw (← e, not-false q n)
+
+pub ruleset repeats = (name-unmarked, name-looked)
+
+-- Names one after the other
+
+in-append : (x : Bytes) (xs ys : List Bytes) → isIn x (xs ++ ys) ≡ (isIn x xs || isIn x ys)
+unfolding isIn
+in-append x [] ys = refl
+in-append x (y ∷ xs) ys = elim (test (same y x)) [
+  | pass e ↦ rw e
+  | fail e ↦ rw e (in-append x xs ys)
+]
+
+distinct-twice : (xs : List Bytes) (y : Bytes) (ys : List Bytes) → isIn y xs ≡ true → distinct (xs ++ y ∷ ys) ≡ false
+unfolding isIn distinct
+distinct-twice [] y ys e = absurd (false≢true e)
+distinct-twice (x ∷ xs) y ys e = elim (test (same x y)) [
+  | pass f ↦ rw (in-append x xs (y ∷ ys), isIn, same-sym y x, f, or-on (isIn x xs) {b = true} refl)
+  | fail f ↦ and-off (not (isIn x (xs ++ y ∷ ys))) (distinct-twice xs y ys (rw f at e))
+]
+
+distinct-more : (xs : List Bytes) (y : Bytes) → distinct xs ≡ true → isIn y xs ≡ false → distinct (xs ++ y ∷ []) ≡ true
+unfolding isIn distinct
+distinct-more [] y d e = refl
+distinct-more (x ∷ xs) y d e =
+    let a : isIn x xs ≡ false = not-true (isIn x xs) (and-l (not (isIn x xs)) (distinct xs) d) in
+    let b : same y x ≡ false = same-sym y x ∙ or-l (same x y) (isIn y xs) e in
+    let c : distinct (xs ++ y ∷ []) ≡ true = distinct-more xs y (and-r (not (isIn x xs)) (distinct xs) d) (or-r (same x y) (isIn y xs) e) in
+    rw (in-append x xs (y ∷ []), a, b, c)
+
+-- the n names before `at` are marked, and no two are the same
+pub record Counting (s ms₀ : Bytes) (at n : ℕ) (ms : Bytes) : Type 0 where
+  pub begun : 46 ≤ at
   pub few : n ≤ at
   pub inside : n ≤ length s
-  pub still : samplesRead (distinct (split (drop 46 s))) (length (split (drop 46 s))) ≡ readAfter n (split (drop at s))
+  pub long : length ms ≡ length ms₀
+  pub names : List Bytes
+  pub count : length names ≡ n
+  pub stand : (t : Bytes) → split (take (at - 46) (drop 46 s) ++ t) ≡ names ++ split t
+  pub fresh : distinct names ≡ true
+  pub marked : (x : Bytes) → isIn x names ≡ true → isMarked ms 0 x ≡ true
 
-pub count-all : (s : Bytes) → Counting s 46 0
-count-all s = record { few = omega arith; inside = omega arith; still = ap (samplesRead (distinct (split (drop 46 s)))) (omega arith) }
+pub count-all : (s ms : Bytes) → Counting s ms 46 0 ms
+unfolding distinct isIn
+count-all s ms = record {
+  begun = omega arith;
+  few = omega arith;
+  inside = omega arith;
+  long = refl;
+  names = [];
+  count = refl;
+  stand = λ t. refl;
+  fresh = refl;
+  marked = λ x e. absurd (false≢true e);
+}
 
-module _ {s : Bytes} {at n : ℕ} (g : Counting s at n) {end : ℕ} (a : end ≡ at + length (before (is TAB) (drop at s))) where
-  pub count-last : length s ≤ end → read.Columns true (n + 1) ≡ samplesRead (distinct (split (drop 46 s))) (length (split (drop 46 s)))
-  unfolding distinct isIn
-  count-last h = sym (g .still ∙ rw (split-last s at a h))
+module _ {s ms₀ : Bytes} {at n : ℕ} {ms : Bytes} (g : Counting s ms₀ at n ms) where
+  pub count-length : length ms ≡ length ms₀
+  count-length = g .long
 
-  -- q tells whether the name comes again
-  module _ (h : end < length s) {q : Bool} (c : q ≡ isIn (take (end - at) (drop at s)) (split (drop (end + 1) s))) where
-    abbrev rest : List Bytes
-    rest = split (drop (end + 1) s)
+  module _ {end : ℕ} (a : end ≡ at + length (before (is TAB) (drop at s))) where
+    abbrev here : Bytes
+    here = before (is TAB) (drop at s)
 
-    again : distinct (split (drop at s)) ≡ (not q && distinct rest)
-    unfolding distinct
-    again = rw (split-more s at a h, distinct, c, name-part s at a)
+    all : split (drop 46 s) ≡ g .names ++ split (drop at s)
+    all =
+        let n : 46 + (at - 46) ≡ at = omega (arith, g .begun) in
+        let d : drop (at - 46) (drop 46 s) ≡ drop at s = drop-drop (at - 46) 46 s ∙ rw n in
+        ap split (sym (take-append-drop (at - 46) (drop 46 s)) ∙ ap (take (at - 46) (drop 46 s) ++_) d) ∙ g .stand (drop at s)
 
-    pub count-twice : q ≡ true → read.DuplicateSample ≡ samplesRead (distinct (split (drop 46 s))) (length (split (drop 46 s)))
-    count-twice e = sym (g .still ∙ rw (again, e))
+    -- q tells whether the name was met
+    module _ {name : Bytes} (b : name ≡ take (end - at) (drop at s)) {p : Bytes} (d : p ≡ take (at - 46) (drop 46 s))
+        {q : Bool} (c : q ≡ isRepeated p ms name) where
+      is-here : name ≡ here
+      is-here = b ∙ name-part s at a
 
-    pub count-next : q ≡ false → Counting s (end + 1) (n + 1)
-    count-next e = record {
-      few = omega arith;
-      inside = omega (arith, g .few);
-      still = g .still ∙ rw (again, e, split-more s at a h) (ap (samplesRead (distinct rest)) (omega arith));
-    }
+      met : q ≡ isIn here (g .names)
+      unfolding isRepeated
+      met = c ∙ rw (is-here, d, ended-names (take (at - 46) (drop 46 s)) (g .names) (g .stand))
+          (sure (isMarked ms 0 here) (isIn here (g .names)) (g .marked here))
 
-pub ruleset counts = (count-all, count-last, count-twice, count-next, name-less)
+      pub count-twice : q ≡ true → read.DuplicateSample ≡ samplesRead (distinct (split (drop 46 s))) (length (split (drop 46 s)))
+      count-twice e = elim (stands s end) [
+        | there h ↦ rw (all, split-more s at a h, distinct-twice (g .names) here (split (drop (end + 1) s)) (sym met ∙ e))
+        | past h ↦ rw (all, split-last s at a h, distinct-twice (g .names) here [] (sym met ∙ e))
+      ]
+
+      module _ (e : q ≡ false) where
+        more : distinct (g .names ++ here ∷ []) ≡ true
+        more = distinct-more (g .names) here (g .fresh) (sym met ∙ e)
+
+        longer : length (g .names ++ here ∷ []) ≡ n + 1
+        longer = length-append (g .names) (here ∷ []) ∙ ap (_+ 1) (g .count)
+
+        pub count-last : length s ≤ end → read.Columns true (n + 1) ≡ samplesRead (distinct (split (drop 46 s))) (length (split (drop 46 s)))
+        count-last h = rw (all, split-last s at a h, more, longer)
+
+        still : (x : Bytes) → isIn x (g .names ++ here ∷ []) ≡ true → isMarked (mark ms 0 here) 0 x ≡ true
+        unfolding isIn
+        still x i = elim (test (isIn x (g .names))) [
+          | pass f ↦ mark-kept ms 0 here 0 x (g .marked x f)
+          | fail f ↦ elim (test (same here x)) [
+            | pass k ↦ rw (← same-sound here x k) (mark-own ms 0 here)
+            | fail k ↦ both i (in-append x (g .names) (here ∷ []) ∙ rw (f, k))
+          ]
+        ]
+
+        pub count-next : end < length s → {ms′ : Bytes} → ms′ ≡ mark ms 0 name → Counting s ms₀ (end + 1) (n + 1) ms′
+        count-next h m = record {
+          begun = omega (arith, g .begun);
+          few = omega (arith, g .few);
+          inside = omega (arith, g .few);
+          long = ap length m ∙ mark-length ms 0 name ∙ g .long;
+          names = g .names ++ here ∷ [];
+          count = longer;
+          stand = λ t. ap (λ (x : Bytes). split (x ++ t)) (part-tab s at a 46 (g .begun) h)
+              ∙ names-more (take (at - 46) (drop 46 s)) (g .names) (g .stand) here (before-none (is TAB) (drop at s)) t;
+          fresh = more;
+          marked = λ x i. rw (m, is-here) (still x i);
+        }
+
+pub ruleset counts = (count-all, count-length, count-twice, count-last, count-next, name-less)

@@ -2,12 +2,12 @@
 use entries::table;
 use entries::word;
 use values::bytes;
+use values::marks;
 ghost use mathlib.Core.Path.{_≡_};
-ghost use Prim.Native.Nat.{_-_};
-ghost use lib.ListN.{length, drop, take};
+ghost use lib.ListN.{length, drop};
 ghost use Rattle.rules.specs.Known.{isIn};
 ghost use Rattle.rules.specs.Columns.{split, distinct};
-ghost use Rattle.columns.specs.HeaderLines.{HeaderRead, samplesRead, SamplesWritten, ColumnsWritten};
+ghost use Rattle.columns.specs.HeaderLines.{HeaderRead, samplesRead, ended, isRepeated, SamplesWritten, ColumnsWritten};
 
 // Where the fixed columns end, and where the first name stands: after these, FORMAT and two tabs.
 const FIXED_END: usize = 38;
@@ -21,39 +21,50 @@ pub enum ColumnsRead {
     DuplicateSample,
 }
 
-// Whether the name from `start` to `end` is one of the tab-parted ones from `from` on.
-fn is_among(s: &[u8], start: usize, end: usize, from: usize) -> bool
-    ensures { λ r. ⌜ r ≡ isIn (take (end - start) (drop start (now (s .entry)))) (split (drop from (now (s .entry)))) ⌝ }
+// Whether the name is one of those in `names`, each of which a tab ends.
+fn is_among(names: &[u8], name: &[u8]) -> bool
+    ensures { λ r. ⌜ r ≡ isIn (now (name .entry)) (ended (now (names .entry))) ⌝ }
 {
-    let name = bytes::part(s, start, end);
-    let mut at = from;
+    let mut at: usize = 0;
     loop {
-        let stop = bytes::find(s, at, b'\t');
-        if bytes::same(bytes::part(s, at, stop), name) {
-            return true;
-        }
-        if s.len() <= stop {
+        let end = bytes::find(names, at, b'\t');
+        if names.len() <= end {
             return false;
         }
-        at = stop + 1;
+        if bytes::same(bytes::part(names, at, end), name) {
+            return true;
+        }
+        at = end + 1;
     }
 }
 
-// The names after FORMAT, each held against those that follow it, so that none has to be kept.
-fn count_samples(s: &[u8]) -> ColumnsRead
+// The same, where the marks don't tell it already.
+fn is_repeated(names: &[u8], marks: &[u8], name: &[u8]) -> bool
+    ensures { λ r. ⌜ r ≡ isRepeated (now (names .entry)) (now (marks .entry)) (now (name .entry)) ⌝ }
+{
+    if !marks::is_marked(marks, 0, name, false) {
+        return false;
+    }
+    is_among(names, name)
+}
+
+// The names after FORMAT, each held against those before it and then marked, whatever stands in `marks` before.
+fn count_samples(s: &[u8], marks: &mut [u8]) -> ColumnsRead
     ensures { λ r. ⌜ r ≡ samplesRead (distinct (split (drop 46 (now (s .entry))))) (length (split (drop 46 (now (s .entry))))) ⌝ }
 {
     let mut at: usize = NAMES_START;
     let mut n: usize = 0;
     loop {
         let end = bytes::find(s, at, b'\t');
+        let name = bytes::part(s, at, end);
+        if is_repeated(bytes::part(s, NAMES_START, at), marks, name) {
+            return ColumnsRead::DuplicateSample;
+        }
         n += 1;
         if s.len() <= end {
             return ColumnsRead::Columns(true, n);
         }
-        if is_among(s, at, end, end + 1) {
-            return ColumnsRead::DuplicateSample;
-        }
+        marks::mark(marks, 0, name, false);
         at = end + 1;
     }
 }
@@ -72,10 +83,16 @@ pub fn parse_header(s: &[u8]) -> ColumnsRead
     if bytes::same(rest, b"\tFORMAT") {
         return ColumnsRead::Columns(true, 0);
     }
-    if bytes::starts_with(rest, b"\tFORMAT\t") {
-        return count_samples(s);
+    if !bytes::starts_with(rest, b"\tFORMAT\t") {
+        return ColumnsRead::WrongColumn;
     }
-    ColumnsRead::WrongColumn
+    // A short line has few names, and clearing more marks than they need would take longer than reading it.
+    if s.len() < 8192 {
+        let mut marks = [0u8; 4096];
+        return count_samples(s, &mut marks);
+    }
+    let mut marks = [0u8; 65536];
+    count_samples(s, &mut marks)
 }
 
 // One entry for each name after FORMAT, as far as there is room. No header reaches 0x10_0000, so past it nothing is written.

@@ -6,10 +6,10 @@ use Rattle.columns.proofs.header_line.count_samples.Statement.{statemen
 use Rattle.columns.proofs.header_line.count_samples.Tie as tie
 
 abbrev Inv-loop : tie.InvT-loop
-Inv-loop s at₀ n₀ at n = Counting s at n
+Inv-loop s marks₀ at₀ n₀ marks at n = Counting s marks₀ at n marks
 
 abbrev μ-loop : tie.MeasureT-loop
-μ-loop s at₀ n₀ at n = length s - at
+μ-loop s marks₀ at₀ n₀ marks at n = length s - at
 
 loop-holds : tie.Need-loop-holds Inv-loop μ-loop
 loop-holds c = search (counts, needs)
@@ -17,20 +17,32 @@ loop-holds c = search (counts, needs)
 find-requires : tie.Need-find-requires Inv-loop μ-loop
 find-requires c κs = search (counts, needs)
 
-add-n : tie.Need-add-n Inv-loop μ-loop
-add-n c = search (counts, needs)
+part-requires : tie.Need-part-requires Inv-loop μ-loop
+part-requires c κs = search (counts, needs)
+
+part-requires-2 : tie.Need-part-requires-2 Inv-loop μ-loop
+part-requires-2 c κs = search (counts, needs)
+
+is-repeated-requires : tie.Need-is-repeated-requires Inv-loop μ-loop
+is-repeated-requires c κs = search (counts, needs)
+
+same-length : tie.Need-same-length Inv-loop μ-loop
+same-length c = search (counts, needs)
 
 returns : tie.Need-returns Inv-loop μ-loop
 returns c = search (counts, needs)
 
-add-is-among : tie.Need-add-is-among Inv-loop μ-loop
-add-is-among c = search (counts, needs)
+add-n : tie.Need-add-n Inv-loop μ-loop
+add-n c = search (counts, needs)
 
-is-among-requires : tie.Need-is-among-requires Inv-loop μ-loop
-is-among-requires c κs = search (counts, needs)
+same-length-2 : tie.Need-same-length-2 Inv-loop μ-loop
+same-length-2 c = search (counts, needs)
 
 returns-2 : tie.Need-returns-2 Inv-loop μ-loop
 returns-2 c = search (counts, needs)
+
+mark-requires : tie.Need-mark-requires Inv-loop μ-loop
+mark-requires c κs = search (counts, needs)
 
 add-at : tie.Need-add-at Inv-loop μ-loop
 add-at c = search (counts, needs)
@@ -49,11 +61,15 @@ count-samples-spec =
     μ-loop
     loop-holds
     find-requires
-    add-n
+    part-requires
+    part-requires-2
+    is-repeated-requires
+    same-length
     returns
-    add-is-among
-    is-among-requires
+    add-n
+    same-length-2
     returns-2
+    mark-requires
     add-at
     loop-less
     loop-again)

@@ -6,13 +6,10 @@ use Rattle.columns.proofs.header_line.is_among.Statement.{statement}
 use Rattle.columns.proofs.header_line.is_among.Tie as tie
 
 abbrev Inv-loop : tie.InvT-loop
-Inv-loop s start end from name at₀ at = Looking s start end from name at
+Inv-loop names name at₀ at = Looking names name at
 
 abbrev μ-loop : tie.MeasureT-loop
-μ-loop s start end from name at₀ at = length s - at
-
-part-requires : tie.Need-part-requires Inv-loop μ-loop
-part-requires c κs = search (looks, needs)
+μ-loop names name at₀ at = length names - at
 
 loop-holds : tie.Need-loop-holds Inv-loop μ-loop
 loop-holds c = search (looks, needs)
@@ -20,14 +17,14 @@ loop-holds c = search (looks, needs)
 find-requires : tie.Need-find-requires Inv-loop μ-loop
 find-requires c κs = search (looks, needs)
 
-part-requires-2 : tie.Need-part-requires-2 Inv-loop μ-loop
-part-requires-2 c κs = search (looks, needs)
+returns : tie.Need-returns Inv-loop μ-loop
+returns c = search (looks, needs)
+
+part-requires : tie.Need-part-requires Inv-loop μ-loop
+part-requires c κs = search (looks, needs)
 
 same-requires : tie.Need-same-requires Inv-loop μ-loop
 same-requires c κs = search (looks, needs)
-
-returns : tie.Need-returns Inv-loop μ-loop
-returns c = search (looks, needs)
 
 returns-2 : tie.Need-returns-2 Inv-loop μ-loop
 returns-2 c = search (looks, needs)
@@ -47,12 +44,11 @@ is-among-spec =
     (tie.spec
     Inv-loop
     μ-loop
-    part-requires
     loop-holds
     find-requires
-    part-requires-2
-    same-requires
     returns
+    part-requires
+    same-requires
     returns-2
     add-at
     loop-less

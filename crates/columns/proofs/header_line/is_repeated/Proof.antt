@@ -1,0 +1,19 @@
+use Rattle.columns.proofs.Names.{repeats}
+use borrow.Author.Needs.{needs}
+use Rattle.columns.proofs.header_line.is_repeated.Statement.{statement}
+use Rattle.columns.proofs.header_line.is_repeated.Tie as tie
+
+is-marked-requires : tie.Need-is-marked-requires
+is-marked-requires c κs = search (repeats, needs)
+
+returns : tie.Need-returns
+returns c = search (repeats, needs)
+
+is-among-requires : tie.Need-is-among-requires
+is-among-requires c κs = search (repeats, needs)
+
+returns-2 : tie.Need-returns-2
+returns-2 c = search (repeats, needs)
+
+pub is-repeated-spec : {M : Type 1} → statement M
+is-repeated-spec = tie.close (tie.spec is-marked-requires returns is-among-requires returns-2)

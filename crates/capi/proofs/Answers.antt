@@ -10,7 +10,7 @@ use borrow.Author.Tests.{eq-eqb, ne-eqb}
 use Rattle.rules.specs.Sizes.{limits}
 use Rattle.rules.specs.Version.{Version, version}
 use Rattle.rules.specs.Entry.{words}
-use Rattle.rules.specs.Reading.{Reading, reading}
+use Rattle.rules.specs.Reading.{reading}
 use Rattle.rules.specs.House.{house}
 use Rattle.rules.specs.Shown.{Part, shownField}
 use Rattle.records.specs.Refusals.{number}

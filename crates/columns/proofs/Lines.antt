@@ -1,17 +1,17 @@
 -- The column line by its constant beginning: no FORMAT, FORMAT alone, or names after it. Assumes nothing.
-use Prim.Native.Nat.{ℕ, _+_, _-_, _≤_, _<_}
+use Prim.Native.Nat.{_-_, _≤_, _<_}
 use native.Mathlib.Omega.{arith}
 use mathlib.Core.Path.{_≡_, refl, sym, ap, subst, _∙_}
 use mathlib.Core.Bool.{Bool, true, false, not}
 use mathlib.Core.List.{List, [], _∷_, _++_}
-use lib.ListN.{length, drop, take, length-drop}
+use lib.ListN.{length, drop, take, length-drop, drop-of-length-le}
 use lib.Seq.{drop-drop}
 use borrow.Author.Tests.{eqb-true}
 use Rattle.values.specs.Bytes.{Bytes, ascii, is, any, before, from, starts, same}
-use Rattle.values.proofs.Tests.{Test, pass, fail, test, both, not-true, not-false}
+use Rattle.values.proofs.Tests.{Test, pass, fail, test, both, not-true, not-false, never}
 use Rattle.values.proofs.Lists.{rest}
 use Rattle.values.proofs.Sames.{same-self, same-sound}
-use Rattle.rules.specs.Answer.{Answer, ok, refuse, unless, judged}
+use Rattle.rules.specs.Answer.{ok, refuse, unless, judged}
 use Rattle.rules.specs.Columns.{Columns, TAB, split, distinct, formatted, readColumns}
 use Rattle.rules.specs.House.{parted}
 use Rattle.rules.proofs.Records.{starts-is}
@@ -85,11 +85,7 @@ module _ (s : Bytes) {q : Bool} (a : q ≡ starts fixed s) where
 
     pub bare-line : length r ≡ 0 → HeaderRead s (read.Columns false 0)
     unfolding HeaderRead
-    bare-line h = (record { format = false; samples = [] }, whole ∙ rw (nil r h), refl, refl)
-      where
-        nil : (x : Bytes) → length x ≡ 0 → x ≡ []
-        nil [] h = refl
-        nil (c ∷ x) h = absurd (omega arith)
+    bare-line h = (record { format = false; samples = [] }, whole ∙ rw (drop-of-length-le r {i = 0} (omega arith)), refl, refl)
 
     -- f tells whether nothing follows FORMAT
     module _ {f : Bool} (c : f ≡ same r FORMAT-alone) where
@@ -120,31 +116,26 @@ pub data Accepted (s : Bytes) (c : Columns) : Type 0 where
   nameless : length s < 46 → c .samples ≡ [] → Accepted s c
   with-names : 46 ≤ length s → c .samples ≡ split (drop 46 s) → Accepted s c
 
-refused : {A : Type 0} {c : Columns} {n : ℕ} → _≡_ {A = Answer Columns} (refuse n) (ok c) → A
-refused e = let nope : _≡_ {A = ℕ} 0 1 = cc in absurd (omega arith)
-
 judged-names : (xs : List Bytes) (c : Columns) → judged (unless (distinct xs) 23) (named xs) ≡ ok c → c .samples ≡ xs
 judged-names xs c e = elim (test (distinct xs)) [
-  | pass d ↦ let k : ok (named xs) ≡ ok c = rw d at e in let i : named xs ≡ c = cc in sym (ap (λ (x : Columns). x .samples) i)
-  | fail d ↦ refused {c = c} {n = 23} (rw d at e)
+  | pass d ↦ cc (rw d at e)
+  | fail d ↦ never (cc (rw d at e))
 ]
 
 pub accepted : (s : Bytes) (c : Columns) → readColumns s ≡ ok c → Accepted s c
 unfolding split same distinct
 accepted s c e = elim (test (starts fixed s)) [
-  | fail h ↦ refused (sym (no-fixed s h) ∙ e)
+  | fail h ↦ never (cc (no-fixed s h))
   | pass h ↦
       let f = sym (fixed-stand s h) ∙ e in
       let l = length-drop 38 s in
       elim (ending (drop 38 s)) [
-        | no-format z ↦ let n = ap length z in let k : ok (record { format = false; samples = [] }) ≡ ok c = rw z at f in
-            let i : record { format = false; samples = [] } ≡ c = cc in nameless (omega arith) (sym (ap (λ (x : Columns). x .samples) i))
-        | alone z ↦ let n = ap length z in let k : ok (named []) ≡ ok c = rw z at f in
-            let i : named [] ≡ c = cc in nameless (omega arith) (sym (ap (λ (x : Columns). x .samples) i))
+        | no-format z ↦ let n = ap length z in nameless (omega arith) (cc (rw z at f))
+        | alone z ↦ let n = ap length z in nameless (omega arith) (cc (rw z at f))
         | names t z ↦
             let n = ap length z in
             let d = sym (drop-drop 8 38 s) ∙ ap (drop 8) z in
             with-names (omega arith) (rw d (judged-names (split t) c (sym (names-stand t) ∙ (rw z at f))))
-        | wrong z ↦ refused (sym z ∙ f)
+        | wrong z ↦ never cc
       ]
 ]

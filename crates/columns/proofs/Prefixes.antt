@@ -1,5 +1,4 @@
 -- Columns that stand first, against the bytes that they are written with. Assumes nothing.
-use Prim.Native.Nat.{_+_}
 use native.Mathlib.Omega.{arith}
 use mathlib.Core.Path.{_≡_, refl, sym, ap, _∙_}
 use mathlib.Core.Bool.{true, false}

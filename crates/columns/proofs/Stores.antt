@@ -1,11 +1,10 @@
 -- The entries of a column line: one stored after the other. Assumes nothing.
-use Prim.Native.Nat.{ℕ, suc, _+_, _-_, _%_, _^_, _≤_, _<_}
-use native.Mathlib.Numerals.{add-one}
+use Prim.Native.Nat.{ℕ, suc, _+_, _-_, _%_, _≤_, _<_}
 use native.Mathlib.Omega.{arith}
 use mathlib.Core.Path.{_≡_, refl, sym, ap, _∙_}
-use mathlib.Core.Bool.{Bool, true, false, not, true≢false, false≢true}
+use mathlib.Core.Bool.{Bool, true, false, not}
 use mathlib.Core.List.{List, [], _∷_}
-use lib.ListN.{length, drop, set}
+use lib.ListN.{length, drop}
 use lib.Seq.{sets}
 use Rattle.values.specs.Bytes.{Bytes, is, before}
 use Rattle.values.proofs.Tests.{not-true, not-false}
@@ -13,7 +12,6 @@ use Rattle.values.proofs.Lists.{there, past, stands}
 use Rattle.rules.specs.Columns.{Columns, TAB, split}
 use Rattle.rules.specs.Entry.{place, tabbed, samplesStart, words, sampleEntries, columnEntries}
 use Rattle.entries.specs.Tables.{EntryPut}
-use Rattle.entries.proofs.Tables.{next-fits}
 use Rattle.columns.specs.HeaderLines.{nameWords, SamplesWritten, ColumnsWritten}
 use Rattle.columns.proofs.Lines.{nameless, with-names, accepted}
 use Rattle.columns.proofs.Names.{name-less}

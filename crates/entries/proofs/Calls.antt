@@ -2,14 +2,14 @@
 use Prim.Native.Nat.{ℕ, _+_, _-_, _*_, _/_, _%_, _≤_, _<_}
 use native.Mathlib.Omega.{arith}
 use mathlib.Core.Path.{_≡_, refl, sym, ap, ap₂, _∙_}
-use mathlib.Core.Bool.{Bool, true, false, not, _||_, _&&_}
+use mathlib.Core.Bool.{Bool, true, false, not, _||_, _&&_, and-assoc}
 use mathlib.Core.List.{List}
 use mathlib.Core.Option.{Option, none, some}
 use lib.Dec.{eqb, leb, ltb}
 use lib.ListN.{length, getD, take, drop}
 use borrow.Author.Tests.{eq-eqb, ne-eqb, le-leb, lt-leb, lt-ltb, le-ltb, leb-true}
 use Rattle.values.specs.Bytes.{Bytes}
-use Rattle.values.proofs.Tests.{pass, fail, test, and-l, and-r, not-true, not-false}
+use Rattle.values.proofs.Tests.{pass, fail, test, and-l, and-r, not-true, not-false, never}
 use Rattle.values.proofs.Lists.{some-is, none-not}
 use Rattle.rules.specs.Shown.{bits, kindIn, startIn, lengthIn, offsetIn, idLengthIn, tagIn, Part as RulePart, hasId, wellFormed, entryAt, shownEntry, idPart, shownId}
 use Rattle.entries.specs.declared.shown.Shown.{Shown}
@@ -75,13 +75,7 @@ pub ruleset insides = (line-outside, line-inside)
 
 -- the tests of a well-formed entry, as they are grouped in the code
 grouped : (a b c d e f g h : Bool) → (a && b && c && d && e && f && g && h) ≡ ((a && b) && ((c && d) && (e && (f && (g && h)))))
-grouped false b c d e f g h = refl
-grouped true false c d e f g h = refl
-grouped true true false d e f g h = refl
-grouped true true true false e f g h = refl
-grouped true true true true false f g h = refl
-grouped true true true true true false g h = refl
-grouped true true true true true true g h = refl
+grouped a b c d e f g h = simp and-assoc
 
 module _ (size w x : ℕ) {p : Bool} (a : p ≡ (leb 1 (kindIn w) && leb (kindIn w) 10)) where
   formed : wellFormed size w x ≡ (p && ((eqb (bits 0 24 w) 0 && eqb (bits 0 29 x) 0) && ((eqb (tagIn x) 0 || (eqb (kindIn w) 7 && leb (tagIn x) 2))
@@ -135,12 +129,12 @@ pub ruleset entries = (out-of-table, entry-formed, entry-malformed)
 
 -- the entry behind an answer
 pub entry-is : (o : Option (ℕ × ℕ)) {w x : ℕ} → Entry w x ≡ entryAs o → o ≡ some (w, x)
-entry-is none e = let z : _≡_ {A = ℕ} 0 1 = cc in absurd (omega arith)
+entry-is none e = never cc
 entry-is (some p) {w} {x} e = let a : w ≡ p .0 = cc in let b : x ≡ p .1 = cc in rw (a, b)
 
 pub entry-none : (o : Option (ℕ × ℕ)) → Missing ≡ entryAs o → o ≡ none
 entry-none none e = refl
-entry-none (some p) e = let z : _≡_ {A = ℕ} 0 1 = cc in absurd (omega arith)
+entry-none (some p) e = never cc
 
 -- a well-formed line lies in the header, and its ID in the line
 formed-inside : (size w x : ℕ) → wellFormed size w x ≡ true → (startIn w + lengthIn w ≤ size) × (offsetIn x + idLengthIn x ≤ lengthIn w)
@@ -207,8 +201,8 @@ pub ruleset shown-ids = (id-unshown, id-not-due, id-shown, id-part-inside, refus
 -- different parts are shown differently
 pub shown-injective : (x y : Option RulePart) → shownAs x ≡ shownAs y → x ≡ y
 shown-injective none none e = refl
-shown-injective none (some q) e = let z : _≡_ {A = ℕ} 0 1 = cc in absurd (omega arith)
-shown-injective (some p) none e = let z : _≡_ {A = ℕ} 0 1 = cc in absurd (omega arith)
+shown-injective none (some q) e = never cc
+shown-injective (some p) none e = never cc
 shown-injective (some p) (some q) e = let a : p .0 ≡ q .0 = cc in let b : p .1 ≡ q .1 = cc in ap₂ (λ (x y : ℕ). some (x, y)) a b
 
 module _ (h : Bytes) {r : Shown} where

@@ -1,5 +1,5 @@
 -- The fields that are no known ones, copied one after the other. Assumes nothing.
-use Prim.Native.Nat.{ℕ, _+_, _-_, _≤_, _<_}
+use Prim.Native.Nat.{ℕ, _-_, _≤_, _<_}
 use mathlib.Core.Path.{_≡_, refl, sym, ap, subst, _∙_}
 use mathlib.Core.Bool.{Bool, true, false}
 use mathlib.Core.List.{List, [], _∷_, _++_, append-nil}
@@ -18,11 +18,11 @@ use Rattle.values.specs.declared.field.Separator.the-variants as separator
 use Rattle.values.proofs.Outputs.{wrote-nothing, wrote-length, wrote-capped, then}
 use Rattle.values.proofs.Places.{FieldHere}
 use Rattle.rules.specs.Version.{Version}
+use Rattle.rules.proofs.Scans.{Left, left-all, left-unread, left-told, left-last, left-next, left-less}
 use Rattle.rules.proofs.Shows.{value-means}
 use Rattle.records.specs.declared.key.Key.{Key}
 use Rattle.entries.specs.Shown.{fieldsAt}
 use Rattle.forms.specs.Forms.{fieldBy, isKnown, otherText, othersText}
-use Rattle.forms.proofs.Walks.{Left, left-all, left-unread, told, left-last, left-next, left-less}
 
 -- One field
 
@@ -67,7 +67,7 @@ module _ {key : Key} {v : Version} {meta : Bool} {s : Bytes} {start : ℕ} {out�
   module _ {e : ℕ} {t : Text} {n : Cursor} (b : r ≡ read.Field e t n) {p : Bytes} (c : p ≡ take (e - i) (drop i s)) {x : Bytes} (d : x ≡ take (t .end - t .start) (drop (t .start) s))
       {r₁ : ℕ} {o₁ : Bytes} (w : Wrote out next (otherText key v meta p (meaning (t .quoted) x)) r₁ o₁) {y : Separator} (j : y ≡ separatorAt s (n .at)) where
     abbrev here : FieldHere meta s i e t n
-    here = told (g .left) a b
+    here = left-told (g .left) a b
 
     one : Wrote out next (otherText key v meta (here .field .key) (meaningOf (here .field .value))) r₁ o₁
     one =

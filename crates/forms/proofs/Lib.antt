@@ -1,6 +1,5 @@
 pub mod Quotes
 pub mod Fields
-pub mod Walks
 pub mod Searches
 pub mod Names
 pub mod Copies

@@ -2,33 +2,31 @@
 use Prim.Native.Nat.{ℕ, suc, _+_, _-_, _≤_}
 use native.Mathlib.Omega.{arith}
 use mathlib.Core.Path.{_≡_, refl, sym, ap, ap₂, subst, _∙_}
-use mathlib.Core.Bool.{Bool, true, false, not, _&&_}
-use mathlib.Core.List.{List, [], _∷_, _++_, tail, append-assoc}
+use mathlib.Core.Bool.{Bool, true, false, _&&_}
+use mathlib.Core.List.{List, [], _∷_, _++_, append-assoc}
 use mathlib.Core.Option.{Option, none, some}
 use lib.Dec.{eqb}
 use lib.ListN.{length, getD, take, drop, length-append}
-use lib.Seq.{drop-drop, take-at}
-use Rattle.values.specs.Bytes.{Bytes, ascii, is, empty, begins, before, from, same, starts}
+use lib.Seq.{take-at}
+use Rattle.values.specs.Bytes.{Bytes, ascii, is}
 use Rattle.values.specs.Value.{meaningOf}
 use Rattle.values.specs.Field.{Field, writtenField}
 use Rattle.values.specs.Written.{Wrote}
 use Rattle.values.specs.declared.string.Text.{Text}
-use Rattle.values.proofs.Tests.{pass, fail, test, and-r}
-use Rattle.values.proofs.Lists.{before-from}
-use Rattle.values.proofs.Fields.{text-here, tail-is}
+use Rattle.values.proofs.Tests.{never}
 use Rattle.values.proofs.Outputs.{then}
-use Rattle.rules.specs.Answer.{ok, refuse}
+use Rattle.rules.specs.Answer.{ok}
 use Rattle.rules.specs.Lines.{ends, writeLine}
-use Rattle.rules.specs.Version.{Version, v4-3, since, readVersion}
+use Rattle.rules.specs.Version.{Version, v4-3, since}
 use Rattle.rules.specs.Known.{alwaysMap, tagOf}
-use Rattle.rules.specs.Map.{Scan, readFields, isMeta, fieldNamed, mapRefusal, readMap}
-use Rattle.rules.specs.Record.{Record, fileformat, fields, text, isMap, formatOf, readValue, readKeyed, readRecord}
+use Rattle.rules.specs.Map.{isMeta, fieldNamed}
+use Rattle.rules.specs.Record.{Record, fileformat, fields, text, readRecord}
 use Rattle.rules.specs.Entry.{fieldsStart, textNamed}
 use Rattle.rules.specs.Meaning.{saying}
 use Rattle.rules.specs.House.{tagName, recordOf, writeFields, writeRecord}
-use Rattle.rules.proofs.Firsts.{OnOk, on-ok, bind-ok, judged-ok}
-use Rattle.rules.proofs.Checks.{fine}
-use Rattle.rules.proofs.Texts.{LineOf, record-in}
+use Rattle.rules.proofs.Firsts.{on-ok}
+use Rattle.rules.proofs.Pieces.{ends-more}
+use Rattle.rules.proofs.Texts.{LineOf, record-in, Scanned, record-scanned}
 use Rattle.rules.proofs.Tidy.{tidy, tidied-fields}
 use Rattle.rules.proofs.Shows.{Both, named-text, line-fields, value-means}
 use Rattle.records.specs.Keys.{bytesOf, Named}
@@ -40,6 +38,7 @@ use Rattle.records.specs.declared.refusal.Refusal.{Refusal}
 use Rattle.records.specs.declared.map.Slot.the-variants as slot
 use Rattle.records.specs.declared.record.RecordRead.{RecordRead}
 use Rattle.records.specs.declared.record.RecordRead.the-variants as read
+use Rattle.records.proofs.Determined.{filled-one}
 use Rattle.entries.specs.Shown.{fieldsAt}
 use Rattle.entries.proofs.Fields.{fields-read}
 use Rattle.forms.specs.Forms.{fieldBy, rowsOf, listed, othersText}
@@ -61,52 +60,6 @@ module _ (key : Key) (v : Version) (s : Bytes) (start : ℕ) (id : Text) (tag : 
       let q : p ≡ take start s = b ∙ rw z in
       rw (← a, ← q) (then w₁ (then w₂ w₃))
 
--- The fields of a map's line
-
--- what was read of a map's line l are its fields
-abbrev Scanned : Version → Bytes → Record → Type 0
-Scanned v l (fileformat w) = Unit {0}
-Scanned v l (fields k fs) = readFields (isMeta v k) (alwaysMap k) (drop (fieldsStart k) l) ≡ (fs, 0)
-Scanned v l (text k t) = Unit {0}
-
-map-scanned : (v : Version) (k x : Bytes) → OnOk (λ fs. readFields (isMeta v k) (alwaysMap k) (drop 1 x) ≡ (fs, 0)) (readMap v k x)
-unfolding readMap
-map-scanned v k x = elim (test (begins 60 x)) [
-  | pass e ↦ let s = readFields (isMeta v k) (alwaysMap k) (tail x) in
-      rw (readMap, e) (judged-ok (λ fs. readFields (isMeta v k) (alwaysMap k) (drop 1 x) ≡ (fs, 0)) (mapRefusal v k s) (s .0) (λ z. ap {B = Scan} (λ (n : ℕ). (s .0, n)) (fine v k s z .1)))
-  | fail e ↦ rw (readMap, e) tt
-]
-
-value-scanned : (v : Version) (k x l : Bytes) → drop (fieldsStart k) l ≡ drop 1 x → OnOk (Scanned v l) (readValue v k x)
-unfolding readValue
-value-scanned v k x l h = elim (test (same k (ascii "fileformat"))) [
-  | pass e ↦ rw (readValue, e) (format (readVersion x))
-  | fail e ↦ elim (test (isMap v k x)) [
-    | pass m ↦ rw (readValue, e, m) (bind-ok (λ fs. readFields (isMeta v k) (alwaysMap k) (drop 1 x) ≡ (fs, 0)) (Scanned v l) (readMap v k x) _ (map-scanned v k x) (λ fs q. rw h q))
-    | fail m ↦ rw (readValue, e, m) tt
-  ]
-]
-  where
-    format : (a : Option Version) → OnOk (Scanned v l) (formatOf a)
-    format none = tt
-    format (some w) = tt
-
--- the value's bytes after its first
-past-value : (l k x : Bytes) → drop 2 l ≡ k ++ 61 ∷ x → drop (fieldsStart k) l ≡ drop 1 x
-past-value l k x e = sym (drop-drop 2 (2 + length k) l) ∙ ap (λ (y : Bytes). drop 2 y) (text-here l 2 k (61 ∷ x) e .1)
-
-record-scanned : (v : Version) (l : Bytes) → OnOk (Scanned v l) (readRecord v l)
-unfolding readRecord readKeyed
-record-scanned v l = elim (test (starts (ascii "##") l)) [
-  | pass e ↦ let b = before (is 61) (drop 2 l) in let f = from (is 61) (drop 2 l) in
-      elim (test (not (empty b) && begins 61 f)) [
-        | pass q ↦ rw (readRecord, e, readKeyed, q) (value-scanned v b (tail f) l
-            (past-value l b (tail f) (sym (before-from (is 61) (drop 2 l)) ∙ ap (b ++_) (tail-is 61 f (and-r (not (empty b)) (begins 61 f) q)))))
-        | fail q ↦ rw (readRecord, e, readKeyed, q) tt
-      ]
-  | fail e ↦ rw (readRecord, e) tt
-]
-
 -- The ID of a map
 
 -- the ID's field, its value where the code was told, and its tag
@@ -121,14 +74,11 @@ identity : (v : Version) (k : Bytes) (fs : List Field) (s : Bytes) (id : Text) (
 identity v k fs s id tag e h = go (fieldNamed v k (ascii "ID") fs) refl (textNamed v k (ascii "ID") (fieldsStart k) fs) h
     (named-text v k (ascii "ID") s (fieldsStart k) fs (rw e (line-fields k fs)))
   where
-    filled : {p x : Text} {a g : ℕ} → slot.Filled p a ≡ slot.Filled x g → (p ≡ x) × (a ≡ g)
-    filled q = (cc, cc)
-
     go : (x : Option Field) → fieldNamed v k (ascii "ID") fs ≡ x → (y : Option (Bytes × Text)) → slotted y ≡ slot.Filled id tag → Both s x y → Identity v k fs s id tag
-    go none f none q b = let nope : _≡_ {A = ℕ} 0 1 = cc in absurd (omega arith)
+    go none f none q b = never cc
     go none f (some p) q b = absurd b
     go (some x) f none q b = absurd b
-    go (some x) f (some p) q b = let w = filled q in record {
+    go (some x) f (some p) q b = let w = filled-one q in record {
       field = x;
       named = f;
       means = ap (meaningIn s) (sym (w .0)) ∙ value-means s (p .1) (x .value) (b .value);
@@ -178,25 +128,19 @@ module _ (v : Version) (k : Bytes) (fs : List Field) (key : Key) (s : Bytes) (st
 
 -- A record
 
-ok-is : {A : Type 0} {x y : A} → ok x ≡ ok y → x ≡ y
-ok-is e = cc
-
 module _ (v : Version) (s : Bytes) {r : RecordRead} (a : RecordAre v s r) where
   told : {x : RecordRead} → r ≡ x → RecordIs v s x
   told e = subst (RecordIs v s) e (a .is)
 
   -- a line is one record
   alone : {out : Bytes} {at : ℕ} {y : Record} {n : ℕ} {o : Bytes} → readRecord v s ≡ ok y → (IsEntry y → Wrote out at (lineOf v y) n o) → PutsRecord v s out at n o
-  alone {out} {at} {y} {n} {o} f w = record { is = λ x e h. let q : y ≡ x = ok-is (sym f ∙ e) in subst (λ (z : Record). IsEntry z → Wrote out at (lineOf v z) n o) q w h }
+  alone {out} {at} {y} {n} {o} f w = record { is = λ x e h. let q : y ≡ x = cc in subst (λ (z : Record). IsEntry z → Wrote out at (lineOf v z) n o) q w h }
 
   pub version-left : {w : FileFormat} → r ≡ read.FileFormat w → {out : Bytes} {at : ℕ} → PutsRecord v s out at at out
   version-left e = alone (told e) (λ h. absurd h)
 
   pub refused-left : {w : Refusal} → r ≡ read.Refused w → {out : Bytes} {at : ℕ} → PutsRecord v s out at at out
-  refused-left e = record { is = λ x f h. nope (sym f ∙ told e) }
-    where
-      nope : {B : Type 0} {x : Record} {n : ℕ} → ok x ≡ refuse n → B
-      nope e = let z : _≡_ {A = ℕ} 0 1 = cc in absurd (omega arith)
+  refused-left e = record { is = λ x f h. never (cc (told e)) }
 
   pub text-put : {i : ℕ} → r ≡ read.Text i → {out : Bytes} {at n : ℕ} {o : Bytes} → Wrote out at s n o → PutsRecord v s out at n o
   unfolding saying recordOf
@@ -222,12 +166,6 @@ module _ (v : Version) (s : Bytes) {r : RecordRead} (a : RecordAre v s r) where
 pub ruleset records = (version-left, refused-left, text-put, map-short, map-put-in)
 
 -- The ending
-
-ends-more : (c : ℕ) (xs : Bytes) (y : ℕ) (ys : Bytes) → ends c (xs ++ y ∷ ys) ≡ ends c (y ∷ ys)
-unfolding ends
-ends-more c [] y ys = refl
-ends-more c (x ∷ []) y ys = refl
-ends-more c (x ∷ w ∷ xs) y ys = ends-more c (w ∷ xs) y ys
 
 -- a map's line ends in `>`
 map-ends : (c : ℕ) (k : Bytes) (fs : List Field) → ends c (writeRecord (fields k fs)) ≡ is c 62

@@ -1,6 +1,6 @@
 -- Which fields are known ones: the code's tests of a field's key. Assumes nothing.
 use mathlib.Core.Path.{_≡_, refl, sym, ap, _∙_}
-use mathlib.Core.Bool.{Bool, true, false, _||_}
+use mathlib.Core.Bool.{Bool, true, false, or-false}
 use mathlib.Core.List.{List, [], _∷_}
 use Rattle.values.specs.Bytes.{Bytes, ascii, same}
 use Rattle.rules.specs.Version.{Version}
@@ -56,11 +56,7 @@ module _ (j : Bytes) (js : List Bytes) (name : Bytes) {q : Bool} (a : q ≡ same
 
 pub in-last : (j name : Bytes) {q : Bool} → q ≡ same j name → q ≡ isIn name (j ∷ [])
 unfolding isIn
-in-last j name {q} a = a ∙ or-off (same j name)
-  where
-    or-off : (b : Bool) → b ≡ b || false
-    or-off true = refl
-    or-off false = refl
+in-last j name a = a ∙ sym (or-false (same j name))
 
 pub in-none : (name : Bytes) → false ≡ isIn name []
 unfolding isIn

@@ -20,8 +20,9 @@ use Rattle.values.specs.declared.field.Separator.the-variants as separator
 use Rattle.values.proofs.Lists.{on-some}
 use Rattle.values.proofs.Outputs.{wrote-nothing, then}
 use Rattle.values.proofs.Fields.{part}
-use Rattle.values.proofs.Places.{valueBy, FieldHere}
+use Rattle.values.proofs.Places.{text-by, FieldHere}
 use Rattle.values.proofs.Raws.{Raw, field-raw}
+use Rattle.rules.proofs.Scans.{Left, left-all, left-unread, left-told, left-first, left-last, left-next, left-less}
 use Rattle.rules.proofs.Shows.{value-means}
 use Rattle.records.specs.declared.key.Key.{Key}
 use Rattle.entries.specs.Shown.{fieldsAt}
@@ -29,7 +30,6 @@ use Rattle.forms.specs.declared.known.FieldFound.{FieldFound}
 use Rattle.forms.specs.declared.known.FieldFound.the-variants.{Found, Missing}
 use Rattle.forms.specs.Forms.{fieldBy, PutsNumber, keyed, knownText, Row, typedRows, filterRows, contigRows, rowsOf, listed}
 use Rattle.forms.specs.Found.{FoundIs, Finds, PutsKnown}
-use Rattle.forms.proofs.Walks.{Left, left-all, left-unread, told, left-first, left-last, left-next, left-less}
 
 -- The search
 
@@ -57,10 +57,6 @@ seek-all m s start name = record { fs = fieldsAt m s start; left = left-all m s 
 missed : (m : Bool) (s : Bytes) (start : ℕ) (name : Bytes) → keyed name (fieldsAt m s start) ≡ none → Finds m s start name Missing
 missed m s start name e = record { is = rw e tt }
 
-text-by : (q : Bool) (t : Bytes) → textOf (valueBy q t) ≡ t
-text-by true t = refl
-text-by false t = refl
-
 -- a field that the code was told of has its value there
 field-found : {m : Bool} {s : Bytes} {i e : ℕ} {t : Text} {n : Cursor} (h : FieldHere m s i e t n) → FoundIs s (some (h .field)) (Found t)
 field-found {m} {s} {i} {e} {t} h = (
@@ -75,7 +71,7 @@ module _ {m : Bool} {s : Bytes} {start : ℕ} {name : Bytes} {i : ℕ} (g : Seek
 
   module _ {e : ℕ} {t : Text} {n : Cursor} (b : r ≡ read.Field e t n) {p : Bytes} (c : p ≡ take (e - i) (drop i s)) {q : Bool} (d : q ≡ same p name) where
     abbrev here : FieldHere m s i e t n
-    here = told (g .left) a b
+    here = left-told (g .left) a b
 
     tested : same (here .field .key) name ≡ q
     tested = ap (λ (x : Bytes). same x name) (sym (here .key) ∙ sym c) ∙ sym d

@@ -25,6 +25,7 @@ use Rattle.rules.specs.Record.{Record, fileformat, fields, text, readRecord}
 use Rattle.rules.specs.Entry.{kindNumber, fieldsStart}
 use Rattle.rules.specs.Shown.{kindIn, startIn, lengthIn, hasId, fieldPart, fieldsPart, linePart, entryAt, shownField}
 use Rattle.rules.proofs.Firsts.{on-ok}
+use Rattle.rules.proofs.Texts.{Scanned, record-scanned}
 use Rattle.records.specs.Keys.{bytesOf, keyKind}
 use Rattle.records.specs.Records.{keyIn, RecordIs, RecordAre}
 use Rattle.records.specs.declared.file_format.FileFormat.{FileFormat}
@@ -40,8 +41,7 @@ use Rattle.entries.specs.declared.shown.EntryRead.the-variants.{Entry, Missing}
 use Rattle.entries.specs.Shown.{shownAs, entryAs, fieldsAt, Inside, movedBy}
 use Rattle.entries.proofs.Calls.{entry-is, entry-none, entry-inside, refused-inside}
 use Rattle.entries.proofs.Fields.{moved-part, nth-read}
-use Rattle.header.specs.Lines.{fieldIn, FieldAt}
-use Rattle.header.proofs.Scans.{Scanned, record-scanned}
+use Rattle.header.specs.Fields.{fieldIn, FieldAt}
 
 -- A line
 

@@ -24,8 +24,8 @@ use Rattle.rules.specs.Entry.{Entry, place, recordEntry, columnEntries, words}
 use Rattle.rules.specs.Reading.{State, empty, ready, done, step, Reading, stop, following, atEnd, run, reading}
 use Rattle.rules.proofs.Firsts.{on-ok}
 use Rattle.rules.proofs.Pieces.{Pieces, piece-line, pieces-fine}
-use Rattle.rules.proofs.Sound.{good-snoc, run-refused, run-full, run-more}
-use Rattle.rules.proofs.Trace.{LineAt, Row, Rows, Taken, step-taken, first-line}
+use Rattle.rules.proofs.Sound.{good-snoc, Taken, step-taken, run-refused, run-full, run-more}
+use Rattle.rules.proofs.Trace.{LineAt, Row, Rows, first-line}
 use Rattle.rules.proofs.Shows.{place-kind, words-count}
 use Rattle.records.specs.Refusals.{number}
 use Rattle.records.proofs.Refusals.{number-suc}

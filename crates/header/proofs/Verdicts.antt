@@ -7,13 +7,14 @@ use mathlib.Core.Bool.{Bool, true, false, not, _||_}
 use mathlib.Core.List.{List, [], _∷_, _++_}
 use mathlib.Core.Option.{Option, none, some}
 use lib.ListN.{length, take, drop, length-take, length-drop}
+use lib.Seq.{take-append-add}
 use borrow.Author.Tests.{le-leb, lt-leb}
-use Rattle.values.specs.Bytes.{Bytes, ascii, is, same, starts}
+use Rattle.values.specs.Bytes.{Bytes, ascii, is, starts}
 use Rattle.values.specs.Utf8.{isUtf8}
 use Rattle.values.specs.Value.{meaning}
 use Rattle.values.specs.Field.{Field}
 use Rattle.values.specs.declared.string.Text.{Text}
-use Rattle.values.proofs.Tests.{pass, fail, test, or-l, not-true, not-false}
+use Rattle.values.proofs.Tests.{or-l, not-true, not-false}
 use Rattle.values.proofs.Lists.{some-is, before-none}
 use Rattle.rules.specs.Answer.{Answer, ok, refuse, _>>=_, judged}
 use Rattle.rules.specs.Sizes.{limits}
@@ -30,7 +31,7 @@ use Rattle.rules.proofs.Pure.{Pure}
 use Rattle.rules.proofs.Versions.{Sized}
 use Rattle.rules.proofs.Records.{GoodRecord, Entered, record-good}
 use Rattle.rules.proofs.Texts.{LineOf, record-in}
-use Rattle.rules.proofs.Shows.{Packed, Both, AnyAt, named-text, line-fields}
+use Rattle.rules.proofs.Shows.{Packed, Both, AnyAt, named-text, line-fields, tag-small}
 use Rattle.records.specs.Formats.{versionOf}
 use Rattle.records.specs.Refusals.{number}
 use Rattle.records.specs.Keys.{keyKind}
@@ -43,6 +44,7 @@ use Rattle.records.specs.declared.refusal.Refusal.the-variants.{ExpectedEof, Li
 use Rattle.records.specs.declared.map.Slot.the-variants as slot
 use Rattle.records.specs.declared.record.RecordRead.{RecordRead}
 use Rattle.records.specs.declared.record.RecordRead.the-variants as read
+use Rattle.records.proofs.Determined.{filled-one}
 use Rattle.records.proofs.Keys.{key-kind}
 use Rattle.records.proofs.Typed.{text-means}
 use Rattle.columns.specs.HeaderLines.{HeaderRead}
@@ -166,16 +168,9 @@ pub ruleset ids = (id-free, id-twice, id-mixed, id-other)
 -- A line's `##key=`
 
 prefix-here : (k r : Bytes) → take (2 + length k + 1) (ascii "##" ++ (k ++ 61 ∷ r)) ≡ prefixOf k
-prefix-here k r = let e : 2 + length k + 1 ≡ suc (suc (length k + 1)) = omega arith in rw e (ap (λ (x : Bytes). 35 ∷ 35 ∷ x) (go k))
-  where
-    go : (k : Bytes) → take (length k + 1) (k ++ 61 ∷ r) ≡ k ++ 61 ∷ []
-    go [] = refl
-    go (b ∷ k) = let e : suc (length k) + 1 ≡ suc (length k + 1) = omega arith in rw e (ap (b ∷_) (go k))
+prefix-here k r = let e : 2 + length k ≡ suc (suc (length k)) = omega arith in rw e (take-append-add (ascii "##" ++ k) (61 ∷ r) 1)
 
 module _ (v : Version) (l : Bytes) (pure : Pure l) where
-  map-good : {k : Bytes} {fs : List Field} → readRecord v l ≡ ok (fields k fs) → GoodRecord v (fields k fs)
-  map-good e = on-ok (GoodRecord v) (record-good v l pure) e
-
   map-prefix : {k : Bytes} {fs : List Field} → readRecord v l ≡ ok (fields k fs) → take (2 + length k + 1) l ≡ prefixOf k
   unfolding writeRecord
   map-prefix {k} {fs} e = ap (take (2 + length k + 1)) (on-ok (LineOf l) (record-in v l) e) ∙ prefix-here k _
@@ -189,12 +184,6 @@ module _ (v : Version) (l : Bytes) (pure : Pure l) where
 
 -- The ID of a map
 
-tag-small : (field : Bytes) → tagOf field < 4
-tag-small field = elim (test (same field (ascii "Child"))) [
-  | pass e ↦ rw (tagOf, e) (omega arith)
-  | fail e ↦ elim (test (same field (ascii "Derived"))) [ pass f ↦ rw (tagOf, e, f) (omega arith) | fail f ↦ rw (tagOf, e, f) (omega arith) ]
-]
-
 -- the text that is kept is the one that the rules name
 record Kept (o : Option (Bytes × Text)) (id : Text) (tag : ℕ) : Type 0 where
   key : Bytes
@@ -203,10 +192,7 @@ record Kept (o : Option (Bytes × Text)) (id : Text) (tag : ℕ) : Type 0 where
 
 kept-is : (o : Option (Bytes × Text)) {id : Text} {tag : ℕ} → slotted o ≡ slot.Filled id tag → Kept o id tag
 kept-is none e = let nope : _≡_ {A = ℕ} 0 1 = cc in absurd (omega arith)
-kept-is (some p) e = let h = both e in record { key = p .0; is = ap (λ (t : Text). some (p .0, t)) (h .0); tagged = h .1 }
-  where
-    both : {a b : Text} {m n : ℕ} → slot.Filled a m ≡ slot.Filled b n → (a ≡ b) × (m ≡ n)
-    both e = (cc, cc)
+kept-is (some p) e = let h = filled-one e in record { key = p .0; is = ap (λ (t : Text). some (p .0, t)) (h .0); tagged = h .1 }
 
 text-inside : (l : Bytes) (a : Option Field) (b : Option (Bytes × Text)) → Both l a b → {k : Bytes} {id : Text} → b ≡ some (k, id) → (id .start ≤ id .end) × (id .end ≤ length l)
 text-inside l none none u e = let nope : _≡_ {A = ℕ} 0 1 = cc in absurd (omega arith)

@@ -1,3 +1,3 @@
 pub mod Verdicts
 pub mod Parsers
-pub mod Lines
+pub mod Fields

@@ -16,7 +16,7 @@ ghost use lib.ListN.{length};
 ghost use Rattle.rules.specs.Shown.{shownField};
 ghost use Rattle.records.specs.Formats.{versionOf};
 ghost use Rattle.entries.specs.Shown.{shownAs, Inside};
-ghost use Rattle.header.specs.Lines.{fieldIn, FieldAt};
+ghost use Rattle.header.specs.Fields.{fieldIn, FieldAt};
 
 // Field i of a line, read alone, if it is a record of this kind.
 fn line_field(l: &[u8], kind: u64, version: FileFormat, i: usize) -> Shown

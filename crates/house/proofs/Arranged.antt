@@ -2,8 +2,8 @@
 use Prim.Native.Nat.{ℕ, _≤_}
 use native.Mathlib.Omega.{arith}
 use mathlib.Core.Path.{_≡_, refl, sym, ap, ap₂, _∙_}
-use mathlib.Core.Bool.{Bool, true, false, not, _||_, false≢true}
-use mathlib.Core.List.{List, [], _∷_, _++_, map, append-assoc}
+use mathlib.Core.Bool.{Bool, true, false, not, _||_, false≢true, or-false, or-assoc, or-comm}
+use mathlib.Core.List.{List, [], _∷_, _++_, map, append-assoc, map-append, map-map}
 use mathlib.Core.Option.{Option}
 use lib.ListN.{length}
 use Rattle.values.specs.Bytes.{Bytes, is, any, same}
@@ -22,7 +22,8 @@ use Rattle.rules.specs.House.{writeRecord, writeColumns, houseLines}
 use Rattle.rules.proofs.Firsts.{on-ok}
 use Rattle.rules.proofs.Alls.{All}
 use Rattle.rules.proofs.Records.{Entered}
-use Rattle.rules.proofs.Groups.{arrange, allKeys, records-arranged}
+use Rattle.rules.proofs.Groups.{arrange, under-yes, under-no, without-yes, without-no, keys-typed, keys-other, allKeys}
+use Rattle.rules.proofs.House.{house-lines}
 use Rattle.rules.proofs.Samples.{GoodColumns, columns-in}
 use Rattle.rules.proofs.Tidy.{tidied}
 use Rattle.rules.proofs.Trace.{TracedHeader}
@@ -38,18 +39,6 @@ Plain k = any (is 61) k ≡ false
 
 abbrev Asides : List Entry → Type 0
 Asides = All (λ (e : Entry). Aside (e .0))
-
-map-append : (v : Version) (xs ys : List Record) → map (lineOf v) xs ++ map (lineOf v) ys ≡ map (lineOf v) (xs ++ ys)
-map-append v [] ys = refl
-map-append v (x ∷ xs) ys = ap (lineOf v x ∷_) (map-append v xs ys)
-
-under-yes : (k : Bytes) (r : Record) (rs : List Record) → same (keyOf r) k ≡ true → under k (r ∷ rs) ≡ r ∷ under k rs
-unfolding under
-under-yes k r rs e = rw (e, under)
-
-under-no : (k : Bytes) (r : Record) (rs : List Record) → same (keyOf r) k ≡ false → under k (r ∷ rs) ≡ under k rs
-unfolding under
-under-no k r rs e = rw (e, under)
 
 module _ (v : Version) (h : Bytes) where
   not-under : (prefix : Bytes) (w : ℕ) → Aside w → isUnder h prefix w ≡ false
@@ -95,16 +84,8 @@ module _ (v : Version) (h : Bytes) where
 
   seen-snoc : (prefix : Bytes) (es : List Entry) (e : Entry) → seenUnder h prefix (words (es ++ e ∷ [])) ≡ (seenUnder h prefix (words es) || isUnder h prefix (e .0))
   unfolding words seenUnder
-  seen-snoc prefix [] e = or-none (isUnder h prefix (e .0))
-    where
-      or-none : (b : Bool) → (b || false) ≡ b
-      or-none true = refl
-      or-none false = refl
-  seen-snoc prefix (f ∷ es) e = go (isUnder h prefix (f .0)) (seenUnder h prefix (words es)) (isUnder h prefix (e .0)) (seen-snoc prefix es e)
-    where
-      go : (b y z : Bool) {x : Bool} → x ≡ (y || z) → (b || x) ≡ ((b || y) || z)
-      go true y z q = refl
-      go false y z q = q
+  seen-snoc prefix [] e = or-false (isUnder h prefix (e .0))
+  seen-snoc prefix (f ∷ es) e = rw (seen-snoc prefix es e) (sym (or-assoc (isUnder h prefix (f .0)) (seenUnder h prefix (words es)) (isUnder h prefix (e .0))))
 
 words-snoc : (es : List Entry) (e : Entry) → words es ++ e .0 ∷ e .1 ∷ [] ≡ words (es ++ e ∷ [])
 unfolding words
@@ -139,14 +120,6 @@ unfoldable lacking : List Bytes → List Bytes → List Bytes
 lacking [] js = js
 lacking (k ∷ ks) js = lacking ks (without k js)
 
-without-yes : (k j : Bytes) (js : List Bytes) → same j k ≡ true → without k (j ∷ js) ≡ without k js
-unfolding without
-without-yes k j js e = rw (e, without)
-
-without-no : (k j : Bytes) (js : List Bytes) → same j k ≡ false → without k (j ∷ js) ≡ j ∷ without k js
-unfolding without
-without-no k j js e = rw (e, without)
-
 lacking-in : (ks : List Bytes) (j : Bytes) (js : List Bytes) → isIn j ks ≡ true → lacking ks (j ∷ js) ≡ lacking ks js
 unfolding lacking isIn
 lacking-in [] j js h = absurd (false≢true h)
@@ -176,22 +149,10 @@ fresh-lacking ks (r ∷ rs) = elim (test (isTyped (keyOf r))) [
     | fail f ↦ fresh-new ks r rs e f ∙ ap (keyOf r ∷_) (fresh-lacking (keyOf r ∷ ks) rs) ∙ sym (ap (lacking ks) (keys-other r rs e) ∙ lacking-out ks (keyOf r) (without (keyOf r) (otherKeys rs)) f)
   ]
 ]
-  where
-    keys-typed : (r : Record) (rs : List Record) → isTyped (keyOf r) ≡ true → otherKeys (r ∷ rs) ≡ otherKeys rs
-    keys-typed r rs e = rw (e, otherKeys)
-
-    keys-other : (r : Record) (rs : List Record) → isTyped (keyOf r) ≡ false → otherKeys (r ∷ rs) ≡ keyOf r ∷ without (keyOf r) (otherKeys rs)
-    keys-other r rs e = rw (e, otherKeys)
 
 -- a typed key is none that is not
 typed-not : (j k : Bytes) → isTyped j ≡ true → isTyped k ≡ false → same j k ≡ false
 typed-not j k a b = elim (test (same j k)) [ pass e ↦ both (rw (same-sound j k e) at a) b | fail e ↦ e ]
-
-or-swap : (a b : Bool) → (a || b) ≡ (b || a)
-or-swap true true = refl
-or-swap true false = refl
-or-swap false true = refl
-or-swap false false = refl
 
 module _ (v : Version) (h : Bytes) (all : List ℕ) (ts : List Record) (pick : (k : Bytes) → Plain k → picked v h (prefixOf k) all ≡ map (lineOf v) (under k ts)) where
   -- the lines of these keys, then more
@@ -201,7 +162,7 @@ module _ (v : Version) (h : Bytes) (all : List ℕ) (ts : List Record) (pick : (
   lines-arranged (j ∷ js) ks {ls} p e =
       append-assoc (picked v h (prefixOf j) all) (linesUnder v h all js) ls
       ∙ ap₂ _++_ (pick j (p .0)) (lines-arranged js ks (p .1) e)
-      ∙ map-append v (under j ts) (arrange (js ++ ks) ts)
+      ∙ sym (map-append (lineOf v) (under j ts) (arrange (js ++ ks) ts))
 
   others-aside : (ahead : List ℕ) (es : List Entry) → Asides es → otherLines v h all ahead (words es) ≡ []
   unfolding words otherLines
@@ -213,11 +174,11 @@ module _ (v : Version) (h : Bytes) (all : List ℕ) (ts : List Record) (pick : (
   Seen es ks = (k : Bytes) → Plain k → isTyped k ≡ false → seenUnder h (prefixOf k) (words es) ≡ isIn k ks
 
   seen-typed : (ahead : List Entry) (ks : List Bytes) (e : Entry) (r : Record) → RowIs v h e r → isTyped (keyOf r) ≡ true → Seen ahead ks → Seen (ahead ++ e ∷ []) ks
-  seen-typed ahead ks e r a t s k p u = seen-snoc v h (prefixOf k) ahead e ∙ rw (s k p u, a .under k p, typed-not (keyOf r) k t u) (or-swap (isIn k ks) false)
+  seen-typed ahead ks e r a t s k p u = seen-snoc v h (prefixOf k) ahead e ∙ rw (s k p u, a .under k p, typed-not (keyOf r) k t u) (or-comm (isIn k ks) false)
 
   seen-other : (ahead : List Entry) (ks : List Bytes) (e : Entry) (r : Record) → RowIs v h e r → Seen ahead ks → Seen (ahead ++ e ∷ []) (keyOf r ∷ ks)
   unfolding isIn
-  seen-other ahead ks e r a s k p u = seen-snoc v h (prefixOf k) ahead e ∙ rw (s k p u, a .under k p) (or-swap (isIn k ks) (same (keyOf r) k))
+  seen-other ahead ks e r a s k p u = seen-snoc v h (prefixOf k) ahead e ∙ rw (s k p u, a .under k p) (or-comm (isIn k ks) (same (keyOf r) k))
 
   typed-first : (ahead : List Entry) (e : Entry) (r : Record) → RowIs v h e r → isTyped (keyOf r) ≡ true → isFirst h (words ahead) (e .0) ≡ false
   unfolding isFirst
@@ -250,7 +211,7 @@ module _ (v : Version) (h : Bytes) (all : List ℕ) (ts : List Record) (pick : (
       | fail f ↦ others-turn ahead e (es ++ rest) (other-first ahead ks e r (a .0) t s ∙ ap not f)
           ∙ ap₂ _++_ (ap (λ (p : Bytes). picked v h p all) (a .0 .prefix) ∙ pick (keyOf r) (a .0 .plain))
           (others-arranged es rs rest (a .1) b (ahead ++ e ∷ []) (keyOf r ∷ ks) (seen-other ahead ks e r (a .0) s))
-          ∙ map-append v (under (keyOf r) ts) (arrange (freshKeys (keyOf r ∷ ks) rs) ts)
+          ∙ sym (map-append (lineOf v) (under (keyOf r) ts) (arrange (freshKeys (keyOf r ∷ ks) rs) ts))
           ∙ sym (ap (λ (js : List Bytes). map (lineOf v) (arrange js ts)) (fresh-new ks r rs t f))
     ]
   ]
@@ -303,13 +264,8 @@ pub record FormIs (v : Version) (h : Bytes) (rs : List Record) (c : Columns) (es
   pub readable : AllReadable v h (words es)
   pub lines : formLines v h (words es) ≡ houseLines (meaning v rs c)
 
-house-lines : (v : Version) (rs : List Record) (c : Columns) → houseLines (meaning v rs c) ≡ writeRecord (fileformat v) ∷ (map (lineOf v) (arrange (allKeys rs) rs) ++ writeColumns (c .format) (c .samples) ∷ [])
-unfolding houseLines meaning
-house-lines v rs c = rw (records-arranged v (allKeys rs) rs) (ap (λ (ls : List Bytes). writeRecord (fileformat v) ∷ (ls ++ writeColumns (c .format) (c .samples) ∷ [])) (mapped (arrange (allKeys rs) rs)))
-  where
-    mapped : (xs : List Record) → map writeRecord (map (tidied v) xs) ≡ map (lineOf v) xs
-    mapped [] = refl
-    mapped (x ∷ xs) = ap (lineOf v x ∷_) (mapped xs)
+form-lines : (v : Version) (rs : List Record) (c : Columns) → houseLines (meaning v rs c) ≡ writeRecord (fileformat v) ∷ (map (lineOf v) (arrange (allKeys rs) rs) ++ writeColumns (c .format) (c .samples) ∷ [])
+form-lines v rs c = house-lines v rs c ∙ ap (λ (ls : List Bytes). writeRecord (fileformat v) ∷ (ls ++ writeColumns (c .format) (c .samples) ∷ [])) (map-map writeRecord (tidied v) (arrange (allKeys rs) rs))
 
 module _ (imposed : Option Version) (h : Bytes) (within : length h ≤ 1048575) (v : Version) (rs : List Record) (c : Columns) (entries : List Entry)
     (t : TracedHeader limits imposed h v rs c entries) (good : All (Entered v) rs) (columns : GoodColumns c) where
@@ -337,5 +293,5 @@ module _ (imposed : Option Version) (h : Bytes) (within : length h ≤ 1048575) 
       = ap (lineIn h) (column-is v h own (t .rows) rs rest aside are asides kind) ∙ last-line ∙ sym column-line in
       rw (t .these) (record {
         readable = all-readable v h own (t .rows) rs rest aside are asides;
-        lines = rw (records-are v h own (t .rows) rs rest aside are asides, column, house-lines v rs c);
+        lines = rw (records-are v h own (t .rows) rs rest aside are asides, column, form-lines v rs c);
       })

@@ -1,7 +1,5 @@
 -- What a house-form call tells determines its answer. Assumes nothing.
-use Prim.Native.Nat.{ℕ}
 use mathlib.Core.Path.{_≡_, ap}
-use Rattle.header.specs.Parsers.{Told, told}
 use Rattle.header.specs.declared.parser.ReadAnswer.{ReadAnswer}
 use Rattle.header.proofs.Answers.{told-injective}
 use Rattle.house.specs.Answers.{ToldForm, toldForm}

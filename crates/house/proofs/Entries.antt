@@ -1,14 +1,15 @@
 -- What the words of an accepted header's entries tell: of each record its key and its line. Assumes nothing.
-use Prim.Native.Nat.{ℕ, suc, _+_, _-_, _^_, _≤_, _<_}
+use Prim.Native.Nat.{ℕ, _+_, _-_, _^_, _≤_, _<_}
 use native.Mathlib.Omega.{arith}
 use mathlib.Core.Path.{_≡_, refl, sym, ap, _∙_}
 use mathlib.Core.Bool.{Bool, true, false, not, _&&_}
 use mathlib.Core.List.{List, [], _∷_, _++_}
 use lib.Dec.{eqb, ltb}
-use lib.ListN.{length, take, length-append}
+use lib.ListN.{length, length-append}
+use lib.Seq.{take-append-add}
 use borrow.Author.Tests.{lt-ltb, le-ltb, ne-eqb, ltb-true, ltb-false}
-use Rattle.values.specs.Bytes.{Bytes, ascii, is, any, before, same}
-use Rattle.values.proofs.Tests.{pass, fail, test, or-l, and-off}
+use Rattle.values.specs.Bytes.{Bytes, ascii, is, any, same}
+use Rattle.values.proofs.Tests.{pass, fail, test, or-l, and-off, never}
 use Rattle.values.proofs.Lists.{before-stop}
 use Rattle.rules.specs.Answer.{ok}
 use Rattle.rules.specs.Sizes.{limits}
@@ -59,7 +60,6 @@ aside-high w l = record { unrecorded = and-off (ltb 1 (kindIn w)) (le-ltb (kindI
 -- Records
 
 pub record RowIs (v : Version) (h : Bytes) (e : Entry) (r : Record) : Type 0 where
-  pub recorded : isRecord (e .0) ≡ true
   pub other : isOther (e .0) ≡ not (isTyped (keyOf r))
   pub no-columns : eqb (kindIn (e .0)) 9 ≡ false
   pub plain : any (is 61) (keyOf r) ≡ false
@@ -67,11 +67,6 @@ pub record RowIs (v : Version) (h : Bytes) (e : Entry) (r : Record) : Type 0 whe
   pub written : houseLine v (lineIn h (e .0)) ≡ lineOf v r
   pub under : (k : Bytes) → any (is 61) k ≡ false → isUnder h (prefixOf k) (e .0) ≡ same (keyOf r) k
   pub prefix : prefixIn h (e .0) ≡ prefixOf (keyOf r)
-
--- a run of bytes and one more
-take-over : (p : Bytes) (c : ℕ) (rest : Bytes) → take (length p + 1) (p ++ c ∷ rest) ≡ p ++ c ∷ []
-take-over [] c rest = refl
-take-over (b ∷ p) c rest = let n : suc (length p) + 1 ≡ suc (length p + 1) = omega arith in rw n (ap (b ∷_) (take-over p c rest))
 
 lacks-key : (k : Bytes) → any (is 61) k ≡ false → any (is 61) (ascii "##" ++ k) ≡ false
 unfolding any
@@ -83,7 +78,7 @@ module _ (v : Version) (h : Bytes) (e : Entry) (r : Record) (rest l : Bytes) (is
   unfolding prefixIn
   prefix-is =
       let p = ascii "##" ++ keyOf r in
-      rw (is-line ∙ l-is, before-stop (is 61) p 61 rest (lacks-key (keyOf r) plain) refl) (take-over p 61 rest)
+      rw (is-line ∙ l-is, before-stop (is 61) p 61 rest (lacks-key (keyOf r) plain) refl) (take-append-add p (61 ∷ rest) 1)
 
   record-kind : isRecord (e .0) ≡ true
   record-kind = rw (is-kind, lt-ltb 1 kind (omega arith), lt-ltb kind 9 (omega arith))
@@ -91,7 +86,6 @@ module _ (v : Version) (h : Bytes) (e : Entry) (r : Record) (rest l : Bytes) (is
   row-of : isOther (e .0) ≡ not (isTyped (keyOf r)) → readRecord v l ≡ ok r → IsEntry r → RowIs v h e r
   unfolding houseLine isUnder
   row-of o read entry = record {
-    recorded = record-kind;
     other = o;
     no-columns = rw is-kind (ne-eqb kind 9 (λ q. omega arith));
     plain = plain;
@@ -165,4 +159,4 @@ columns-aside h within start l c at e g =
     go true (x ∷ xs) n k =
         let m = columns-long x xs in
         samples-aside (start + length l) (start + samplesStart) x xs (omega arith) (omega (arith, at .inside)) (omega (arith, at .short))
-    go false (x ∷ xs) n k = let z : _≡_ {A = ℕ} 0 1 = cc (k refl) in absurd (omega arith)
+    go false (x ∷ xs) n k = never (cc (k refl))

@@ -4,7 +4,7 @@ use native.Mathlib.Omega.{arith}
 use mathlib.Core.Path.{_≡_, refl, sym, ap, _∙_}
 use mathlib.Core.Bool.{true}
 use mathlib.Core.List.{List, [], _∷_}
-use mathlib.Core.Option.{none, some}
+use mathlib.Core.Option.{none, some, orElse}
 use lib.Dec.{leb}
 use lib.ListN.{length, getD, drop}
 use borrow.Author.Tests.{eq-eqb, ne-eqb, le-leb, lt-leb}
@@ -83,6 +83,7 @@ module _ {v : Version} {h : Bytes} {ws : List ℕ} {none-out none-left : Bytes} 
   whole-size a l = omega (arith, at-size a)
 
   first-long : AllReadable v h ws → m .next ≤ 1048575 → longIn m ≡ tooLong (limits .line) 0 0 ls
+  unfolding orElse
   first-long a l =
       let s = whole-size a l in
       p .is a .long (omega (arith, s)) (omega (arith, s, lines-count ls))

@@ -1,12 +1,12 @@
 -- The keys that are not typed, by first appearance: a turn of each loop on plain values. Assumes nothing.
-use Prim.Native.Nat.{ℕ, suc, _+_, _-_, _≤_, _<_}
+use Prim.Native.Nat.{ℕ, _+_, _-_, _≤_, _<_}
 use native.Mathlib.Omega.{arith}
 use mathlib.Core.Path.{_≡_, refl, sym, ap, subst, _∙_}
 use mathlib.Core.Bool.{Bool, true, false, not, _||_}
 use mathlib.Core.List.{List, [], _∷_, _++_, append-assoc, append-nil}
 use lib.Dec.{ltb}
 use lib.ListN.{length, getD, take, drop}
-use lib.Seq.{take-all, take-suc}
+use lib.Seq.{take-all, take-add}
 use borrow.Author.Tests.{lt-ltb, le-ltb}
 use Rattle.values.specs.Bytes.{Bytes, is, before}
 use Rattle.values.specs.Written.{last}
@@ -102,10 +102,7 @@ other-start v h ws old s a b d = record {
 }
 
 take-two : (ws : List ℕ) (k : ℕ) → k + 1 < length ws → take k ws ++ getD ws k 0 ∷ getD ws (k + 1) 0 ∷ [] ≡ take (k + 2) ws
-take-two ws k l =
-    let two : k + 2 ≡ suc (suc k) = omega arith in
-    let n : k + 1 ≡ suc k = omega arith in
-    rw (two, n) (sym (take-suc ws (suc k) 0 (omega arith) ∙ rw (take-suc ws k 0 (omega arith)) (append-assoc (take k ws) (getD ws k 0 ∷ []) (getD ws (suc k) 0 ∷ []))))
+take-two ws k l = sym (take-add k 2 ws ∙ rw (pair ws k l))
 
 module _ {v : Version} {h : Bytes} {ws : List ℕ} {old : Bytes} {s₀ : Progress} {new : Bytes} {s : Progress} {k : ℕ} (g : Othering v h ws old s₀ new s k) where
   module _ (l : k + 1 < length ws) {t : Bool} (e : t ≡ isFirst h (take k ws) (getD ws k 0)) where

@@ -4,14 +4,14 @@ use native.Mathlib.Omega.{arith}
 use mathlib.Core.Path.{_≡_, refl, sym, ap, subst, _∙_}
 use mathlib.Core.Bool.{Bool, true, false}
 use mathlib.Core.List.{List, [], _∷_, _++_, append-assoc, append-nil}
-use mathlib.Core.Option.{Option, none, some}
+use mathlib.Core.Option.{Option, none, some, orElse}
 use lib.Dec.{eqb, leb}
 use lib.ListN.{length, length-append}
 use borrow.Author.Tests.{eq-eqb, ne-eqb, lt-ltb, le-ltb, leb-true, leb-false}
 use Rattle.values.specs.Bytes.{Bytes, ascii, is, any}
 use Rattle.values.specs.Integer.{decimal}
 use Rattle.values.specs.Written.{last, onward, Wrote}
-use Rattle.values.proofs.Tests.{pass, fail, test, or-l, or-r, and-off}
+use Rattle.values.proofs.Tests.{pass, fail, test, and-off}
 use Rattle.values.proofs.Lists.{any-append}
 use Rattle.values.proofs.Decimals.{decimal-lacks}
 use Rattle.values.proofs.Outputs.{wrote-nothing, then}
@@ -20,11 +20,12 @@ use Rattle.rules.specs.Version.{Version, writeVersion}
 use Rattle.rules.specs.Lines.{ends, writeLine, writeLines}
 use Rattle.rules.specs.Record.{fileformat, readRecord}
 use Rattle.rules.specs.House.{writeRecord, tooLong}
+use Rattle.rules.proofs.Pieces.{no-end}
 use Rattle.forms.specs.Lines.{lineOf, ending, PutsLine}
 use Rattle.forms.proofs.Lines.{line-ended}
 use Rattle.forms.specs.declared.line.LineWritten.{LineWritten}
 use Rattle.house.specs.declared.progress.Progress.{Progress}
-use Rattle.house.specs.Writes.{longIn, isLong, noted, orElse, WroteLines, houseLine, PutsEntry}
+use Rattle.house.specs.Writes.{longIn, isLong, noted, WroteLines, houseLine, PutsEntry}
 
 -- what answers the needs of `count_line`
 pub count-more : (n : ℕ) → n < 18446744073709551615 → n + 1 ≡ onward n 1
@@ -66,7 +67,7 @@ pub ruleset notes = (note-long, note-short, note-back, note-later)
 
 too-long-append : (limit n start : ℕ) (ls ms : List Bytes)
     → tooLong limit n start (ls ++ ms) ≡ orElse (tooLong limit n start ls) (tooLong limit (n + length ls) (start + length (writeLines ls)) ms)
-unfolding tooLong writeLines
+unfolding tooLong writeLines orElse
 too-long-append limit n start [] ms = let a : n + 0 ≡ n = omega arith in let b : start + 0 ≡ start = omega arith in rw (a, b)
 too-long-append limit n start (l ∷ ls) ms = elim (test (leb (length l) limit)) [
   | pass e ↦
@@ -98,7 +99,7 @@ lines-count (l ∷ ls) = rw (length-append (writeLine l) (writeLines ls)) (omega
 -- Lines after lines
 
 pub wrote-no-lines : (out : Bytes) (s : Progress) → s .next ≤ last → s .lines ≤ last → length out ≤ last → WroteLines out s [] s out
-unfolding writeLines tooLong onward
+unfolding writeLines tooLong onward orElse
 wrote-no-lines out s a b d = record { text = wrote-nothing out (s .next) a d; count = omega arith; long = λ x y. none-else (longIn s) }
   where
     none-else : (x : Option (ℕ × ℕ)) → x ≡ orElse x none
@@ -107,7 +108,7 @@ wrote-no-lines out s a b d = record { text = wrote-nothing out (s .next) a d; co
 
 pub then-lines : {out : Bytes} {s : Progress} {ls : List Bytes} {r : Progress} {o : Bytes} {ms : List Bytes} {r′ : Progress} {o′ : Bytes}
     → WroteLines out s ls r o → WroteLines o r ms r′ o′ → WroteLines out s (ls ++ ms) r′ o′
-unfolding onward
+unfolding onward orElse
 then-lines {out} {s} {ls} {r} {o} {ms} {r′} {o′} p q = record {
   text = subst (λ (t : Bytes). Wrote out (s .next) t (r′ .next) o′) (sym (lines-append ls ms)) (then (p .text) (q .text));
   count = q .count ∙ rw (p .count, length-append ls ms) (omega arith);
@@ -153,7 +154,7 @@ module _ (s : Progress) (end next : ℕ) where
     short-now h = rw (noted, none-yet, le-ltb (limits .line) (end - s .next) h) (rw none-yet)
 
   noted-long : (l : Bytes) → end - s .next ≡ length l → s .lines + 1 ≤ last → longIn (noted s end next) ≡ orElse (longIn s) (tooLong (limits .line) (s .lines) (s .next) (l ∷ []))
-  unfolding tooLong
+  unfolding tooLong orElse
   noted-long l size h = go (s .long) refl
     where
       go : (k : ℕ) → s .long ≡ k → longIn (noted s end next) ≡ orElse (longIn s) (tooLong (limits .line) (s .lines) (s .next) (l ∷ []))
@@ -191,16 +192,10 @@ pub plain-line : {out : Bytes} {s : Progress} (l : Bytes) {end : ℕ} {o : Bytes
     → {next : ℕ} {o′ : Bytes} → Wrote o end (ending cr) next o′ → {r : Progress} → r ≡ noted s end next → WroteLines out s (l ∷ []) r o′
 plain-line l w e w′ n = one-line l (w .place) (line-ended l e w w′) n
 
-lacks-end : (c : ℕ) (bs : Bytes) → any (is c) bs ≡ false → ends c bs ≡ false
-unfolding ends any
-lacks-end c [] h = refl
-lacks-end c (b ∷ []) h = or-l (is c b) false h
-lacks-end c (b ∷ d ∷ bs) h = lacks-end c (d ∷ bs) (or-r (is c b) (any (is c) (d ∷ bs)) h)
-
 -- a version's line ends in a digit
 version-ends : (v : Version) → false ≡ ends 13 (writeRecord (fileformat v))
 unfolding writeRecord writeVersion any
-version-ends v = sym (lacks-end 13 (writeRecord (fileformat v))
+version-ends v = sym (no-end 13 (writeRecord (fileformat v))
     (any-append (is 13) (decimal (v .major)) (46 ∷ decimal (v .minor)) ∙ rw (decimal-lacks 13 (v .major) refl) (decimal-lacks 13 (v .minor) refl)))
 
 -- what answers the needs of `put_format`

@@ -3,7 +3,7 @@ use Prim.Native.Nat.{ℕ, zero, suc, _+_, _-_, _≤_}
 use mathlib.Core.Path.{_≡_}
 use mathlib.Core.Bool.{Bool, true, false, _&&_}
 use mathlib.Core.List.{List, [], _∷_}
-use mathlib.Core.Option.{Option, none, some}
+use mathlib.Core.Option.{Option, none, some, orElse}
 use lib.Dec.{eqb, ltb}
 use lib.ListN.{length}
 use Rattle.values.specs.Bytes.{Bytes}
@@ -31,10 +31,6 @@ noted s end next = elim (isLong s end) [
   | true ↦ record { next = next; lines = onward (s .lines) 1; long = onward (s .lines) 1; start = s .next }
   | false ↦ record { next = next; lines = onward (s .lines) 1; long = s .long; start = s .start }
 ]
-
-abbrev pub orElse : Option (ℕ × ℕ) → Option (ℕ × ℕ) → Option (ℕ × ℕ)
-orElse none b = b
-orElse (some p) b = some p
 
 -- these lines were written; where no number was too large, the first that is too long is that of the rules
 pub record WroteLines (old : Bytes) (s : Progress) (ls : List Bytes) (r : Progress) (new : Bytes) : Type 0 where

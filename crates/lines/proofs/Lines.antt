@@ -9,12 +9,11 @@ use lib.ListN.{length, getD, drop, length-append, length-drop}
 use lib.Seq.{getD-drop}
 use borrow.Author.Tests.{eqb-true, ne-eqb}
 use Rattle.values.specs.Bytes.{Bytes, CR, LF, is, any, before, from}
-use Rattle.values.proofs.Tests.{or-l, or-r}
 use Rattle.values.proofs.Lists.{here, drop-past, before-from, before-none, from-at, from-first}
 use Rattle.values.proofs.Scans.{stopOf}
 use Rattle.values.proofs.Fields.{text-here}
 use Rattle.rules.specs.Lines.{pieces, ends, dropEnd, lineOf}
-use Rattle.rules.proofs.Pieces.{nothing, cut, cut-first, pieces-line, pieces-last, line-LF, line-last, ends-snoc, drop-end, drop-other}
+use Rattle.rules.proofs.Pieces.{nothing, cut, cut-first, pieces-line, pieces-last, line-LF, line-last, ends-snoc, no-end, drop-end, drop-other}
 use Rattle.rules.proofs.Trace.{first-line}
 use Rattle.lines.specs.declared.line.Line.{Line}
 use Rattle.lines.specs.Lines.{PieceIs, LineIs}
@@ -58,13 +57,6 @@ piece-is h at r p ps e a b q qs f =
     let a′ : r .end ≡ at + length (lineOf q) = rw (← i) a in
     let b′ : r .next ≡ at + length q = rw (← i) b in
     record { ended = a′; stepped = b′; here = rw a′ (w .here); left = rw b′ (w .left) }
-
--- a run without c does not end in it
-no-end : (c : ℕ) (x : Bytes) → any (is c) x ≡ false → ends c x ≡ false
-unfolding ends any
-no-end c [] h = refl
-no-end c (b ∷ []) h = or-l (is c b) false h
-no-end c (b ∷ d ∷ x) h = no-end c (d ∷ x) (or-r (is c b) (any (is c) (d ∷ x)) h)
 
 -- nothing, or bytes with a last one
 data Last (x : Bytes) : Type 0 where

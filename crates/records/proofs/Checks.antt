@@ -1,23 +1,23 @@
 -- 11 to 13: what the rules ask of a field's value is what the code checks under the field's tag. Assumes nothing.
 use Prim.Native.Nat.{ℕ, _^_, _-_}
-use mathlib.Core.Path.{_≡_, refl, sym, ap, _∙_}
+use mathlib.Core.Path.{_≡_, refl, ap}
 use mathlib.Core.Bool.{Bool, true, false, not, _||_, _&&_}
 use mathlib.Core.List.{List, [], _∷_}
-use mathlib.Core.Option.{Option, none, some}
 use Rattle.values.specs.Bytes.{Bytes, ascii, same}
 use Rattle.values.specs.Integer.{u64Read}
-use Rattle.values.specs.Value.{Value, isQuoted, textOf, meaning, meaningOf}
+use Rattle.values.specs.Value.{Value, isQuoted, textOf, meaningOf}
 use Rattle.values.specs.declared.integer.IntegerRead.{IntegerRead}
 use Rattle.values.specs.declared.integer.IntegerRead.the-variants as integer
-use Rattle.values.proofs.Tests.{Test, pass, fail, test}
+use Rattle.values.proofs.Tests.{pass, fail, test}
 use Rattle.values.proofs.Sames.{same-sym}
 use Rattle.values.proofs.Raws.{Raw}
 use Rattle.rules.specs.Answer.{unless, first}
 use Rattle.rules.specs.Version.{Version, v4-5, since}
-use Rattle.rules.specs.Known.{Kind, kindOf, isInfo, isFormat, isIn, known, letters, types, Number as Asked, count, letter, numberOr, letterIn, readNumber, integers}
+use Rattle.rules.specs.Known.{kindOf, isInfo, isFormat, isIn, letters, types, numberOr, letterIn, readNumber, integers}
 use Rattle.rules.specs.Map.{isSome, isValue, isField, fieldRefusal}
+use Rattle.rules.proofs.Firsts.{first-only}
 use Rattle.records.specs.Numbers.{isCount, lettersOf, typesOf}
-use Rattle.records.specs.Tags.{tagName, knows, tagBy, Suits}
+use Rattle.records.specs.Tags.{tagName, tagBy, Suits}
 use Rattle.records.specs.Maps.{tagRefusal}
 use Rattle.records.specs.declared.tag.Tag.{Tag}
 use Rattle.records.specs.declared.tag.Tag.the-variants.{Id, Number, ValueType, Description, Idx, Length, Other}
@@ -83,27 +83,11 @@ module _ (n : Known) (v : Version) (k : Bytes) (suits : Suits n k) (field : Byte
         ≡ tagRefusal n v t (textOf value) (isQuoted value)
     unfolding same first
     by-tag Id = refl
-    by-tag Number = go (isCount (textOf value) || isIn (meaningOf value) (lettersOf (n .format && since v4-5 v)))
-      where
-        go : (x : Bool) → first (unless x 11 ∷ 0 ∷ 0 ∷ []) ≡ unless x 11
-        go true = refl
-        go false = refl
-    by-tag ValueType = go (isIn (meaningOf value) (typesOf (n .info)))
-      where
-        go : (x : Bool) → first (0 ∷ unless x 12 ∷ 0 ∷ []) ≡ unless x 12
-        go true = refl
-        go false = refl
+    by-tag Number = first-only _ (0 ∷ 0 ∷ []) refl
+    by-tag ValueType = first-only _ (0 ∷ []) refl
     by-tag Description = refl
-    by-tag Idx = go (isCount (textOf value))
-      where
-        go : (x : Bool) → first (0 ∷ 0 ∷ unless x 13 ∷ []) ≡ unless x 13
-        go true = refl
-        go false = refl
-    by-tag Length = go (isCount (textOf value))
-      where
-        go : (x : Bool) → first (0 ∷ 0 ∷ unless x 13 ∷ []) ≡ unless x 13
-        go true = refl
-        go false = refl
+    by-tag Idx = first-only _ [] refl
+    by-tag Length = first-only _ [] refl
     by-tag Other = refl
 
     pub value-checked : fieldRefusal v (kindOf k) field (meaningOf value) ≡ tagRefusal n v tag (textOf value) (isQuoted value)

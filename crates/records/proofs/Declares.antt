@@ -1,6 +1,5 @@
 -- The Number and Type that a reserved ID asks for. Assumes nothing.
 use Prim.Native.Nat.{ℕ}
-use native.Mathlib.Omega.{arith}
 use mathlib.Core.Path.{_≡_, refl, sym, ap, ap₂, _∙_}
 use mathlib.Core.Bool.{Bool, true, false, not, _&&_, false≢true}
 use mathlib.Core.List.{List}
@@ -13,7 +12,7 @@ use Rattle.values.specs.Value.{meaning}
 use Rattle.values.specs.declared.integer.IntegerRead.{IntegerRead}
 use Rattle.values.specs.declared.integer.IntegerRead.the-variants as integer
 use Rattle.values.specs.declared.string.Text.{Text}
-use Rattle.values.proofs.Tests.{pass, fail, test, not-true, not-false}
+use Rattle.values.proofs.Tests.{pass, fail, test, not-true, not-false, never}
 use Rattle.values.proofs.Lists.{some-is}
 use Rattle.values.proofs.Sames.{same-sound}
 use Rattle.rules.specs.Answer.{unless}
@@ -47,7 +46,7 @@ eqb-sym a b = elim (test (eqb b a)) [
 module _ (v : Version) (kind : Kind) (l t : Bytes) (no : u64Read l ≡ integer.Refused) (known : isIn l (letters v kind) ≡ true) where
   integer-not : {m : ℕ} → u64Read t ≡ integer.Value m → false ≡ same l t
   integer-not e = elim (test (same l t)) [
-    | pass q ↦ let z = sym (ap u64Read (same-sound l t q) ∙ e) ∙ no in let nope : _≡_ {A = ℕ} 0 1 = cc in absurd (omega arith)
+    | pass q ↦ let z = sym (ap u64Read (same-sound l t q) ∙ e) ∙ no in never cc
     | fail q ↦ sym q
   ]
 
@@ -75,8 +74,8 @@ module _ (v : Version) (kind : Kind) (t raw : Bytes) (q : Bool) (m : t ≡ meani
 
   declares-as : (ty : Bytes) (p : Bool) {y : Bytes} → y ≡ meaning p ty → (d : Definition) (r : Option Row) → definitionMeans d ≡ outline r → declares r (readNumber v kind t) y ≡ fits d raw q ty p
   declares-as ty p w Unreserved none e = refl
-  declares-as ty p w Unreserved (some r) e = let nope : _≡_ {A = ℕ} 0 1 = cc in absurd (omega arith)
-  declares-as ty p w (Of x z) none e = let nope : _≡_ {A = ℕ} 0 1 = cc in absurd (omega arith)
+  declares-as ty p w Unreserved (some r) e = never cc
+  declares-as ty p w (Of x z) none e = never cc
   declares-as ty p w (Of x z) (some r) e = rw (sym (pair e .0), sym (pair e .1), w) (ap (λ (b : Bool). b && same (typeName z) (meaning p ty)) (number-asked x))
     where
       pair : {a b : Asked} {c d : Bytes} → _≡_ {A = Option (Asked × Bytes)} (some (a, c)) (some (b, d)) → (a ≡ b) × (c ≡ d)

@@ -1,21 +1,19 @@
 -- Versions: compared and read. Assumes nothing.
-use Prim.Native.Nat.{ℕ, suc, _+_, _-_, _^_, _≤_, _<_}
+use Prim.Native.Nat.{ℕ, _+_, _-_, _^_, _≤_, _<_}
 use native.Mathlib.Omega.{arith}
-use mathlib.Core.Path.{_≡_, refl, sym, ap, ap₂, _∙_}
-use mathlib.Core.Bool.{Bool, true, false, not, _||_, _&&_}
-use mathlib.Core.List.{List, [], _∷_, tail}
-use mathlib.Core.Option.{Option, none, some}
-use lib.Dec.{eqb, ltb}
-use lib.ListN.{length, drop, take, length-drop, drop-of-length-le}
-use lib.Seq.{drop-drop}
-use borrow.Author.Tests.{lt-ltb, le-ltb, eq-eqb, ne-eqb, ltb-true}
+use mathlib.Core.Path.{_≡_, sym, ap, ap₂, _∙_}
+use mathlib.Core.Bool.{Bool, true, false, not}
+use mathlib.Core.List.{tail}
+use lib.Dec.{ltb}
+use lib.ListN.{length, drop, take, drop-of-length-le}
+use borrow.Author.Tests.{lt-ltb, le-ltb, eq-eqb, ne-eqb}
 use Rattle.values.specs.Bytes.{Bytes, ascii, is, begins, before, from, starts}
 use Rattle.values.specs.Integer.{u32Read}
 use Rattle.values.specs.declared.integer.IntegerRead.{IntegerRead}
 use Rattle.values.specs.declared.integer.IntegerRead.the-variants as integer
 use Rattle.values.proofs.Tests.{not-true, not-false}
-use Rattle.values.proofs.Lists.{here, rest, before-from, from-at, from-first}
-use Rattle.values.proofs.Fields.{text-here}
+use Rattle.values.proofs.Lists.{here, rest, from-at, from-begins}
+use Rattle.values.proofs.Fields.{before-part}
 use Rattle.values.proofs.Integers.{read-bound}
 use Rattle.rules.specs.Version.{Version, version, earlier, versionOf, readParts, readVersion}
 use Rattle.records.specs.Formats.{formatOf, formatRead}
@@ -61,11 +59,8 @@ module _ (s : Bytes) {q : Bool} (a : q ≡ starts (ascii "VCFv") s) (e : not q �
     both-parts =
         let d = point ∙ here s p h in
         let x = before (is 46) (drop 4 s) in
-        let k : x ≡ take (p - 4) (drop 4 s) = sym (rw f (text-here s 4 x (from (is 46) (drop 4 s)) (sym (before-from (is 46) (drop 4 s))) .0)) in
-        rw (readParts, begun d) (ap₂ (λ (a b : Bytes). versionOf (u32Read a) (u32Read b)) k (ap tail d ∙ sym (rest s (p + 1))))
-      where
-        begun : {c : ℕ} {r : Bytes} → from (is 46) (drop 4 s) ≡ c ∷ r → begins 46 (from (is 46) (drop 4 s)) ≡ true
-        begun d = rw d (from-first (is 46) (drop 4 s) d)
+        let k : x ≡ take (p - 4) (drop 4 s) = sym (before-part (is 46) s 4 f) in
+        rw (readParts, from-begins 46 (drop 4 s) d) (ap₂ (λ (a b : Bytes). versionOf (u32Read a) (u32Read b)) k (ap tail d ∙ sym (rest s (p + 1))))
 
     pub bad-major : {m : IntegerRead} → m ≡ u32Read (take (p - 4) (drop 4 s)) → m ≡ integer.Refused → read.Refused ≡ formatRead (readVersion s)
     bad-major i r = rw (parts, both-parts, sym i ∙ r)

@@ -1,11 +1,11 @@
 -- Keys by their case. Assumes nothing.
 use Prim.Native.Nat.{ℕ}
-use mathlib.Core.Path.{_≡_, refl, sym, ap, _∙_}
-use mathlib.Core.Bool.{Bool, true, false, not, _||_, _&&_}
+use mathlib.Core.Path.{_≡_, refl, sym, _∙_}
+use mathlib.Core.Bool.{Bool, true, false, not}
 use mathlib.Core.List.{List, [], _∷_}
 use lib.Dec.{eqb}
 use Rattle.values.specs.Bytes.{Bytes, ascii, same}
-use Rattle.values.proofs.Tests.{Test, pass, fail, test, not-true, not-false}
+use Rattle.values.proofs.Tests.{pass, fail, test}
 use Rattle.values.proofs.Sames.{same-sound, same-sym}
 use Rattle.rules.specs.Version.{Version, v4-3, earlier}
 use Rattle.rules.specs.Known.{isIn, kindOf, isTyped, alwaysMap}

@@ -1,17 +1,15 @@
 -- Lists of names: one name after the other. Assumes nothing.
-use Prim.Native.Nat.{ℕ, suc, _+_, _-_, _≤_, _<_}
+use Prim.Native.Nat.{ℕ, _+_, _-_, _≤_, _<_}
 use native.Mathlib.Omega.{arith}
 use mathlib.Core.Path.{_≡_, refl, sym, ap, _∙_}
 use mathlib.Core.Bool.{Bool, true, false, _||_}
-use mathlib.Core.List.{List, [], _∷_, _++_, append-nil}
-use lib.ListN.{length, drop, take, getD, length-drop, length-append, drop-of-length-le}
-use borrow.Author.Tests.{eqb-true}
-use Rattle.values.specs.Bytes.{Bytes, is, any, before, from, same}
+use mathlib.Core.List.{List, [], _∷_}
+use lib.ListN.{length, drop, take, drop-of-length-le}
+use Rattle.values.specs.Bytes.{Bytes, is, before, from, same}
 use Rattle.values.specs.Value.{meaning}
-use Rattle.values.proofs.Tests.{Test, pass, fail, test, or-l, or-r}
-use Rattle.values.proofs.Lists.{here, before-from, before-none, from-at, from-first, before-hit, before-miss, from-hit, from-miss}
-use Rattle.values.proofs.Fields.{text-here}
-use Rattle.rules.specs.Columns.{add}
+use Rattle.values.proofs.Tests.{pass, fail, test}
+use Rattle.values.proofs.Lists.{here, from-at}
+use Rattle.values.proofs.Fields.{before-part}
 use Rattle.rules.specs.Known.{isIn}
 use Rattle.records.specs.Lists.{listed}
 
@@ -39,7 +37,7 @@ list-all list s quoted = record { inside = omega arith; still = refl }
 module _ {list s : Bytes} {quoted : Bool} {start : ℕ} (g : Listing list s quoted start) {end : ℕ} (a : end ≡ start + length (before (is 44) (drop start list))) {p : Bytes} (b : p ≡ take (end - start) (drop start list))
     {q : Bool} (c : q ≡ same p (meaning quoted s)) where
   name-is : p ≡ before (is 44) (drop start list)
-  name-is = b ∙ rw a (text-here list start (before (is 44) (drop start list)) (from (is 44) (drop start list)) (sym (before-from (is 44) (drop start list))) .0)
+  name-is = b ∙ before-part (is 44) list start a
 
   rest-is : from (is 44) (drop start list) ≡ drop end list
   rest-is = from-at (is 44) list start ∙ ap (λ (i : ℕ). drop i list) (sym a)

@@ -1,27 +1,25 @@
 -- The fields of a map, one after the other. Assumes nothing.
-use Prim.Native.Nat.{ℕ, zero, suc, _+_, _-_, _≤_, _<_}
+use Prim.Native.Nat.{ℕ, _+_, _-_, _≤_, _<_}
 use native.Mathlib.Omega.{arith}
-use mathlib.Core.Path.{_≡_, refl, sym, ap, ap₂, subst, _∙_}
-use mathlib.Core.Bool.{Bool, true, false, not, _||_, _&&_}
-use mathlib.Core.List.{List, [], _∷_, _++_, append-nil, append-assoc}
-use mathlib.Core.Option.{Option, none, some}
+use mathlib.Core.Path.{_≡_, refl, sym, ap, subst, _∙_}
+use mathlib.Core.Bool.{Bool, true, false, not, _||_}
+use mathlib.Core.List.{List, [], _∷_, _++_}
 use lib.Dec.{eqb}
 use lib.ListN.{length, drop, getD, drop-of-length-le}
 use borrow.Author.Tests.{eqb-true}
-use Rattle.values.specs.Bytes.{Bytes, ascii, is, empty, begins, same}
-use Rattle.values.specs.Field.{Field, writtenField, readField}
+use Rattle.values.specs.Bytes.{Bytes, is, empty, begins}
+use Rattle.values.specs.Field.{Field, writtenField}
 use Rattle.values.specs.declared.cursor.Cursor.{Cursor}
-use Rattle.values.proofs.Tests.{Test, pass, fail, test, and-r, not-true, not-false}
+use Rattle.values.proofs.Tests.{and-r, not-true, not-false}
 use Rattle.values.proofs.Lists.{here}
 use Rattle.rules.specs.Answer.{unless, first}
 use Rattle.rules.specs.Version.{Version}
 use Rattle.rules.specs.Known.{alwaysMap}
-use Rattle.rules.specs.Map.{After, more, done, wrong, after, closing, Scan, scan, readFields, checkFields, isMeta}
+use Rattle.rules.specs.Map.{more, done, wrong, after, closing, Scan, scan, readFields, checkFields, isMeta}
 use Rattle.rules.specs.Entry.{textNamed}
-use Rattle.records.specs.Refusals.{number}
 use Rattle.records.specs.Keys.{bytesOf, Named}
-use Rattle.records.specs.Tags.{knownBy, Suits, isKept, knows, tagName}
-use Rattle.records.specs.Maps.{get, noSlots, slotted, closes, closesAt, bareAt, FieldThen, FieldsFrom, Held, Walk, scanRefusal, scannedFrom, StepIs, StepMoves, Steps, ScanIs, Scans, FieldsAre}
+use Rattle.records.specs.Tags.{knownBy, Suits}
+use Rattle.records.specs.Maps.{get, noSlots, closes, closesAt, bareAt, FieldsFrom, Held, Walk, scannedFrom, StepIs, StepMoves, Steps, ScanIs, Scans, FieldsAre}
 use Rattle.records.specs.declared.key.Key.{Key}
 use Rattle.records.specs.declared.refusal.Refusal.{Refusal}
 use Rattle.records.specs.declared.refusal.Refusal.the-variants.{InvalidMap}
@@ -34,7 +32,7 @@ use Rattle.records.specs.declared.map.FieldStep.{FieldStep}
 use Rattle.records.specs.declared.map.FieldStep.the-variants as step
 use Rattle.records.specs.declared.map.FieldsRead.{FieldsRead}
 use Rattle.records.specs.declared.map.FieldsRead.the-variants as fields
-use Rattle.records.proofs.Walks.{scan-more}
+use Rattle.rules.proofs.Scans.{scan-more}
 
 -- fields that were read stand first in the scan
 walk-scan : (m : Bool) (s : Bytes) (start : ℕ) (before : List Field) (at fuel : ℕ) → FieldsFrom m s start before at → length (drop start s) ≤ fuel

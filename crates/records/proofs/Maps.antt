@@ -1,23 +1,24 @@
 -- Maps: the code's tests of what stands around the fields. Assumes nothing.
-use Prim.Native.Nat.{ℕ, suc, _+_, _-_, _≤_, _<_}
+use Prim.Native.Nat.{ℕ, _+_, _-_, _≤_, _<_}
 use native.Mathlib.Omega.{arith}
-use mathlib.Core.Path.{_≡_, refl, sym, ap, _∙_}
+use mathlib.Core.Path.{_≡_, refl, sym, _∙_}
 use mathlib.Core.Bool.{Bool, true, false, not, _||_, _&&_}
-use mathlib.Core.List.{List, [], _∷_}
+use mathlib.Core.List.{[], _∷_}
 use lib.Dec.{eqb}
 use lib.ListN.{length, drop, take, getD, drop-of-length-le}
-use borrow.Author.Tests.{eq-eqb, ne-eqb, eqb-true}
+use borrow.Author.Tests.{eq-eqb, ne-eqb}
 use Rattle.values.specs.Bytes.{Bytes, ascii, is, empty, begins, starts}
-use Rattle.values.specs.Places.{to, separatorAt, separatorPlaced}
+use Rattle.values.specs.Places.{to, separatorAt}
 use Rattle.values.specs.declared.field.Separator.{Separator}
 use Rattle.values.specs.declared.field.Separator.the-variants as separator
 use Rattle.values.specs.declared.cursor.Cursor.{Cursor}
 use Rattle.values.proofs.Tests.{not-true, not-false}
 use Rattle.values.proofs.Lists.{here, rest, Stands, there, past, stands}
+use Rattle.values.proofs.Fields.{placed-comma, placed-other}
 use Rattle.rules.specs.Version.{Version, v4-3, v4-5, earlier, since}
-use Rattle.rules.specs.Map.{After, more, done, wrong, after}
+use Rattle.rules.specs.Map.{done, wrong, after}
 use Rattle.rules.specs.Record.{looksMap}
-use Rattle.records.specs.Maps.{opened, opensAt, closes, closesAt, afterPlaced, afterAt, checkNumber, tagRefusal, get, put}
+use Rattle.records.specs.Maps.{opensAt, closes, closesAt, afterPlaced, afterAt, checkNumber, tagRefusal, put}
 use Rattle.values.specs.Value.{meaning}
 use Rattle.rules.specs.Answer.{unless}
 use Rattle.rules.specs.Known.{isIn}
@@ -98,14 +99,6 @@ no-comma at (b ∷ x) e = rw (after, e) (go (is 62 b && empty x))
     go true = refl
     go false = refl
 
-pub placed-comma : (at : ℕ) (q : Bool) {d : Cursor} → separatorPlaced at q ≡ separator.Comma d → (q ≡ true) × (to (at + 1) ≡ d)
-placed-comma at true e = (refl, cc)
-placed-comma at false e = let z : _≡_ {A = ℕ} 0 1 = cc in absurd (omega arith)
-
-pub placed-other : (at : ℕ) (q : Bool) → separatorPlaced at q ≡ separator.Other → q ≡ false
-placed-other at true e = cc
-placed-other at false e = refl
-
 module _ (s : Bytes) (c : Cursor) {r : Separator} (a : r ≡ separatorAt s (c .at)) where
   pub after-comma : {d : Cursor} → r ≡ separator.Comma d → afters.More d ≡ afterAt s (c .at)
   unfolding separatorAt
@@ -145,9 +138,6 @@ format-since n v e a = rw (not-false (n .format) e, a)
 pub ruleset locals = (not-format, format-since)
 
 module _ (n : Known) (v : Version) (t : Tag) (s : Bytes) (q : Bool) where
-  pub value-passed : {x : Tag} → t ≡ x → 0 ≡ tagRefusal n v x s q → checkNumber check.Passed ≡ tagRefusal n v t s q
-  value-passed e f = rw e f
-
   pub number-checked : t ≡ Number → {l : Bool} → l ≡ (n .format && since v4-5 v) → {b : Bool} → b ≡ (isCount s || isIn (meaning q s) (lettersOf l)) → {r : ℕ}
       → r ≡ unless b (number InvalidNumber) → r ≡ tagRefusal n v t s q
   number-checked e f g h = rw (e, ← f, ← g) h
@@ -162,10 +152,7 @@ module _ (n : Known) (v : Version) (t : Tag) (s : Bytes) (q : Bool) where
   pub length-checked : t ≡ Length → {b : Bool} → b ≡ isCount s → {r : ℕ} → r ≡ unless b (number InvalidInteger) → r ≡ tagRefusal n v t s q
   length-checked e g h = rw (e, ← g) h
 
-pub ruleset values = (value-passed, number-checked, type-checked, idx-checked, length-checked)
-
-pub get-told : (t : Tag) (x : Slots) {y : Tag} → t ≡ y → {z : Slot} → z ≡ get y x → z ≡ get t x
-get-told t x e f = rw e f
+pub ruleset values = (number-checked, type-checked, idx-checked, length-checked)
 
 pub put-told : (t : Tag) (z : Slot) (x : Slots) {y : Tag} → t ≡ y → {w : Slots} → w ≡ put y z x → w ≡ put t z x
 put-told t z x e f = rw e f

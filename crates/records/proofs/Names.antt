@@ -1,18 +1,14 @@
 -- What the rules ask of a field's key is what its tag says. Assumes nothing.
-use Prim.Native.Nat.{ℕ}
-use native.Mathlib.Omega.{arith}
 use mathlib.Core.Path.{_≡_, refl, sym, ap, _∙_}
-use mathlib.Core.Bool.{Bool, true, false, not, _||_, _&&_}
+use mathlib.Core.Bool.{Bool, true, false, _||_, _&&_}
 use mathlib.Core.List.{List, [], _∷_}
 use Rattle.values.specs.Bytes.{Bytes, ascii, same}
-use Rattle.values.proofs.Tests.{Test, pass, fail, test, and-l, and-r, and-off, or-on, both}
-use Rattle.values.proofs.Sames.{same-sound, same-self, same-sym}
-use Rattle.rules.specs.Answer.{unless, first}
+use Rattle.values.proofs.Tests.{pass, fail, test, and-r, and-off}
+use Rattle.values.proofs.Sames.{same-sound}
 use Rattle.rules.specs.Version.{Version, v4-3, earlier}
-use Rattle.rules.specs.Known.{Kind, kindOf, isInfo, isFormat, isIn, known, namesId, nameOf, integers}
-use Rattle.rules.specs.Map.{isField, fieldRefusal}
-use Rattle.records.specs.Keys.{bytesOf, Named}
-use Rattle.records.specs.Tags.{knownBy, tagName, tags, among, tagNamed, knows, namesIdIn, kept, tagBy, isKept, Suits}
+use Rattle.rules.specs.Known.{kindOf, isInfo, isFormat, isIn, known, namesId, nameOf, integers}
+use Rattle.records.specs.Keys.{bytesOf}
+use Rattle.records.specs.Tags.{knownBy, tagName, tags, among, tagNamed, knows, namesIdIn, kept, tagBy, Suits}
 use Rattle.records.specs.declared.key.Key.{Key}
 use Rattle.records.specs.declared.key.Key.the-variants as key
 use Rattle.records.specs.declared.tag.Tag.{Tag}

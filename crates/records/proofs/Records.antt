@@ -2,7 +2,7 @@
 use Prim.Native.Nat.{ℕ, _+_, _-_, _≤_, _<_}
 use native.Mathlib.Omega.{arith}
 use mathlib.Core.Path.{_≡_, refl, sym, ap, ap₂, subst, _∙_}
-use mathlib.Core.Bool.{Bool, true, false, not, _||_, _&&_, false≢true}
+use mathlib.Core.Bool.{Bool, true, false, not, _||_, _&&_, and-false}
 use mathlib.Core.List.{List, [], _∷_, tail}
 use mathlib.Core.Option.{Option, none, some}
 use lib.ListN.{length, take, drop, drop-of-length-le}
@@ -10,9 +10,9 @@ use Rattle.values.specs.Bytes.{Bytes, ascii, is, empty, begins, from, same, sta
 use Rattle.values.specs.Field.{Field}
 use Rattle.values.specs.declared.cursor.Cursor.{Cursor}
 use Rattle.values.specs.declared.string.Text.{Text}
-use Rattle.values.proofs.Tests.{not-true, not-false}
-use Rattle.values.proofs.Lists.{here, rest, before-from, from-at, from-first}
-use Rattle.values.proofs.Fields.{text-here}
+use Rattle.values.proofs.Tests.{not-true, not-false, never}
+use Rattle.values.proofs.Lists.{here, rest, from-at, from-begins}
+use Rattle.values.proofs.Fields.{before-part}
 use Rattle.rules.specs.Answer.{Answer, ok, refuse, _>>=_, unless, judged}
 use Rattle.rules.specs.Version.{Version, readVersion}
 use Rattle.rules.specs.Known.{isTyped, alwaysMap}
@@ -57,18 +57,10 @@ module _ (v : Version) (key : Key) (s : Bytes) (c : Cursor) {r : TypedRead} (o :
     as-typed k named = subst (TypedIs v k s (c .at)) e (o .is k named)
 
     pub typed-otherwise : not q ≡ true → MapAre v key s (c .at) (maps.Refused DefinitionMismatch)
-    typed-otherwise f = record { is = λ k named. let y = as-typed k named in y .read ∙ judged-otherwise (y .fs) (d .is k (c .at) g named y) (off q f) }
-      where
-        off : (q : Bool) → not q ≡ true → q ≡ false
-        off true f = absurd (false≢true f)
-        off false f = refl
+    typed-otherwise f = record { is = λ k named. let y = as-typed k named in y .read ∙ judged-otherwise (y .fs) (d .is k (c .at) g named y) (not-true q f) }
 
     pub typed-defined : not q ≡ false → MapAre v key s (c .at) (maps.Map id g)
-    typed-defined f = record { is = λ k named. let y = as-typed k named in (y .fs, y .read ∙ judged-unless (y .fs) (d .is k (c .at) g named y) (on q f), y .named) }
-      where
-        on : (q : Bool) → not q ≡ false → q ≡ true
-        on true f = refl
-        on false f = absurd (false≢true (sym f))
+    typed-defined f = record { is = λ k named. let y = as-typed k named in (y .fs, y .read ∙ judged-unless (y .fs) (d .is k (c .at) g named y) (not-false q f), y .named) }
 
 pub ruleset with-definition = (typed-unread, typed-otherwise, typed-defined)
 
@@ -110,14 +102,11 @@ map-by-case v k key x n = ap₂ (λ (t a : Bool). t || (a || looksMap v x)) (n .
 
 version-refused : (a : Option Version) → version.Refused ≡ formatRead a → formatOf a ≡ refuse 7
 version-refused none e = refl
-version-refused (some w) e = let nope : _≡_ {A = ℕ} 0 1 = cc in absurd (omega arith)
+version-refused (some w) e = never cc
 
 version-given : (a : Option Version) {w : FileFormat} → version.Version w ≡ formatRead a → formatOf a ≡ ok (fileformat (versionOf w))
-version-given none e = let nope : _≡_ {A = ℕ} 0 1 = cc in absurd (omega arith)
-version-given (some w) e = ap (λ (f : FileFormat). ok (fileformat (versionOf f))) (sym (same-version e))
-  where
-    same-version : {a b : FileFormat} → version.Version a ≡ version.Version b → a ≡ b
-    same-version e = cc
+version-given none e = never cc
+version-given (some w) e = cc
 
 module _ (v : Version) (key : Key) (s : Bytes) (c : Cursor) {f : Bool} (a : f ≡ same (bytesOf key) (ascii "fileformat")) where
   module _ (e : f ≡ true) {p : Bytes} (b : p ≡ take (length s - c .at) (drop (c .at) s)) {r : FileFormatRead} (d : r ≡ formatRead (readVersion p)) where
@@ -161,24 +150,16 @@ module _ (s : Bytes) (hash : starts (ascii "##") s ≡ true) where
   unfolding readKeyed
   unkeyed e v = keyed v ∙ rw (readKeyed, e)
 
-no-bytes : (k : Bytes) → length k ≡ 0 → k ≡ []
-no-bytes [] e = refl
-no-bytes (b ∷ k) e = absurd (omega arith)
-
 some-bytes : (k : Bytes) → (length k ≡ 0 → ⊥) → empty k ≡ false
 some-bytes [] e = absurd (e refl)
 some-bytes (b ∷ k) e = refl
-
-and-false : (a : Bool) → a && false ≡ false
-and-false true = refl
-and-false false = refl
 
 module _ (s : Bytes) {end : ℕ} (f : end ≡ 2 + length (keyIn s)) where
   equals : from (is 61) (drop 2 s) ≡ drop end s
   equals = from-at (is 61) s 2 ∙ ap (λ (i : ℕ). drop i s) (sym f)
 
   pub no-key : end ≡ 2 → starts (ascii "##") s ≡ true → KeyedIs s key.Refused
-  no-key e h = unkeyed s h (ap (λ (k : Bytes). not (empty k) && begins 61 (from (is 61) (drop 2 s))) (no-bytes (keyIn s) (omega arith)))
+  no-key e h = unkeyed s h (ap (λ (k : Bytes). not (empty k) && begins 61 (from (is 61) (drop 2 s))) (drop-of-length-le (keyIn s) {i = 0} (omega arith)))
 
   pub no-equals : length s ≤ end → starts (ascii "##") s ≡ true → KeyedIs s key.Refused
   unfolding begins
@@ -188,14 +169,11 @@ module _ (s : Bytes) {end : ℕ} (f : end ≡ 2 + length (keyIn s)) where
   unfolding readKeyed begins
   a-key ne l {p} b {j} i {d} at h =
       let r = equals ∙ here s end l in
-      let k : p ≡ keyIn s = b ∙ rw f (text-here s 2 (keyIn s) (from (is 61) (drop 2 s)) (sym (before-from (is 61) (drop 2 s))) .0) in (
+      let k : p ≡ keyIn s = b ∙ before-part (is 61) s 2 f in (
         subst (Named (keyIn s)) (ap keyNamed (sym k) ∙ sym i) (named (keyIn s)),
         omega arith,
-        λ v. keyed s h v ∙ rw (readKeyed, some-bytes (keyIn s) (λ z. ne (omega arith)), begun r) (ap (readValue v (keyIn s)) (ap tail r ∙ ap (λ (i : ℕ). drop i s) (sym at))),
+        λ v. keyed s h v ∙ rw (readKeyed, some-bytes (keyIn s) (λ z. ne (omega arith)), from-begins 61 (drop 2 s) r) (ap (readValue v (keyIn s)) (ap tail r ∙ ap (λ (i : ℕ). drop i s) (sym at))),
       )
-    where
-      begun : {c : ℕ} {r : Bytes} → from (is 61) (drop 2 s) ≡ c ∷ r → begins 61 (from (is 61) (drop 2 s)) ≡ true
-      begun d = rw d (from-first (is 61) (drop 2 s) d)
 
 pub ruleset keys = (no-key, no-equals, a-key)
 

@@ -3,7 +3,7 @@ use Prim.Native.Nat.{ℕ, zero, suc, _+_, _-_, _^_, _≤_}
 use native.Mathlib.Omega.{arith}
 use mathlib.Core.Path.{_≡_, refl, sym, ap, subst, _∙_}
 use mathlib.Core.Bool.{Bool, true, false, not, _||_, _&&_, false≢true}
-use mathlib.Core.List.{List, [], _∷_, _++_, map, tail}
+use mathlib.Core.List.{List, [], _∷_, _++_, map}
 use mathlib.Core.Option.{Option, none, some}
 use lib.ListN.{length, drop}
 use lib.Seq.{drop-drop}
@@ -11,7 +11,7 @@ use Rattle.values.specs.Bytes.{Bytes, ascii, empty, begins, same}
 use Rattle.values.specs.Field.{Field, writtenField, readField}
 use Rattle.values.specs.declared.cursor.Cursor.{Cursor}
 use Rattle.values.specs.declared.string.Text.{Text}
-use Rattle.values.proofs.Tests.{pass, fail, test}
+use Rattle.values.proofs.Tests.{pass, fail, test, never}
 use Rattle.rules.specs.Answer.{refuse, unless, first, judged}
 use Rattle.rules.specs.Version.{Version, v4-3, since}
 use Rattle.rules.specs.Known.{kindOf, nameOf, required, alwaysMap}
@@ -47,24 +47,18 @@ use Rattle.records.proofs.Walks.{first-alone}
 -- The opening of a map
 
 no-open : (at : ℕ) (q : Bool) → opened at q ≡ prefix.Missing → q ≡ false
-no-open at true e = let nope : _≡_ {A = ℕ} 0 1 = cc in absurd (omega arith)
+no-open at true e = never cc
 no-open at false e = refl
 
 is-open : (at : ℕ) (q : Bool) {d : Cursor} → opened at q ≡ prefix.Consumed d → (q ≡ true) × (at + 1 ≡ d .at)
-is-open at true e = (refl, ap (λ (c : Cursor). c .at) (consumed e))
-  where
-    consumed : {c d : Cursor} → prefix.Consumed c ≡ prefix.Consumed d → c ≡ d
-    consumed e = cc
-is-open at false e = let nope : _≡_ {A = ℕ} 0 1 = cc in absurd (omega arith)
+is-open at true e = (refl, cc)
+is-open at false e = never cc
 
 -- a map with its `<`
 map-read : (v : Version) (k : Bytes) (s : Bytes) (at : ℕ) → begins 60 (drop at s) ≡ true
     → readMap v k (drop at s) ≡ (let x = readFields (isMeta v k) (alwaysMap k) (drop (at + 1) s) in judged (mapRefusal v k x) (x .0))
 unfolding readMap
-map-read v k s at e = rw (readMap, e) (ap (λ (t : Bytes). let x = readFields (isMeta v k) (alwaysMap k) t in judged (mapRefusal v k x) (x .0)) (tail-drop s at))
-  where
-    tail-drop : (s : Bytes) (at : ℕ) → tail (drop at s) ≡ drop (at + 1) s
-    tail-drop s at = drop-drop 1 at s
+map-read v k s at e = rw (readMap, e) (ap (λ (t : Bytes). let x = readFields (isMeta v k) (alwaysMap k) t in judged (mapRefusal v k x) (x .0)) (drop-drop 1 at s))
 
 -- a refusal among the fields comes before what is required
 scan-first : (a b c d m : ℕ) → first (a ∷ b ∷ []) ≡ suc m → first (a ∷ b ∷ c ∷ d ∷ []) ≡ suc m
@@ -139,11 +133,6 @@ unfolding first
 first-pair zero zero e = (refl, refl)
 first-pair zero (suc b) e = absurd (omega arith)
 first-pair (suc a) b e = absurd (omega arith)
-
-first-left : (a : ℕ) → first (a ∷ 0 ∷ []) ≡ a
-unfolding first
-first-left zero = refl
-first-left (suc a) = refl
 
 -- nothing reserved, nothing declared otherwise
 misdeclared-not : (v : Version) (k : Bytes) (fs : List Field) → tableOf (kindOf k) ≡ [] → misdeclared v k fs ≡ 0

@@ -1,26 +1,25 @@
 -- The search for a key among the fields before a place. Assumes nothing.
-use Prim.Native.Nat.{ℕ, suc, _+_, _-_, _≤_, _<_}
+use Prim.Native.Nat.{ℕ, _+_, _-_, _≤_, _<_}
 use native.Mathlib.Omega.{arith}
 use mathlib.Core.Path.{_≡_, refl, sym, ap, _∙_}
 use mathlib.Core.Bool.{Bool, true, false, _||_}
 use mathlib.Core.List.{List, [], _∷_}
-use mathlib.Core.Option.{Option, none, some}
-use lib.ListN.{length, drop, take, length-drop, length-append}
+use lib.ListN.{length, drop, take}
 use Rattle.values.specs.Bytes.{Bytes, begins, same}
 use Rattle.values.specs.Field.{Field, writtenField, readField}
-use Rattle.values.specs.Places.{to, fieldPlaced, fieldAt, separatorAt, separatorPlaced}
+use Rattle.values.specs.Places.{fieldPlaced, fieldAt, separatorAt}
 use Rattle.values.specs.declared.cursor.Cursor.{Cursor}
 use Rattle.values.specs.declared.string.Text.{Text}
 use Rattle.values.specs.declared.field.FieldRead.{FieldRead}
 use Rattle.values.specs.declared.field.FieldRead.the-variants as read
 use Rattle.values.specs.declared.field.Separator.{Separator}
 use Rattle.values.specs.declared.field.Separator.the-variants as separator
+use Rattle.values.proofs.Tests.{never}
 use Rattle.values.proofs.Lists.{some-is}
-use Rattle.values.proofs.Fields.{part}
+use Rattle.values.proofs.Fields.{placed-comma, placed-other}
 use Rattle.values.proofs.Places.{FieldHere, field-here}
 use Rattle.rules.specs.Known.{isIn}
 use Rattle.records.specs.Maps.{FieldThen, FieldsFrom, keysOf, HasKey}
-use Rattle.records.proofs.Maps.{placed-comma, placed-other}
 
 -- what is left to be searched
 pub record Searching (m : Bool) (s : Bytes) (start upto : ℕ) (key : Bytes) (at : ℕ) : Type 0 where
@@ -72,7 +71,7 @@ module _ {m : Bool} {s : Bytes} {start upto : ℕ} {key : Bytes} {at : ℕ} (g :
     search-unread e = record { among = λ fs w. let f = front l fs w in unread (sym a ∙ e) (f .here) }
       where
         unread : {f : Field} {A : Type 0} → fieldPlaced at (readField m (drop at s)) ≡ read.Refused → FieldThen m s at f → A
-        unread x y = let z = rw y at x in let o : _≡_ {A = ℕ} 0 1 = cc in absurd (omega arith)
+        unread x y = let z = rw y at x in never cc
 
     module _ {e : ℕ} {t : Text} {n : Cursor} (b : r ≡ read.Field e t n) {p : Bytes} (c : p ≡ take (e - at) (drop at s)) {q : Bool} (d : q ≡ same p key) where
       told : FieldHere m s at e t n
@@ -95,8 +94,7 @@ module _ {m : Bool} {s : Bytes} {start upto : ℕ} {key : Bytes} {at : ℕ} (g :
               let k = field-is m s at (y .field) (y .here) told in
               let o = placed-other (n .at) (begins 44 (drop (n .at) s)) (sym i ∙ j) in
               let u = rw (k .1) at o in
-              let z : _≡_ {A = ℕ} 0 1 = cc in
-              absurd (omega arith);
+              never cc;
         }
 
         module _ {y : Cursor} (j : x ≡ separator.Comma y) where

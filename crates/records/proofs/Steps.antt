@@ -1,8 +1,8 @@
 -- One field of a map: whether its name stood before, and what it adds. Assumes nothing.
-use Prim.Native.Nat.{ℕ, zero, suc, _+_, _-_, _^_, _≤_, _<_}
+use Prim.Native.Nat.{ℕ, suc, _+_, _-_, _^_, _≤_}
 use native.Mathlib.Omega.{arith}
 use mathlib.Core.Path.{_≡_, refl, sym, ap, ap₂, subst, _∙_}
-use mathlib.Core.Bool.{Bool, true, false, not, _||_, _&&_}
+use mathlib.Core.Bool.{Bool, true, false, _||_, _&&_}
 use mathlib.Core.List.{List, [], _∷_, _++_, append-nil, tail}
 use mathlib.Core.Option.{Option, none, some}
 use lib.ListN.{length, drop, take, length-drop}
@@ -10,7 +10,7 @@ use lib.Seq.{drop-drop}
 use Rattle.values.specs.Bytes.{Bytes, ascii, same}
 use Rattle.values.specs.Value.{Value, isQuoted, textOf, meaningOf}
 use Rattle.values.specs.Field.{Field, writtenField, readField}
-use Rattle.values.specs.Places.{to, textAt, fieldPlaced, fieldAt}
+use Rattle.values.specs.Places.{to, textAt, fieldAt}
 use Rattle.values.specs.declared.cursor.Cursor.{Cursor}
 use Rattle.values.specs.declared.string.Text.{Text}
 use Rattle.values.specs.declared.field.FieldRead.{FieldRead}
@@ -21,16 +21,17 @@ use Rattle.values.proofs.Lists.{on-some}
 use Rattle.values.proofs.Fields.{part}
 use Rattle.values.proofs.Places.{valueBy, FieldHere, field-here}
 use Rattle.values.proofs.Raws.{Raw, field-raw}
-use Rattle.rules.specs.Answer.{unless, first}
+use Rattle.rules.specs.Answer.{first}
 use Rattle.rules.specs.Version.{Version}
 use Rattle.rules.specs.Known.{isIn, kindOf, namesId, nameOf, tagOf}
-use Rattle.rules.specs.Map.{After, more, done, wrong, after, Scan, scan, isSome, fieldRefusal, checkFields}
+use Rattle.rules.specs.Map.{more, done, wrong, after, scan, isSome, fieldRefusal, checkFields}
 use Rattle.rules.specs.Entry.{textNamed}
 use Rattle.rules.proofs.Names.{name-id, name-other}
 use Rattle.rules.proofs.Fields.{SeenAfter, was-more, was-done, was-wrong, see-after, SeenField, no-field, a-field, see-field}
+use Rattle.rules.proofs.Scans.{after-more, scan-none, scan-wrong, scan-done, scan-first}
 use Rattle.records.specs.Refusals.{number}
 use Rattle.records.specs.Tags.{tagName, among, tagNamed, knows, namesIdIn, kept, tagBy, isKept, Suits}
-use Rattle.records.specs.Maps.{tagRefusal, checkNumber, get, put, slotted, FieldThen, FieldsFrom, keysOf, namesOf, HasKey, Held, allKept, Walk, Repeats, scanRefusal, scannedFrom, Taken, TakenIs, TakenMoves, Takes, StepIs, Steps, afterPlaced, afterAt}
+use Rattle.records.specs.Maps.{tagRefusal, checkNumber, get, put, slotted, FieldThen, FieldsFrom, keysOf, namesOf, HasKey, Held, allKept, Walk, Repeats, scanRefusal, scannedFrom, Taken, TakenIs, TakenMoves, Takes, Steps, afterAt}
 use Rattle.records.specs.declared.refusal.Refusal.{Refusal}
 use Rattle.records.specs.declared.refusal.Refusal.the-variants.{InvalidField, DuplicateTag, InvalidMap}
 use Rattle.records.specs.declared.tag.Tag.{Tag}
@@ -49,9 +50,18 @@ use Rattle.records.specs.declared.map.FieldStep.the-variants as step
 use Rattle.records.proofs.Refusals.{number-suc}
 use Rattle.records.proofs.Names.{isProper, names-id, name-as}
 use Rattle.records.proofs.Checks.{value-checked}
-use Rattle.records.proofs.Walks.{after-more, value-refused, name-refused, field-fine, orElse, text-snoc, text-in, scan-none, scan-wrong, scan-done, scan-more, scan-first, first-suc, first-zero-left, first-alone}
+use Rattle.records.proofs.Walks.{value-refused, name-refused, field-fine, orElse, text-snoc, text-in, first-suc}
 
 -- What a tag says of its field's name
+
+kept-proper : (t : Tag) → isKept t ≡ true → isProper t ≡ true
+kept-proper Id e = refl
+kept-proper Number e = refl
+kept-proper ValueType e = refl
+kept-proper Description e = refl
+kept-proper Idx e = cc
+kept-proper Length e = cc
+kept-proper Other e = cc
 
 kept-known : (n : Known) (u : Tag) → isKept (kept n u) ≡ true → knows n (kept n u) ≡ true
 kept-known n u e = elim (test (knows n u)) [
@@ -74,16 +84,7 @@ module _ (n : Known) (v : Version) (k : Bytes) (suits : Suits n k) (field : Byte
     kept-name : isKept t ≡ true → nameOf v k field ≡ tagName t
     kept-name e =
         same-sound (nameOf v k field) (tagName t)
-        (and-r (knows n t) _ (name-as n v k suits field t (proper t e) ∙ rw (← a) (same-self (tagName t))))
-      where
-        proper : (t : Tag) → isKept t ≡ true → isProper t ≡ true
-        proper Id e = refl
-        proper Number e = refl
-        proper ValueType e = refl
-        proper Description e = refl
-        proper Idx e = cc
-        proper Length e = cc
-        proper Other e = cc
+        (and-r (knows n t) _ (name-as n v k suits field t (kept-proper t e) ∙ rw (← a) (same-self (tagName t))))
 
     -- a field that is not kept goes by its own key, which is not the ID's
     other-lineage : isKept t ≡ false → namesId v k field ≡ false
@@ -198,15 +199,6 @@ get-put g Description x slots e = rw (put-each g x slots)
 get-put g Idx x slots e = let z : _≡_ {A = ℕ} 0 1 = cc in absurd (omega arith)
 get-put g Length x slots e = let z : _≡_ {A = ℕ} 0 1 = cc in absurd (omega arith)
 get-put g Other x slots e = let z : _≡_ {A = ℕ} 0 1 = cc in absurd (omega arith)
-
-kept-proper : (t : Tag) → isKept t ≡ true → isProper t ≡ true
-kept-proper Id e = refl
-kept-proper Number e = refl
-kept-proper ValueType e = refl
-kept-proper Description e = refl
-kept-proper Idx e = cc
-kept-proper Length e = cc
-kept-proper Other e = cc
 
 none-some : (o : Option (Bytes × Text)) → isSome o ≡ false → o ≡ none
 none-some none e = refl

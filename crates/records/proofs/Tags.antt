@@ -1,7 +1,6 @@
 -- The names of fields: the code's tests. Assumes nothing.
-use Prim.Native.Nat.{ℕ}
-use mathlib.Core.Path.{_≡_, refl, sym, ap, _∙_}
-use mathlib.Core.Bool.{Bool, true, false, not, _||_, _&&_}
+use mathlib.Core.Path.{_≡_, refl, sym, _∙_}
+use mathlib.Core.Bool.{Bool, true, false, not}
 use mathlib.Core.List.{List, [], _∷_}
 use Rattle.values.specs.Bytes.{Bytes, ascii, same}
 use Rattle.values.proofs.Tests.{not-true, not-false}
@@ -74,12 +73,6 @@ module _ (field : Bytes) {c : Bool} (a : c ≡ same field (ascii "Child")) where
     tag-id f = rw (tagOf, sym a ∙ e) (rw (sym b ∙ f))
 
 pub ruleset id-tags = (tag-child, tag-derived, tag-id)
-
-pub info-typed : (n : Known) → n .info ≡ true → true ≡ (n .info || n .format)
-info-typed n e = rw e
-
-pub format-typed : (n : Known) → n .info ≡ false → n .format ≡ (n .info || n .format)
-format-typed n e = rw e
 
 pub tag-told : (n : Known) (t : Tag) {x : Tag} → t ≡ x → {q : Bool} → q ≡ knows n x → q ≡ knows n t
 tag-told n t e f = rw e f

@@ -1,8 +1,7 @@
 -- INFO and FORMAT maps, whose ID, Number, Type and Description are required; and the closed facts of the other kinds. Assumes nothing.
 use Prim.Native.Nat.{ℕ, _+_}
-use native.Mathlib.Omega.{arith}
 use mathlib.Core.Path.{_≡_, refl, sym, ap, subst, _∙_}
-use mathlib.Core.Bool.{Bool, true, false}
+use mathlib.Core.Bool.{true}
 use mathlib.Core.List.{List, [], _∷_, map}
 use mathlib.Core.Option.{Option, none, some}
 use Rattle.values.specs.Bytes.{Bytes, ascii, same}
@@ -11,16 +10,16 @@ use Rattle.values.specs.Value.{textOf}
 use Rattle.values.specs.Field.{Field}
 use Rattle.values.specs.declared.cursor.Cursor.{Cursor}
 use Rattle.values.specs.declared.string.Text.{Text}
-use Rattle.values.proofs.Tests.{pass, fail, test}
+use Rattle.values.proofs.Tests.{never}
 use Rattle.values.proofs.Lists.{OnSome}
 use Rattle.values.proofs.Fields.{part}
-use Rattle.values.proofs.Places.{valueBy}
+use Rattle.values.proofs.Places.{text-by}
 use Rattle.rules.specs.Answer.{first}
 use Rattle.rules.specs.Version.{Version}
 use Rattle.rules.specs.Known.{kindOf, nameOf, required}
 use Rattle.rules.specs.Map.{isSome, fieldNamed, valueOf, valueNamed, missing}
 use Rattle.rules.specs.Entry.{textNamed}
-use Rattle.rules.proofs.Alls.{All}
+use Rattle.rules.proofs.Checks.{on-named}
 use Rattle.rules.proofs.Shows.{Both, named-text, value-means}
 use Rattle.records.specs.Keys.{bytesOf, Named}
 use Rattle.records.specs.Tags.{knownBy, isKept, knows, tagName}
@@ -36,38 +35,24 @@ use Rattle.records.specs.declared.map.Slots.{Slots}
 use Rattle.records.specs.declared.map.FieldsRead.{FieldsRead}
 use Rattle.records.specs.declared.map.FieldsRead.the-variants as fields
 use Rattle.records.specs.declared.map.TypedRead.the-variants as typed
+use Rattle.records.proofs.Determined.{filled-one}
 use Rattle.records.proofs.Required.{RawField, asks, asked-first, asked-later, Fielded, fielded, holds, has, lacks, whole, asks-of}
 
 -- The texts that are kept are those of the values
 
-filled-text : {p x : Text} {a g : ℕ} → slot.Filled p a ≡ slot.Filled x g → p ≡ x
-filled-text e = cc
-
-text-by : (q : Bool) (t : Bytes) → textOf (valueBy q t) ≡ t
-text-by true t = refl
-text-by false t = refl
-
 module _ (s : Bytes) (x : Text) (g : ℕ) where
   pub text-means : (a : Option Field) (b : Option (Bytes × Text)) → Both s a b → slotted b ≡ slot.Filled x g → valueOf a ≡ meaningIn s x
-  text-means none none u e = let nope : _≡_ {A = ℕ} 0 1 = cc in absurd (omega arith)
+  text-means none none u e = never cc
   text-means none (some p) u e = absurd u
   text-means (some f) none u e = absurd u
-  text-means (some f) (some p) u e = sym (value-means s (p .1) (f .value) (u .value)) ∙ ap (meaningIn s) (filled-text e)
+  text-means (some f) (some p) u e = sym (value-means s (p .1) (f .value) (u .value)) ∙ ap (meaningIn s) (filled-one e .0)
 
-  text-raw : (a : Option Field) (b : Option (Bytes × Text)) → Both s a b → OnSome RawField a → slotted b ≡ slot.Filled x g → u64Read (valueOf a) ≡ u64Read (textIn s x)
-  text-raw none none u h e = let nope : _≡_ {A = ℕ} 0 1 = cc in absurd (omega arith)
-  text-raw none (some p) u h e = absurd u
-  text-raw (some f) none u h e = absurd u
-  text-raw (some f) (some p) u h e =
-      h ∙ ap u64Read (ap textOf (sym (u .value)) ∙ text-by (p .1 .quoted) (part s (p .1 .start) (p .1 .end)) ∙ ap (textIn s) (filled-text e))
-
-named-raw : (v : Version) (k name : Bytes) (fs : List Field) → All RawField fs → OnSome RawField (fieldNamed v k name fs)
-unfolding fieldNamed
-named-raw v k name [] h = tt
-named-raw v k name (f ∷ fs) h = elim (test (same (nameOf v k (f .key)) name)) [
-  | pass e ↦ rw (fieldNamed, e) (h .0)
-  | fail e ↦ rw (fieldNamed, e) (named-raw v k name fs (h .1))
-]
+  text-raw : (P : Field → Type 0) (a : Option Field) (b : Option (Bytes × Text)) → Both s a b → OnSome (λ f. RawField f × P f) a → slotted b ≡ slot.Filled x g → u64Read (valueOf a) ≡ u64Read (textIn s x)
+  text-raw P none none u h e = never cc
+  text-raw P none (some p) u h e = absurd u
+  text-raw P (some f) none u h e = absurd u
+  text-raw P (some f) (some p) u h e =
+      h .0 ∙ ap u64Read (ap textOf (sym (u .value)) ∙ text-by (p .1 .quoted) (part s (p .1 .start) (p .1 .end)) ∙ ap (textIn s) (filled-one e .0))
 
 module _ {v : Version} {key : Key} {k s : Bytes} {at : ℕ} {slots : Slots} (f : Fielded v key k s at slots) (t : Tag) (a : isKept t ≡ true) (b : knows (knownBy key) t ≡ true) {x : Text} {g : ℕ}
     (e : get t slots ≡ slot.Filled x g) where
@@ -75,8 +60,8 @@ module _ {v : Version} {key : Key} {k s : Bytes} {at : ℕ} {slots : Slots} (f :
   value-is = text-means s x g (fieldNamed v k (tagName t) (f .fs)) (textNamed v k (tagName t) (at + 1) (f .fs)) (named-text v k (tagName t) s (at + 1) (f .fs) (f .stand)) (holds f t a b e)
 
   value-raw : u64Read (valueNamed v k (tagName t) (f .fs)) ≡ u64Read (textIn s x)
-  value-raw = text-raw s x g (fieldNamed v k (tagName t) (f .fs)) (textNamed v k (tagName t) (at + 1) (f .fs)) (named-text v k (tagName t) s (at + 1) (f .fs) (f .stand))
-      (named-raw v k (tagName t) (f .fs) (f .raw)) (holds f t a b e)
+  value-raw = text-raw s x g (λ f. nameOf v k (f .key) ≡ tagName t) (fieldNamed v k (tagName t) (f .fs)) (textNamed v k (tagName t) (at + 1) (f .fs)) (named-text v k (tagName t) s (at + 1) (f .fs) (f .stand))
+      (on-named RawField v k (tagName t) (f .fs) (f .raw)) (holds f t a b e)
 
 -- The four required fields
 

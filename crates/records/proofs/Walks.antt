@@ -1,27 +1,20 @@
 -- Fields one after the other: their checks, their texts and their scan. Assumes nothing.
-use Prim.Native.Nat.{ℕ, zero, suc, _+_, _-_, _≤_, _<_}
-use native.Mathlib.Omega.{arith}
-use mathlib.Core.Path.{_≡_, refl, sym, ap, ap₂, _∙_}
-use mathlib.Core.Bool.{Bool, true, false, not, _||_, _&&_}
-use mathlib.Core.List.{List, [], _∷_, _++_, append-assoc}
+use Prim.Native.Nat.{ℕ, zero, suc, _+_}
+use mathlib.Core.Path.{_≡_, refl, sym, ap, _∙_}
+use mathlib.Core.Bool.{Bool, true, false, not, _||_}
+use mathlib.Core.List.{List, [], _∷_, _++_}
 use mathlib.Core.Option.{Option, none, some}
-use lib.ListN.{length, drop, length-append}
-use borrow.Author.Tests.{eqb-true}
-use Rattle.values.specs.Bytes.{Bytes, ascii, same, is, empty}
+use lib.ListN.{length}
+use Rattle.values.specs.Bytes.{Bytes, same}
 use Rattle.values.specs.Value.{meaningOf}
-use Rattle.values.specs.Field.{Field, writtenField, readField}
-use Rattle.values.specs.Places.{textAt}
-use Rattle.values.specs.declared.string.Text.{Text}
-use Rattle.values.proofs.Tests.{Test, pass, fail, test, both}
-use Rattle.values.proofs.Lists.{on-some}
-use Rattle.values.proofs.Places.{FieldIn, field-in}
+use Rattle.values.specs.Field.{Field, writtenField}
+use Rattle.values.proofs.Tests.{pass, fail, test}
 use Rattle.rules.specs.Answer.{unless, first}
 use Rattle.rules.specs.Version.{Version}
 use Rattle.rules.specs.Known.{isIn, kindOf, nameOf}
-use Rattle.rules.specs.Map.{After, more, done, wrong, after, Scan, scan, isSome, fieldRefusal, checkFields}
+use Rattle.rules.specs.Map.{isSome, fieldRefusal, checkFields}
 use Rattle.rules.specs.Entry.{textNamed}
-use Rattle.rules.proofs.Fields.{SeenAfter, was-more, was-done, was-wrong, see-after}
-use Rattle.records.specs.Maps.{FieldThen, FieldsFrom, namesOf}
+use Rattle.records.specs.Maps.{FieldsFrom, namesOf}
 
 -- The first refusal
 
@@ -124,78 +117,3 @@ text-in v k name start (f ∷ fs) = elim (test (same (nameOf v k (f .key)) name)
   | pass e ↦ rw (textNamed, e)
   | fail e ↦ rw (textNamed, e) (text-in v k name (start + length (writtenField f) + 1) fs)
 ]
-
--- The scan
-
-pub scan-none : (fuel : ℕ) (m : Bool) (bs : Bytes) → readField m bs ≡ none → scan fuel m bs ≡ ([], 9)
-unfolding scan
-scan-none zero m bs e = refl
-scan-none (suc n) m bs e = rw (scan, e)
-
--- a field that was read has bytes
-field-long : (m : Bool) (bs : Bytes) {f : Field} {r : Bytes} → readField m bs ≡ some (f, r) → length bs ≡ length (writtenField f) + length r
-field-long m bs {f} {r} e = ap length (on-some (FieldIn m bs) (field-in m bs) e .text) ∙ length-append (writtenField f) r
-
-written-long : (f : Field) → 0 < length (writtenField f)
-unfolding writtenField
-written-long f = rw (length-append (f .key) _) (omega arith)
-
-pub after-more : (r : Bytes) {t : Bytes} → after r ≡ more t → r ≡ 44 ∷ t
-unfolding after
-after-more [] e = let z : _≡_ {A = ℕ} 0 1 = cc in absurd (omega arith)
-after-more (b ∷ bs) e = elim (test (is 44 b)) [
-  | pass q ↦ ap₂ _∷_ (eqb-true b 44 q) (more-is (rw (after, q) at e))
-  | fail q ↦ elim (test (is 62 b && empty bs)) [
-    | pass x ↦ let y = rw (after, q, x) at e in let z : _≡_ {A = ℕ} 0 1 = cc in absurd (omega arith)
-    | fail x ↦ let y = rw (after, q, x) at e in let z : _≡_ {A = ℕ} 0 1 = cc in absurd (omega arith)
-  ]
-]
-  where
-    more-is : {x y : Bytes} → more x ≡ more y → x ≡ y
-    more-is e = cc
-
--- some fuel is left
-data Fuel (fuel : ℕ) : Type 0 where
-  left : (n : ℕ) → fuel ≡ suc n → Fuel fuel
-
-some-fuel : (fuel : ℕ) → 0 < fuel → Fuel fuel
-some-fuel zero h = absurd (omega arith)
-some-fuel (suc n) h = left n refl
-
-module _ (m : Bool) (bs : Bytes) {f : Field} {r : Bytes} (e : readField m bs ≡ some (f, r)) (fuel : ℕ) (h : length bs ≤ fuel) where
-  fuelled : Fuel fuel
-  fuelled = let a = field-long m bs e in let b = written-long f in some-fuel fuel (omega arith)
-
-  pub scan-wrong : after r ≡ wrong → scan fuel m bs ≡ (f ∷ [], 8)
-  unfolding scan
-  scan-wrong w = go fuelled
-    where
-      go : Fuel fuel → scan fuel m bs ≡ (f ∷ [], 8)
-      go (left n i) = rw (i, scan, e, w)
-
-  pub scan-done : after r ≡ done → scan fuel m bs ≡ (f ∷ [], 0)
-  unfolding scan
-  scan-done w = go fuelled
-    where
-      go : Fuel fuel → scan fuel m bs ≡ (f ∷ [], 0)
-      go (left n i) = rw (i, scan, e, w)
-
-  pub scan-more : {t : Bytes} → after r ≡ more t → (n : ℕ) × (length t ≤ n) × (scan fuel m bs ≡ (f ∷ scan n m t .0, scan n m t .1))
-  unfolding scan
-  scan-more {t} w = go fuelled
-    where
-      go : Fuel fuel → (n : ℕ) × (length t ≤ n) × (scan fuel m bs ≡ (f ∷ scan n m t .0, scan n m t .1))
-      go (left n i) =
-          let a = field-long m bs e in
-          let b = written-long f in
-          let c = ap length (after-more r w) in
-          (n, omega arith, rw (i, scan, e, w))
-
-  -- whatever follows, the field comes first
-  pub scan-first : (rest : List Field) × (scan fuel m bs .0 ≡ f ∷ rest)
-  scan-first = go (see-after (after r))
-    where
-      go : SeenAfter (after r) → (rest : List Field) × (scan fuel m bs .0 ≡ f ∷ rest)
-      go (was-more t w) = let x = scan-more w in (scan (x .0) m t .0, ap (λ (y : Scan). y .0) (x .2))
-      go (was-done w) = ([], ap (λ (y : Scan). y .0) (scan-done w))
-      go (was-wrong w) = ([], ap (λ (y : Scan). y .0) (scan-wrong w))

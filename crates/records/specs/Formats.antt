@@ -1,5 +1,4 @@
 -- The version type, and the version that it holds. Assumes nothing.
-use Prim.Native.Nat.{ℕ}
 use mathlib.Core.Option.{Option, none, some}
 use Rattle.rules.specs.Version.{Version, version}
 use Rattle.records.specs.declared.file_format.FileFormat.{FileFormat}

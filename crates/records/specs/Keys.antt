@@ -1,7 +1,7 @@
 -- Which kind of record a key names. Assumes nothing.
 use Prim.Native.Nat.{ℕ}
 use mathlib.Core.Path.{_≡_}
-use mathlib.Core.Bool.{Bool, true, false}
+use mathlib.Core.Bool.{true, false}
 use mathlib.Core.List.{List, [], _∷_}
 use Rattle.values.specs.Bytes.{Bytes, ascii, same}
 use Rattle.rules.specs.Known.{kindOf, isTyped, alwaysMap}

@@ -1,6 +1,6 @@
 -- Number and Type as the code asks for them: integers are read from the bytes as they stand, letters by meaning. Assumes nothing.
 use Prim.Native.Nat.{ℕ}
-use mathlib.Core.Bool.{Bool, true, false, _||_}
+use mathlib.Core.Bool.{Bool, true, false}
 use mathlib.Core.List.{List, [], _∷_, _++_}
 use lib.Dec.{eqb}
 use Rattle.values.specs.Bytes.{Bytes, ascii, same}

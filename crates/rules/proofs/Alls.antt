@@ -1,6 +1,6 @@
--- Facts of every element of a list. Assumes nothing.
-use mathlib.Core.Path.{_≡_, refl, sym, ap, ap₂, _∙_}
-use mathlib.Core.Bool.{Bool, true, false, _||_}
+-- Facts of every element of a list, and membership. Assumes nothing.
+use mathlib.Core.Path.{_≡_, refl, sym, ap₂}
+use mathlib.Core.Bool.{true, _||_, or-assoc}
 use mathlib.Core.List.{List, [], _∷_, _++_, map}
 use Rattle.values.specs.Bytes.{Bytes, same}
 use Rattle.values.proofs.Tests.{or-on}
@@ -19,11 +19,6 @@ pub all-append : {A : Type 0} (P : A → Type 0) (xs ys : List A) → All P xs �
 all-append P [] ys h k = k
 all-append P (x ∷ xs) ys h k = (h .0, all-append P xs ys (h .1) k)
 
--- of what a function makes of each
-pub all-image : {A B : Type 0} (P : B → Type 0) (f : A → B) (xs : List A) → All (λ x. P (f x)) xs → All P (map f xs)
-all-image P f [] h = tt
-all-image P f (x ∷ xs) h = (h .0, all-image P f xs (h .1))
-
 pub map-same : {A B : Type 0} (f g : A → B) (xs : List A) → All (λ x. f x ≡ g x) xs → map f xs ≡ map g xs
 map-same f g [] h = refl
 map-same f g (x ∷ xs) h = ap₂ _∷_ (h .0) (map-same f g xs (h .1))
@@ -33,3 +28,8 @@ pub all-in : (P : Bytes → Type 0) (ns : List Bytes) → ((n : Bytes) → isIn 
 unfolding isIn
 all-in P [] f = tt
 all-in P (n ∷ ns) f = (f n (rw (same-self n)), all-in P ns (λ m h. f m (or-on (same n m) h)))
+
+pub in-append : (k : Bytes) (xs ys : List Bytes) → isIn k (xs ++ ys) ≡ (isIn k xs || isIn k ys)
+unfolding isIn
+in-append k [] ys = refl
+in-append k (x ∷ xs) ys = rw (in-append k xs ys) (sym (or-assoc (same x k) (isIn k xs) (isIn k ys)))

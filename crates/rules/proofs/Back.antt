@@ -1,24 +1,21 @@
 -- What the house form writes is read back: reading it is accepted, with the records that were written. Assumes nothing.
-use Prim.Native.Nat.{ℕ, zero, suc, _+_, _*_, _≤_}
+use Prim.Native.Nat.{ℕ, suc, _+_, _*_, _≤_}
 use native.Mathlib.Omega.{arith}
-use mathlib.Core.Path.{_≡_, refl, sym, ap, ap₂, _∙_}
-use mathlib.Core.Bool.{Bool, true, false}
+use mathlib.Core.Path.{_≡_, refl, ap, _∙_}
+use mathlib.Core.Bool.{false}
 use mathlib.Core.List.{List, [], _∷_, _++_, map, append-assoc, append-nil}
-use mathlib.Core.Option.{Option, none, some}
-use lib.Dec.{leb}
-use lib.ListN.{length, length-map}
-use borrow.Author.Tests.{le-leb, leb-true}
-use Rattle.values.specs.Bytes.{Bytes, LF, ascii, is, any, starts}
-use Rattle.values.specs.Utf8.{isUtf8}
-use Rattle.values.proofs.Tests.{Test, pass, fail, test}
-use Rattle.rules.specs.Answer.{Answer, ok, refuse, _>>=_, judged}
+use mathlib.Core.Option.{Option, none}
+use lib.ListN.{length}
+use borrow.Author.Tests.{le-leb}
+use Rattle.values.specs.Bytes.{Bytes}
+use Rattle.rules.specs.Answer.{ok}
 use Rattle.rules.specs.Sizes.{Limits}
 use Rattle.rules.specs.Lines.{pieces, lineOf, writeLine, writeLines}
-use Rattle.rules.specs.Version.{Version, v4-5, inForce}
-use Rattle.rules.specs.Record.{Record, fileformat, fields, text, readRecord}
-use Rattle.rules.specs.Columns.{Columns, readColumns}
-use Rattle.rules.specs.Entry.{Entry, recordEntry, samplesStart, sampleEntries, columnEntries}
-use Rattle.rules.specs.Reading.{clash, State, empty, ready, done, begin, enter, finish, stepText, isDone, step, Reading, stop, following, atEnd, run, reading}
+use Rattle.rules.specs.Version.{Version, v4-5}
+use Rattle.rules.specs.Record.{Record, fileformat, fields, text}
+use Rattle.rules.specs.Columns.{Columns}
+use Rattle.rules.specs.Entry.{Entry, recordEntry, samplesStart, columnEntries}
+use Rattle.rules.specs.Reading.{clash, State, empty, ready, done, enter, stepText, isDone, step, Reading, following, run, reading}
 use Rattle.rules.specs.Meaning.{saying}
 use Rattle.rules.specs.House.{recordOf, writeRecord, writeColumns}
 use Rattle.rules.proofs.Alls.{All}
@@ -27,8 +24,8 @@ use Rattle.rules.proofs.Pieces.{NoLF, written, pieces-lines}
 use Rattle.rules.proofs.Versions.{Sized}
 use Rattle.rules.proofs.Tidy.{tidied}
 use Rattle.rules.proofs.Groups.{Clear, all-split}
-use Rattle.rules.proofs.Samples.{GoodColumns, columns-pure, columns-back, columns-start}
-use Rattle.rules.proofs.Records.{Entered, record-back, record-pure, format-back, format-pure, not-column}
+use Rattle.rules.proofs.Samples.{GoodColumns, columns-back, columns-start}
+use Rattle.rules.proofs.Records.{Entered, record-back, format-back, not-column}
 use Rattle.rules.proofs.Sound.{samples-count, run-more}
 
 -- accepted, with these records

@@ -1,17 +1,16 @@
 -- A map's checks, one by one: every field passes and every name is fresh; the field of a name. Assumes nothing.
-use Prim.Native.Nat.{ℕ}
-use mathlib.Core.Path.{_≡_, refl, sym, ap, _∙_}
-use mathlib.Core.Bool.{Bool, true, false, not}
-use mathlib.Core.List.{List, [], _∷_, _++_, map}
-use mathlib.Core.Option.{Option, none, some}
-use Rattle.values.specs.Bytes.{Bytes, ascii, same}
+use mathlib.Core.Path.{_≡_, refl}
+use mathlib.Core.Bool.{true, false, not}
+use mathlib.Core.List.{List, [], _∷_, map}
+use mathlib.Core.Option.{some}
+use Rattle.values.specs.Bytes.{Bytes, same}
 use Rattle.values.specs.Value.{meaningOf}
 use Rattle.values.specs.Field.{Field}
-use Rattle.values.proofs.Tests.{Test, pass, fail, test, or-l, or-r, not-true, both}
+use Rattle.values.proofs.Tests.{pass, fail, test, not-true}
 use Rattle.values.proofs.Lists.{OnSome}
-use Rattle.rules.specs.Answer.{unless, first}
+use Rattle.rules.specs.Answer.{unless}
 use Rattle.rules.specs.Version.{Version}
-use Rattle.rules.specs.Known.{Kind, kindOf, isIn, nameOf}
+use Rattle.rules.specs.Known.{kindOf, isIn, nameOf}
 use Rattle.rules.specs.Map.{Scan, fieldRefusal, checkFields, fieldNamed, missing, misdeclared, mapRefusal}
 use Rattle.rules.proofs.Firsts.{first-zero, zero-first, first-nil, zero-unless}
 use Rattle.values.proofs.Sames.{same-sound}

@@ -1,35 +1,34 @@
 -- Demand 2 over a whole header: what the calls show of every entry of an accepted header. Assumes nothing.
-use Prim.Native.Nat.{ℕ, zero, suc, _+_, _-_, _*_, _≤_, _<_}
+use Prim.Native.Nat.{ℕ, zero, suc, _+_, _≤_}
 use native.Mathlib.Omega.{arith}
-use mathlib.Core.Path.{_≡_, refl, sym, ap, ap₂, subst, _∙_}
-use mathlib.Core.Bool.{Bool, true, false, _&&_, false≢true}
+use mathlib.Core.Path.{_≡_, refl, sym, ap, subst, _∙_}
+use mathlib.Core.Bool.{Bool, true, false}
 use mathlib.Core.List.{List, [], _∷_, _++_, tail, append-nil}
 use mathlib.Core.Option.{Option, none, some}
-use lib.Dec.{leb}
 use lib.ListN.{length, drop, length-append, length-drop}
 use lib.Seq.{sets, drop-drop}
-use Rattle.values.specs.Bytes.{Bytes, ascii}
-use Rattle.values.specs.Field.{Field}
+use Rattle.values.specs.Bytes.{Bytes}
+use Rattle.values.proofs.Tests.{never}
 use Rattle.values.proofs.Lists.{some-is, none-not}
 use Rattle.values.proofs.Fields.{part, text-here}
 use Rattle.rules.specs.Answer.{ok}
 use Rattle.rules.specs.Sizes.{Limits}
-use Rattle.rules.specs.Version.{Version, v4-5}
+use Rattle.rules.specs.Version.{Version}
 use Rattle.rules.specs.Record.{Record, fileformat, fields, text, readRecord}
-use Rattle.rules.specs.Columns.{Columns, TAB, columnNames, readColumns}
+use Rattle.rules.specs.Columns.{Columns, TAB}
 use Rattle.rules.specs.Entry.{Entry, place, recordEntry, tabbed, samplesStart, sampleEntries, columnEntries, words}
-use Rattle.rules.specs.Reading.{Reading, reading}
+use Rattle.rules.specs.Reading.{reading}
 use Rattle.rules.specs.House.{parted, writeColumns}
 use Rattle.rules.proofs.Firsts.{on-ok}
 use Rattle.rules.proofs.Alls.{All}
 use Rattle.rules.proofs.Versions.{SizedOption}
 use Rattle.rules.proofs.Samples.{GoodColumns, columnsOf, columns-in}
 use Rattle.rules.proofs.Records.{Entered}
-use Rattle.rules.proofs.Sound.{Good, samples-count}
+use Rattle.rules.proofs.Sound.{samples-count}
 use Rattle.rules.proofs.Back.{Accepted}
 use Rattle.rules.proofs.House.{accepted-good}
 use Rattle.rules.proofs.Trace.{LineAt, Row, Rows, TracedHeader, header-traced}
-use Rattle.rules.proofs.Shows.{Packed, InTable, ShowsMap, shows-map, ShowsPlain, shows-plain, entryOf, in-table, words-count, part-part}
+use Rattle.rules.proofs.Shows.{Packed, ShowsMap, shows-map, ShowsPlain, shows-plain, entryOf, in-table, part-part}
 
 abbrev pub recordAt : List Record → ℕ → Option Record
 recordAt [] i = none
@@ -120,7 +119,7 @@ names-start c g = go (c .format) (c .samples) (g .formatted)
     go true [] h = tt
     go true (x ∷ xs) h = (refl, omega arith)
     go false [] h = tt
-    go false (x ∷ xs) h = let z : _≡_ {A = ℕ} 0 1 = cc (h refl) in absurd (omega arith)
+    go false (x ∷ xs) h = never (cc (h refl))
 
 -- what is shown of a record's entry
 abbrev pub Shows : (lim : Limits) → Packed lim → (h : Bytes) → length h ≤ lim .header → Version → List ℕ → ℕ → ℕ → Bytes → Entry → Record → Type 0
@@ -214,14 +213,12 @@ module _ (lim : Limits) (packed : Packed lim) (imposed : Option Version) (sized 
       let d = name-in s (traced .line) samplesStart (c .samples) j (rw i at (names-start c g)) e in
       let n : length (traced .rows) + suc j ≡ length rs + suc j = rw (rows-length lim h v (traced .rows) rs (traced .all)) in
       let m : suc (length rs) + suc j ≡ suc (length rs + suc j) = omega arith in
+      let k : s + d .at + length x ≡ s + (d .at + length x) = omega arith in
       let at = traced .last in
       record {
         at = s + d .at;
-        here = rw (omega-add s (d .at) (length x)) (part-part h s (traced .line) (d .at) (d .at + length x) (at .here) (d .inside) ∙ d .here);
+        here = rw k (part-part h s (traced .line) (d .at) (d .at + length x) (at .here) (d .inside) ∙ d .here);
         shows = shows-plain lim packed h w v filled (suc (length rs) + suc j) 10 (s + d .at) (length x) (omega arith) refl refl (omega (arith, at .inside, d .inside)) (omega (arith, at .short, d .inside))
             (in-table t entries (suc (length rs) + suc j) fits
             (ap (λ (x : List Entry). entryOf x (suc (length rs) + suc j)) (traced .these) ∙ rw m (rw (← n) (entry-right (traced .rows) (columnEntries s (traced .line) c) (suc j)) ∙ d .is)));
       }
-    where
-      omega-add : (a b k : ℕ) → a + b + k ≡ a + (b + k)
-      omega-add a b k = omega arith

@@ -1,26 +1,25 @@
 -- A map's fields: scans that end, what is read of them, and that what is written is read back. Assumes nothing.
-use Prim.Native.Nat.{ℕ, zero, suc, _+_, _≤_, _<_}
+use Prim.Native.Nat.{ℕ, zero, suc, _≤_, _<_}
 use native.Mathlib.Omega.{arith}
 use mathlib.Core.Path.{_≡_, refl, sym, ap, ap₂, _∙_}
 use mathlib.Core.Bool.{Bool, true, false, not, _||_, _&&_, false≢true}
-use mathlib.Core.List.{List, [], _∷_, _++_, tail, append-assoc, append-nil}
+use mathlib.Core.List.{List, [], _∷_, _++_, tail, append-assoc}
 use mathlib.Core.Option.{Option, none, some}
-use lib.Dec.{eqb}
 use lib.ListN.{length, length-append}
-use borrow.Author.Tests.{eqb-true, eq-eqb}
-use Rattle.values.specs.Bytes.{Bytes, ascii, is, empty, begins, any, before, from, same}
-use Rattle.values.specs.Value.{Value, quoted, bare, isQuoted, textOf, written, meaning, meaningOf, isStop, inQuotes, quotedText, isBracketed, readBare, readBracketed, readValues, readUnquoted, readValue, escape, valueOf, writeValue}
+use borrow.Author.Tests.{eqb-true}
+use Rattle.values.specs.Bytes.{Bytes, ascii, is, empty, begins, any, before, from}
+use Rattle.values.specs.Value.{Value, bare, textOf, written, meaningOf, isStop, inQuotes, quotedText, isBracketed, readBare, readValues, readUnquoted, readValue, escape, valueOf}
 use Rattle.values.specs.Field.{Field, writtenField, isForbidden, isKey, readKey, withValue, mayBracket, withKey, readField}
-use Rattle.values.proofs.Tests.{Test, pass, fail, test, or-l, or-r, or-on, and-l, and-r, and-off, not-true, not-false, both}
-use Rattle.values.proofs.Lists.{OnSome, on-some, any-append, any-less, before-from, before-hit, before-miss, before-stop, from-hit, from-miss, from-stop, from-is}
+use Rattle.values.proofs.Tests.{pass, fail, test, or-l, or-r, and-l, and-r, and-off, not-true, both}
+use Rattle.values.proofs.Lists.{OnSome, on-some, before-hit, before-miss, before-stop, from-hit, from-miss, from-stop, from-is}
 use Rattle.values.proofs.Values.{bracketed-is, bracketed-not}
 use Rattle.values.proofs.Escapes.{quoted-escape, unescaped-escape}
 use Rattle.values.proofs.Fields.{KeyIn, key-in, key-is, tail-is}
 use Rattle.values.proofs.Places.{QuotedIn, quoted-in}
-use Rattle.rules.specs.Map.{After, more, done, wrong, after, Scan, scan, closing, readFields}
+use Rattle.rules.specs.Map.{After, more, done, wrong, after, scan, readFields}
 use Rattle.rules.specs.House.{closes, needsQuotes, writeMore, writeFields}
-use Rattle.rules.proofs.Alls.{All, all-map}
-use Rattle.rules.proofs.Pure.{Pure, pure-nil, Plain, pure-cons, pure-append, pure-join, pure-split, pure-rest, pure-tail, pure-cut, pure-unescaped, pure-escape}
+use Rattle.rules.proofs.Alls.{All}
+use Rattle.rules.proofs.Pure.{Pure, pure-nil, pure-join, pure-split, pure-tail, pure-cut}
 
 -- What is read is pure
 
@@ -96,18 +95,26 @@ see-after (more r) = was-more r refl
 see-after done = was-done refl
 see-after wrong = was-wrong refl
 
-abbrev PureAfter : After → Type 0
-PureAfter (more r) = Pure r
-PureAfter done = Unit {0}
-PureAfter wrong = Unit {0}
+-- what follows a value
+abbrev pub AfterIn : Bytes → After → Type 0
+AfterIn bs (more r) = bs ≡ 44 ∷ r
+AfterIn bs done = bs ≡ 62 ∷ []
+AfterIn bs wrong = Unit {0}
 
-after-pure : (bs : Bytes) → Pure bs → PureAfter (after bs)
+pub after-in : (bs : Bytes) → AfterIn bs (after bs)
 unfolding after
-after-pure [] g = tt
-after-pure (b ∷ bs) g = elim (test (is 44 b)) [
-  | pass e ↦ rw (after, e) (pure-tail b bs (omega (arith, eqb-true b 44 e)) g)
-  | fail e ↦ elim (test (is 62 b && empty bs)) [ pass f ↦ rw (after, e, f) tt | fail f ↦ rw (after, e, f) tt ]
+after-in [] = tt
+after-in (b ∷ bs) = elim (test (is 44 b)) [
+  | pass e ↦ rw (after, e) (rw (eqb-true b 44 e))
+  | fail e ↦ elim (test (is 62 b && empty bs)) [
+    | pass f ↦ rw (after, e, f) (ap₂ _∷_ (eqb-true b 62 (and-l (is 62 b) (empty bs) f)) (none bs (and-r (is 62 b) (empty bs) f)))
+    | fail f ↦ rw (after, e, f) tt
+  ]
 ]
+  where
+    none : (bs : Bytes) → empty bs ≡ true → bs ≡ []
+    none [] h = refl
+    none (b ∷ bs) h = absurd (false≢true h)
 
 pub data SeenField (a : Option (Field × Bytes)) : Type 0 where
   no-field : a ≡ none → SeenField a
@@ -124,7 +131,7 @@ scan-good (suc n) m bs g = elim (see-field (readField m bs)) [
   | no-field e ↦ rw (scan, e) tt
   | a-field p e ↦ let d = on-some GoodRead (field-good m bs g) e in
       elim (see-after (after (p .1))) [
-        | was-more r a ↦ rw (scan, e, a) (d .0, scan-good n m r (rw a at (after-pure (p .1) (d .1))))
+        | was-more r a ↦ rw (scan, e, a) (d .0, scan-good n m r (pure-tail 44 r (omega arith) (rw (rw a at (after-in (p .1))) at (d .1))))
         | was-done a ↦ rw (scan, e, a) (d .0, tt)
         | was-wrong a ↦ rw (scan, e, a) (d .0, tt)
       ]

@@ -1,7 +1,7 @@
 -- The first refusal of a list, and what holds of an answer. Assumes nothing.
 use Prim.Native.Nat.{ℕ, zero, suc}
 use native.Mathlib.Omega.{arith}
-use mathlib.Core.Path.{_≡_, refl, sym, _∙_}
+use mathlib.Core.Path.{_≡_, refl}
 use mathlib.Core.Bool.{Bool, true, false}
 use mathlib.Core.List.{List, [], _∷_}
 use Rattle.rules.specs.Answer.{Answer, ok, refuse, _>>=_, unless, first, judged}
@@ -18,6 +18,11 @@ zero-first a ns e h = rw e h
 pub first-nil : first [] ≡ 0
 unfolding first
 first-nil = refl
+
+pub first-only : (n : ℕ) (ns : List ℕ) → first ns ≡ 0 → first (n ∷ ns) ≡ n
+unfolding first
+first-only zero ns h = h
+first-only (suc n) ns h = refl
 
 -- where all are 0
 pub first-one : (a : ℕ) → a ≡ 0 → first (a ∷ []) ≡ 0
@@ -37,6 +42,10 @@ OnOk P (refuse n) = Unit {0}
 
 pub on-ok : {A : Type 0} (P : A → Type 0) {a : Answer A} {x : A} → OnOk P a → a ≡ ok x → P x
 on-ok P h e = rw e at h
+
+pub map-ok : {A : Type 0} (P Q : A → Type 0) (a : Answer A) → ((x : A) → P x → Q x) → OnOk P a → OnOk Q a
+map-ok P Q (ok x) f h = f x h
+map-ok P Q (refuse n) f h = tt
 
 pub bind-ok : {A B : Type 0} (P : A → Type 0) (Q : B → Type 0) (a : Answer A) (f : A → Answer B) → OnOk P a → ((x : A) → P x → OnOk Q (f x)) → OnOk Q (a >>= f)
 bind-ok P Q (ok x) f h k = k x h

@@ -1,33 +1,31 @@
 -- A fine map's fields as written are fine, and are read back. Assumes nothing.
-use Prim.Native.Nat.{ℕ, zero, suc, _-_, _^_, _≤_, _<_}
-use native.Mathlib.Omega.{arith}
-use mathlib.Core.Path.{_≡_, refl, sym, ap, ap₂, _∙_}
-use mathlib.Core.Bool.{Bool, true, false, not, _||_, _&&_, true≢false, false≢true}
+use Prim.Native.Nat.{ℕ}
+use mathlib.Core.Path.{_≡_, refl, sym, ap, _∙_}
+use mathlib.Core.Bool.{Bool, true, false, not, _||_, _&&_, false≢true, and-assoc}
 use mathlib.Core.List.{List, [], _∷_, _++_, map}
 use mathlib.Core.Option.{Option, none, some}
 use Rattle.values.specs.Bytes.{Bytes, ascii, is, begins, any, same}
-use Rattle.values.specs.Value.{Value, quoted, bare, isQuoted as isQuotedValue, textOf, meaning, meaningOf, valueOf, isStop}
+use Rattle.values.specs.Value.{Value, quoted, bare, textOf, meaningOf, valueOf}
 use Rattle.values.specs.Field.{Field, isKey, mayBracket}
 use Rattle.values.specs.Integer.{u64Read, decimal}
-use Rattle.values.specs.declared.integer.IntegerRead.{IntegerRead}
 use Rattle.values.specs.declared.integer.IntegerRead.the-variants as integer
-use Rattle.values.proofs.Tests.{Test, pass, fail, test, or-l, or-r, or-on, and-l, and-r, and-off, not-false, both}
-use Rattle.values.proofs.Lists.{OnSome, on-some}
+use Rattle.values.proofs.Tests.{pass, fail, test, or-l, or-r, or-on, and-l, and-r, and-off, not-false, both}
+use Rattle.values.proofs.Lists.{OnSome}
 use Rattle.rules.specs.Answer.{unless, first}
 use Rattle.rules.specs.Version.{Version, v4-3, since}
-use Rattle.rules.specs.Known.{Kind, INFO, FILTER, FORMAT, ALT, contig, other, kindOf, isIn, required, known, nameOf, tagOf, types, readNumber, letters, letterIn, numberOr as countOr, Number, count, integers}
-use Rattle.rules.specs.Reserved.{Row, tableOf, lookRow, reserved, declares}
+use Rattle.rules.specs.Known.{Kind, INFO, FILTER, FORMAT, ALT, contig, other, kindOf, isIn, required, known, nameOf, types, readNumber, count, integers}
+use Rattle.rules.specs.Reserved.{tableOf, lookRow, reserved}
 use Rattle.rules.specs.Map.{isSome, isValue, isField, isMeta, fieldRefusal, fieldNamed, valueOf as valueIn, valueNamed, missing, misdeclared}
-use Rattle.rules.specs.Meaning.{Known, number, word, numeric, knownValue, knownOf, tagIn, others}
-use Rattle.rules.specs.House.{closes, needsQuotes, isValues, isQuoted, writeField, writeKnown, tagName, keyNamed, knownFields, otherFields}
-use Rattle.rules.proofs.Firsts.{first-zero, zero-first, first-nil, first-one, unless-zero, zero-unless}
-use Rattle.values.proofs.Sames.{same-sound, same-self}
+use Rattle.rules.specs.Meaning.{Known, numeric, knownValue, knownOf, others}
+use Rattle.rules.specs.House.{closes, isValues, isQuoted, writeField, writeKnown, keyNamed, knownFields, otherFields}
+use Rattle.rules.proofs.Firsts.{zero-first, first-one, unless-zero}
+use Rattle.values.proofs.Sames.{same-sound}
 use Rattle.rules.proofs.Alls.{All, all-map, all-append, map-same, all-in}
 use Rattle.rules.proofs.Pure.{Pure, pure-unescaped, pure-escape, pure-decimal}
 use Rattle.rules.proofs.Names.{Fresh, Within, fresh-less, name-is, id-key}
 use Rattle.rules.proofs.Fields.{GoodField, Stable, StableField, quoted-stable, bare-stable, brackets-stable, meaning-back}
 use Rattle.rules.proofs.Checks.{namesOf, Passes, Fine, on-named}
-use Rattle.rules.proofs.Tidy.{SeenKnown, as-number, as-word, see-known, Named, Other, writtenAs, others-yes, others-no, others-other, known-fresh, known-named, id-known, tag, knownIn, tidy, tag-named, find-tidy}
+use Rattle.rules.proofs.Tidy.{as-number, as-word, see-known, Named, Other, writtenAs, others-yes, others-no, others-other, known-fresh, known-named, id-known, tag, knownIn, tidy, tag-named, find-tidy}
 
 -- a key and a value's meaning that may stand in a map under k
 pub record Fit (v : Version) (k key t : Bytes) : Type 0 where
@@ -55,12 +53,8 @@ choice v k key t false e = elim (test (isValues v k key t)) [
       let m = and-l (isMeta v k) (same key (ascii "Values") && begins 91 t) f in
       let w = and-r (isMeta v k) (same key (ascii "Values") && begins 91 t) f in
       rw (m, and-l (same key (ascii "Values")) (begins 91 t) w) (brackets-stable t (and-r (same key (ascii "Values")) (begins 91 t) w) c)
-  | fail f ↦ bare-stable (mayBracket (isMeta v k) key) t (rw f at (or-r (same key (ascii "Description")) _ e)) (assoc (isMeta v k) _ _ f)
+  | fail f ↦ bare-stable (mayBracket (isMeta v k) key) t (rw f at (or-r (same key (ascii "Description")) _ e)) (and-assoc (isMeta v k) _ _ ∙ f)
 ]
-  where
-    assoc : (a b c : Bool) → a && (b && c) ≡ false → (a && b) && c ≡ false
-    assoc true b c h = h
-    assoc false b c h = refl
 
 pub fit-stable : (v : Version) (k key t : Bytes) → Fit v k key t → StableField (isMeta v k) (writeField v k key t)
 fit-stable v k key t h = record { legal = h .legal; plain = h .plain; value = choice v k key t (isQuoted v k key t) refl }

@@ -1,24 +1,22 @@
 -- Records put together by key: the same records, none beside another that it clashes with, and the same groups. Assumes nothing.
-use Prim.Native.Nat.{ℕ, zero, suc, _+_}
+use Prim.Native.Nat.{_+_}
 use native.Mathlib.Omega.{arith}
 use mathlib.Core.Path.{_≡_, refl, sym, ap, ap₂, _∙_}
-use mathlib.Core.Bool.{Bool, true, false, not, _||_, _&&_, true≢false, false≢true}
-use mathlib.Core.List.{List, [], _∷_, _++_, map, append-assoc, append-nil}
+use mathlib.Core.Bool.{true, false, _||_, false≢true}
+use mathlib.Core.List.{List, [], _∷_, _++_, map, append-assoc, append-nil, map-append}
 use lib.ListN.{length, length-append, length-map}
-use Rattle.values.specs.Bytes.{Bytes, ascii, same}
-use Rattle.values.specs.Field.{Field}
-use Rattle.values.proofs.Tests.{Test, pass, fail, test, or-l, or-r, or-on, both}
+use Rattle.values.specs.Bytes.{Bytes, same}
+use Rattle.values.proofs.Tests.{pass, fail, test, or-l, or-r, or-on, both}
 use Rattle.rules.specs.Answer.{first}
 use Rattle.rules.specs.Version.{Version}
 use Rattle.rules.specs.Known.{isIn, isTyped, typedKeys}
 use Rattle.rules.specs.Record.{Record, fileformat, fields, text}
-use Rattle.rules.specs.Reading.{keyOf, idOf, isFields, besideOf, beside, clash}
-use Rattle.rules.specs.Meaning.{Saying, saying, under, without, otherKeys, groups}
+use Rattle.rules.specs.Reading.{keyOf, idOf, isFields, beside, clash}
+use Rattle.rules.specs.Meaning.{saying, under, without, otherKeys, groups}
 use Rattle.rules.specs.House.{recordOf, recordsOf}
 use Rattle.rules.proofs.Firsts.{first-zero, zero-first, first-nil}
-use Rattle.values.proofs.Sames.{same-sound, same-self}
-use Rattle.rules.proofs.Sames.{in-append}
-use Rattle.rules.proofs.Alls.{All, all-map, all-append, all-in}
+use Rattle.values.proofs.Sames.{same-sound, same-self, same-sym}
+use Rattle.rules.proofs.Alls.{All, all-map, all-append, all-in, in-append}
 use Rattle.rules.proofs.Tidy.{tidied, saying-tidied}
 use Rattle.rules.proofs.Fits.{id-tidy}
 
@@ -27,11 +25,11 @@ unfoldable pub arrange : List Bytes → List Record → List Record
 arrange [] rs = []
 arrange (k ∷ ks) rs = under k rs ++ arrange ks rs
 
-under-yes : (k : Bytes) (r : Record) (rs : List Record) → same (keyOf r) k ≡ true → under k (r ∷ rs) ≡ r ∷ under k rs
+pub under-yes : (k : Bytes) (r : Record) (rs : List Record) → same (keyOf r) k ≡ true → under k (r ∷ rs) ≡ r ∷ under k rs
 unfolding under
 under-yes k r rs e = rw (e, under)
 
-under-no : (k : Bytes) (r : Record) (rs : List Record) → same (keyOf r) k ≡ false → under k (r ∷ rs) ≡ under k rs
+pub under-no : (k : Bytes) (r : Record) (rs : List Record) → same (keyOf r) k ≡ false → under k (r ∷ rs) ≡ under k rs
 unfolding under
 under-no k r rs e = rw (e, under)
 
@@ -75,9 +73,6 @@ under-other j k (r ∷ xs) d h = under-no k r xs (rw (h .0) d) ∙ under-other j
 abbrev pub Distinct : List Bytes → Type 0
 Distinct [] = Unit {0}
 Distinct (k ∷ ks) = (isIn k ks ≡ false) × Distinct ks
-
-same-flip : (j k : Bytes) → same j k ≡ false → same k j ≡ false
-same-flip j k d = elim (test (same k j)) [ pass e ↦ both (rw (same-sound k j e) (same-self j)) d | fail e ↦ e ]
 
 arrange-none : (k : Bytes) (ks : List Bytes) (rs : List Record) → isIn k ks ≡ false → under k (arrange ks rs) ≡ []
 unfolding arrange isIn under
@@ -143,15 +138,11 @@ sayings-tidied v (r ∷ rs) = ap₂ _∷_ (saying-tidied v r) (sayings-tidied v 
 pub records-arranged : (v : Version) (ks : List Bytes) (rs : List Record) → recordsOf v (groups v ks rs) ≡ map (tidied v) (arrange ks rs)
 unfolding recordsOf groups arrange
 records-arranged v [] rs = refl
-records-arranged v (k ∷ ks) rs = rw (records-arranged v ks rs, group (under k rs) (under-key k rs)) (append-map (under k rs) (arrange ks rs))
+records-arranged v (k ∷ ks) rs = rw (records-arranged v ks rs, group (under k rs) (under-key k rs)) (sym (map-append (tidied v) (under k rs) (arrange ks rs)))
   where
     group : (xs : List Record) → All (λ r. keyOf r ≡ k) xs → map (recordOf v k) (map (saying v) xs) ≡ map (tidied v) xs
     group [] h = refl
     group (x ∷ xs) h = ap₂ _∷_ (rw (h .0)) (group xs (h .1))
-
-    append-map : (xs ys : List Record) → map (tidied v) xs ++ map (tidied v) ys ≡ map (tidied v) (xs ++ ys)
-    append-map [] ys = refl
-    append-map (x ∷ xs) ys = ap (tidied v x ∷_) (append-map xs ys)
 
 -- they have the same groups
 groups-arranged : (v : Version) (js ks : List Bytes) (rs : List Record) → Distinct ks → All (λ j. isIn j ks ≡ true) js
@@ -163,11 +154,11 @@ groups-arranged v (j ∷ js) ks rs d h =
 
 -- The keys
 
-without-yes : (k j : Bytes) (js : List Bytes) → same j k ≡ true → without k (j ∷ js) ≡ without k js
+pub without-yes : (k j : Bytes) (js : List Bytes) → same j k ≡ true → without k (j ∷ js) ≡ without k js
 unfolding without
 without-yes k j js e = rw (e, without)
 
-without-no : (k j : Bytes) (js : List Bytes) → same j k ≡ false → without k (j ∷ js) ≡ j ∷ without k js
+pub without-no : (k j : Bytes) (js : List Bytes) → same j k ≡ false → without k (j ∷ js) ≡ j ∷ without k js
 unfolding without
 without-no k j js e = rw (e, without)
 
@@ -208,11 +199,11 @@ all-without P k (j ∷ ks) h = elim (test (same j k)) [
   | fail e ↦ rw (without-no k j ks e) (h .0, all-without P k ks (h .1))
 ]
 
-keys-typed : (r : Record) (rs : List Record) → isTyped (keyOf r) ≡ true → otherKeys (r ∷ rs) ≡ otherKeys rs
+pub keys-typed : (r : Record) (rs : List Record) → isTyped (keyOf r) ≡ true → otherKeys (r ∷ rs) ≡ otherKeys rs
 unfolding otherKeys
 keys-typed r rs e = rw (e, otherKeys)
 
-keys-other : (r : Record) (rs : List Record) → isTyped (keyOf r) ≡ false → otherKeys (r ∷ rs) ≡ keyOf r ∷ without (keyOf r) (otherKeys rs)
+pub keys-other : (r : Record) (rs : List Record) → isTyped (keyOf r) ≡ false → otherKeys (r ∷ rs) ≡ keyOf r ∷ without (keyOf r) (otherKeys rs)
 unfolding otherKeys
 keys-other r rs e = rw (e, otherKeys)
 
@@ -449,14 +440,14 @@ arrange-over : (ks : List Bytes) (k : Bytes) (rs : List Record) → isIn k ks �
 unfolding arrange isIn
 arrange-over [] k rs h = refl
 arrange-over (j ∷ ks) k rs h =
-    ap₂ _++_ (under-over j k rs (same-flip j k (or-l (same j k) (isIn k ks) h))) (arrange-over ks k rs (or-r (same j k) (isIn k ks) h))
+    ap₂ _++_ (under-over j k rs (same-sym k j ∙ or-l (same j k) (isIn k ks) h)) (arrange-over ks k rs (or-r (same j k) (isIn k ks) h))
 
 over-keys : (ks : List Bytes) (k : Bytes) (rs : List Record) → All (λ r. isIn (keyOf r) (k ∷ ks) ≡ true) rs → All (λ r. isIn (keyOf r) ks ≡ true) (over k rs)
 unfolding over isIn
 over-keys ks k [] h = tt
 over-keys ks k (r ∷ rs) h = elim (test (same (keyOf r) k)) [
   | pass e ↦ rw (over-yes k r rs e) (over-keys ks k rs (h .1))
-  | fail e ↦ rw (over-no k r rs e) (rw (same-flip (keyOf r) k e) at (h .0), over-keys ks k rs (h .1))
+  | fail e ↦ rw (over-no k r rs e) (rw (same-sym k (keyOf r) ∙ e) at (h .0), over-keys ks k rs (h .1))
 ]
 
 count-arrange : (ks : List Bytes) (rs : List Record) → Distinct ks → All (λ r. isIn (keyOf r) ks ≡ true) rs → length (arrange ks rs) ≡ length rs

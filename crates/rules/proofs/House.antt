@@ -1,34 +1,31 @@
 -- Demand 3: each accepted header has one house form. Assumes nothing.
-use Prim.Native.Nat.{ℕ, zero, suc, _+_, _*_, _≤_}
+use Prim.Native.Nat.{ℕ, suc, _+_, _*_, _≤_}
 use native.Mathlib.Omega.{arith}
-use mathlib.Core.Path.{_≡_, refl, sym, ap, ap₂, subst, _∙_}
-use mathlib.Core.Bool.{Bool, true, false}
+use mathlib.Core.Path.{_≡_, sym, ap, _∙_}
 use mathlib.Core.List.{List, [], _∷_, _++_, map}
 use mathlib.Core.Option.{Option, none, some}
-use mathlib.Core.Logic.{_↔_, _⊎_, ⊎-elim}
+use mathlib.Core.Logic.{_↔_, ⊎-elim}
 use lib.Dec.{leb}
 use lib.ListN.{length, length-map}
 use borrow.Author.Tests.{leb-true}
 use Rattle.values.specs.Bytes.{Bytes}
-use Rattle.values.proofs.Tests.{Test, pass, fail, test}
+use Rattle.values.proofs.Tests.{pass, fail, test}
 use Rattle.values.proofs.Lists.{none-not, some-is}
 use Rattle.rules.specs.Sizes.{Limits}
-use Rattle.rules.specs.Lines.{writeLine, writeLines}
+use Rattle.rules.specs.Lines.{writeLine}
 use Rattle.rules.specs.Version.{Version}
-use Rattle.rules.specs.Known.{typedKeys}
 use Rattle.rules.specs.Record.{Record, fileformat}
 use Rattle.rules.specs.Columns.{Columns}
 use Rattle.rules.specs.Reading.{State, done, Reading, reading}
-use Rattle.rules.specs.Meaning.{otherKeys, groups, Meaning, meaning}
-use Rattle.rules.specs.House.{recordsOf, writeRecord, writeColumns, houseLines, houseForm, tooLong}
-use Rattle.rules.proofs.Alls.{All, all-append}
-use Rattle.rules.proofs.Pure.{Pure}
+use Rattle.rules.specs.Meaning.{Meaning, meaning}
+use Rattle.rules.specs.House.{writeRecord, houseLines, houseForm, tooLong}
+use Rattle.rules.proofs.Alls.{All}
 use Rattle.rules.proofs.Versions.{SizedOption}
 use Rattle.rules.proofs.Tidy.{tidied}
-use Rattle.rules.proofs.Groups.{arrange, allKeys, records-arranged, house-groups, keys-apart, arrange-all, apart-arrange, apart-tidied, Clear, clear, house-count}
+use Rattle.rules.proofs.Groups.{arrange, allKeys, records-arranged, house-groups, keys-apart, arrange-all, apart-arrange, apart-tidied, clear, house-count}
 use Rattle.rules.proofs.Samples.{GoodColumns, columns-pure}
 use Rattle.rules.proofs.Records.{Entered, record-pure, format-pure}
-use Rattle.rules.proofs.Sound.{Good, Inv, entriesIn, Ended, reading-good}
+use Rattle.rules.proofs.Sound.{Good, reading-good}
 use Rattle.rules.proofs.Back.{Accepted, Line, recordLines, columnLine, lines-back}
 use Rattle.rules.proofs.Rooms.{rooms}
 
@@ -46,7 +43,7 @@ short limit n start (l ∷ ls) h = elim (test (leb (length l) limit)) [
 ]
 
 -- the lines that the house form writes
-house-lines : (v : Version) (rs : List Record) (c : Columns)
+pub house-lines : (v : Version) (rs : List Record) (c : Columns)
     → houseLines (meaning v rs c) ≡ writeRecord (fileformat v) ∷ (recordLines v (arrange (allKeys rs) rs) ++ columnLine c ∷ [])
 unfolding houseLines meaning
 house-lines v rs c = rw (records-arranged v (allKeys rs) rs)

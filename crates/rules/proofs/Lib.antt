@@ -1,11 +1,11 @@
 pub mod Firsts
-pub mod Sames
 pub mod Pure
 pub mod Pieces
 pub mod Versions
 pub mod Alls
 pub mod Names
 pub mod Fields
+pub mod Scans
 pub mod Checks
 pub mod Tidy
 pub mod Fits

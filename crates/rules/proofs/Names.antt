@@ -1,13 +1,12 @@
 -- The names of fields: what a field key names, and names that are fresh, each none of those before. Assumes nothing.
-use Prim.Native.Nat.{ℕ}
-use mathlib.Core.Path.{_≡_, refl, sym, ap, _∙_}
-use mathlib.Core.Bool.{Bool, true, false, not, _||_, _&&_}
-use mathlib.Core.List.{List, [], _∷_, _++_, map}
+use mathlib.Core.Path.{_≡_, sym, _∙_}
+use mathlib.Core.Bool.{true, false, _||_}
+use mathlib.Core.List.{List, [], _∷_}
 use Rattle.values.specs.Bytes.{Bytes, ascii, same}
-use Rattle.values.proofs.Tests.{Test, pass, fail, test, or-l, or-r, and-l, and-r, and-off, both}
+use Rattle.values.proofs.Tests.{pass, fail, test, or-l, or-r, and-r, and-off, both}
 use Rattle.rules.specs.Version.{Version, v4-3, earlier}
-use Rattle.rules.specs.Known.{Kind, INFO, FILTER, FORMAT, ALT, contig, other, isIn, known, namesId, nameOf, tagOf}
-use Rattle.rules.specs.House.{tagName, keyNamed}
+use Rattle.rules.specs.Known.{isIn, namesId, nameOf, tagOf}
+use Rattle.rules.specs.House.{tagName}
 use Rattle.values.proofs.Sames.{same-sound, same-self}
 use Rattle.rules.proofs.Alls.{All}
 

@@ -1,14 +1,11 @@
 -- Lines: what is written is cut into the same lines again, and a line holds no LF. Assumes nothing.
-use Prim.Native.Nat.{ℕ, suc, _+_, _≤_, _<_}
-use native.Mathlib.Omega.{arith}
-use mathlib.Core.Path.{_≡_, refl, sym, ap, ap₂, _∙_}
-use mathlib.Core.Bool.{Bool, true, false, _||_}
+use Prim.Native.Nat.{ℕ}
+use mathlib.Core.Path.{_≡_, refl, sym, ap, _∙_}
+use mathlib.Core.Bool.{Bool, true, false}
 use mathlib.Core.List.{List, [], _∷_, _++_, map, append-assoc, append-nil}
-use lib.Dec.{eqb}
-use lib.ListN.{length}
 use borrow.Author.Tests.{eq-eqb}
 use Rattle.values.specs.Bytes.{Bytes, CR, LF, is, any}
-use Rattle.values.proofs.Tests.{Test, pass, fail, test, or-l, or-r, both}
+use Rattle.values.proofs.Tests.{pass, fail, test, or-l, or-r}
 use Rattle.values.proofs.Lists.{any-append}
 use Rattle.rules.specs.Lines.{push, pieces, ends, dropEnd, lineOf, writeLine, writeLines}
 
@@ -32,11 +29,22 @@ unfolding any pieces
 pieces-last b [] h = pieces-push b [] (or-l (is LF b) _ h)
 pieces-last b (c ∷ x) h = rw (pieces-push b (c ∷ x) (or-l (is LF b) _ h), pieces-last c x (or-r (is LF b) _ h))
 
+pub ends-more : (c : ℕ) (xs : Bytes) (y : ℕ) (ys : Bytes) → ends c (xs ++ y ∷ ys) ≡ ends c (y ∷ ys)
+unfolding ends
+ends-more c [] y ys = refl
+ends-more c (x ∷ []) y ys = refl
+ends-more c (x ∷ w ∷ xs) y ys = ends-more c (w ∷ xs) y ys
+
 pub ends-snoc : (c : ℕ) (x : Bytes) (d : ℕ) → ends c (x ++ d ∷ []) ≡ is c d
 unfolding ends
-ends-snoc c [] d = refl
-ends-snoc c (b ∷ []) d = refl
-ends-snoc c (b ∷ e ∷ x) d = ends-snoc c (e ∷ x) d
+ends-snoc c x d = ends-more c x d []
+
+-- a run without c does not end in it
+pub no-end : (c : ℕ) (x : Bytes) → any (is c) x ≡ false → ends c x ≡ false
+unfolding ends any
+no-end c [] h = refl
+no-end c (b ∷ []) h = or-l (is c b) false h
+no-end c (b ∷ d ∷ x) h = no-end c (d ∷ x) (or-r (is c b) (any (is c) (d ∷ x)) h)
 
 pub drop-end : (c : ℕ) (x : Bytes) → dropEnd c (x ++ c ∷ []) ≡ x
 unfolding dropEnd

@@ -1,18 +1,16 @@
 -- Bytes that are UTF-8 and hold no LF: parts of a line are, and so is what is put together of them. Assumes nothing.
-use Prim.Native.Nat.{ℕ, suc, _+_, _≤_, _<_}
+use Prim.Native.Nat.{ℕ, _<_}
 use native.Mathlib.Omega.{arith}
-use mathlib.Core.Path.{_≡_, refl, sym, ap, _∙_}
-use mathlib.Core.Bool.{Bool, true, false, not, _||_, _&&_}
-use mathlib.Core.List.{List, [], _∷_, _++_, tail, append-nil}
-use mathlib.Core.Option.{Option, none, some}
+use mathlib.Core.Path.{_≡_, refl, sym, _∙_}
+use mathlib.Core.Bool.{Bool, true, false}
+use mathlib.Core.List.{[], _∷_, _++_, append-nil}
 use lib.Dec.{eqb, leb}
-use lib.ListN.{length, take, drop}
-use borrow.Author.Tests.{eqb-true, eq-eqb, ne-eqb, leb-true, lt-leb, le-leb}
-use Rattle.values.specs.Bytes.{Bytes, LF, is, begins, any, before, from}
+use borrow.Author.Tests.{ne-eqb, leb-true}
+use Rattle.values.specs.Bytes.{Bytes, LF, is, any, before, from}
 use Rattle.values.specs.Utf8.{completes, isUtf8}
 use Rattle.values.specs.Integer.{isDigit, isOther, decimal}
 use Rattle.values.specs.Value.{unescaped, escape}
-use Rattle.values.proofs.Tests.{Test, pass, fail, test, or-l, or-r, or-on, and-l, and-r, not-false, both}
+use Rattle.values.proofs.Tests.{or-l, or-r, and-l, and-r, not-false}
 use Rattle.values.proofs.Lists.{any-append, before-from, from-first}
 use Rattle.values.proofs.Texts.{utf8-append, utf8-ascii, utf8-split}
 use Rattle.values.proofs.Escapes.{utf8-escape, utf8-unescaped, any-escape, any-unescaped}

@@ -1,9 +1,9 @@
 -- Records: what is read of a line is good, and what the house form writes of it is read back. Assumes nothing.
-use Prim.Native.Nat.{ℕ, zero, suc, _<_}
+use Prim.Native.Nat.{ℕ, _<_}
 use native.Mathlib.Omega.{arith}
 use mathlib.Core.Path.{_≡_, refl, sym, ap, ap₂, _∙_}
-use mathlib.Core.Bool.{Bool, true, false, not, _||_, _&&_, true≢false, false≢true}
-use mathlib.Core.List.{List, [], _∷_, _++_, tail, map, append-assoc}
+use mathlib.Core.Bool.{true, false, not, _&&_, false≢true}
+use mathlib.Core.List.{List, [], _∷_, _++_, tail, map}
 use mathlib.Core.Option.{Option, none, some}
 use lib.Dec.{eqb}
 use lib.ListN.{length, drop}
@@ -12,25 +12,24 @@ use Rattle.values.specs.Bytes.{Bytes, LF, ascii, is, empty, begins, any, before
 use Rattle.values.specs.Utf8.{completes, followers}
 use Rattle.values.specs.Value.{Value, quoted, bare, textOf, written, meaningOf}
 use Rattle.values.specs.Field.{Field, writtenField}
-use Rattle.values.proofs.Tests.{Test, pass, fail, test, or-l, or-r, or-on, and-l, and-r, not-true, both}
-use Rattle.values.proofs.Lists.{OnSome, on-some, before-none, before-stop, from-stop}
+use Rattle.values.proofs.Tests.{pass, fail, test, or-r, and-l, and-r, not-true}
+use Rattle.values.proofs.Lists.{OnSome, before-none, before-stop, from-stop}
 use Rattle.values.proofs.Fields.{tail-is}
-use Rattle.rules.specs.Answer.{Answer, ok, refuse, _>>=_, unless, first, judged}
-use Rattle.rules.specs.Version.{Version, v4-3, since, earlier, readVersion}
-use Rattle.rules.specs.Known.{Kind, INFO, FILTER, FORMAT, ALT, contig, other, kindOf, isTyped, alwaysMap, required, known, nameOf, namesId, tagOf}
-use Rattle.rules.specs.Map.{Scan, isSome, isMeta, readFields, fieldNamed, missing, mapRefusal, readMap}
+use Rattle.rules.specs.Answer.{ok}
+use Rattle.rules.specs.Version.{Version, v4-3, since, readVersion}
+use Rattle.rules.specs.Known.{Kind, INFO, FILTER, FORMAT, ALT, contig, other, kindOf, isTyped, alwaysMap, required, known, nameOf, namesId}
+use Rattle.rules.specs.Map.{isSome, isMeta, readFields, fieldNamed, missing, mapRefusal, readMap}
 use Rattle.rules.specs.Record.{Record, fileformat, fields, text, looksMap, isMap, formatOf, readValue, readKeyed, readRecord}
-use Rattle.rules.specs.Meaning.{Known, knownValue, knownOf, tagIn, others, saying}
-use Rattle.rules.specs.House.{writeField, writeKnown, tagName, keyNamed, knownFields, otherFields, recordOf, writeMore, writeFields, writeRecord}
-use Rattle.rules.proofs.Firsts.{OnOk, on-ok, bind-ok, judged-ok, judged-zero, first-zero, zero-unless, Seen, was, not-read, see}
-use Rattle.values.proofs.Sames.{same-sound, same-self}
-use Rattle.rules.proofs.Alls.{All, all-map}
-use Rattle.rules.proofs.Pure.{Pure, pure-nil, Plain, pure-cons, pure-append, pure-join, pure-split, pure-rest, pure-tail, pure-cut}
+use Rattle.rules.specs.Meaning.{knownValue, knownOf, tagIn, others, saying}
+use Rattle.rules.specs.House.{writeField, writeKnown, tagName, knownFields, otherFields, recordOf, writeMore, writeFields, writeRecord}
+use Rattle.rules.proofs.Firsts.{OnOk, bind-ok, judged-ok, judged-zero, first-zero, zero-unless}
+use Rattle.rules.proofs.Alls.{All}
+use Rattle.rules.proofs.Pure.{Pure, pure-nil, Plain, pure-cons, pure-append, pure-join, pure-rest, pure-tail, pure-cut}
 use Rattle.rules.proofs.Versions.{Sized, version-sized, version-back, version-pure}
 use Rattle.rules.proofs.Names.{name-other}
 use Rattle.rules.proofs.Fields.{GoodField, StableField, fields-good, fields-back}
 use Rattle.rules.proofs.Checks.{Fine, fine, not-refused, on-named}
-use Rattle.rules.proofs.Tidy.{tag, knownIn, tidy, tidied, tidied-fields, units}
+use Rattle.rules.proofs.Tidy.{tag, knownIn, tidy, tidied, units}
 use Rattle.rules.proofs.Fits.{fit-stable, fit-good, tidy-all, fine-tidy}
 
 pub record GoodKey (k : Bytes) : Type 0 where

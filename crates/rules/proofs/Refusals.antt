@@ -1,11 +1,11 @@
 -- What is refused, as facts: a second equal ID, a line after the column line; and what a refused header keeps. Assumes nothing.
-use Prim.Native.Nat.{ℕ, zero, suc, _+_, _-_, _*_, _≤_, _<_}
+use Prim.Native.Nat.{ℕ, suc, _+_, _-_, _*_, _≤_}
 use native.Mathlib.Omega.{arith}
-use mathlib.Core.Path.{_≡_, refl, sym, ap, ap₂, subst, _∙_}
+use mathlib.Core.Path.{_≡_, refl, sym, ap, subst, _∙_}
 use mathlib.Core.Bool.{Bool, true, false, true≢false}
 use mathlib.Core.Logic.{_⊎_, inl, inr, ⊎-elim}
-use mathlib.Core.List.{List, [], _∷_, _++_, append-nil}
-use mathlib.Core.Option.{Option, none, some}
+use mathlib.Core.List.{List, [], _∷_, _++_}
+use mathlib.Core.Option.{Option}
 use lib.Dec.{leb}
 use lib.ListN.{length, take, length-take}
 use lib.Seq.{take-append-add, take-nil}
@@ -13,8 +13,8 @@ use borrow.Author.Tests.{le-leb, leb-true}
 use Rattle.values.specs.Bytes.{Bytes, ascii, same, starts}
 use Rattle.values.specs.Utf8.{isUtf8}
 use Rattle.values.specs.Field.{Field}
-use Rattle.values.proofs.Tests.{Test, pass, fail, test, both}
-use Rattle.rules.specs.Answer.{Answer, ok, refuse, _>>=_, first, judged}
+use Rattle.values.proofs.Tests.{pass, fail, test, both, never}
+use Rattle.rules.specs.Answer.{ok, refuse, first, judged}
 use Rattle.rules.specs.Sizes.{Limits}
 use Rattle.rules.specs.Lines.{pieces, lineOf}
 use Rattle.rules.specs.Version.{Version, v4-5}
@@ -23,16 +23,14 @@ use Rattle.rules.specs.Map.{valueNamed}
 use Rattle.rules.specs.Record.{Record, fileformat, fields, text, readRecord}
 use Rattle.rules.specs.Columns.{Columns, readColumns}
 use Rattle.rules.specs.Entry.{Entry, recordEntry}
-use Rattle.rules.specs.Reading.{keyOf, idOf, isFields, besideOf, beside, clash, State, empty, ready, done, begin, enter, finish, stepText, isDone, step, Reading, stop, following, atEnd, run, reading}
-use Rattle.rules.proofs.Firsts.{OnOk, on-ok, judged-ok, Seen, was, not-read, see}
+use Rattle.rules.specs.Reading.{keyOf, idOf, isFields, beside, clash, State, empty, ready, done, begin, enter, stepText, step, Reading, stop, following, run, reading}
+use Rattle.rules.proofs.Firsts.{OnOk, on-ok, judged-ok, was, not-read, see}
 use Rattle.values.proofs.Sames.{same-self, same-sound}
 use Rattle.rules.proofs.Alls.{All, all-map}
-use Rattle.rules.proofs.Pieces.{Cut, nothing, cut, cut-first}
+use Rattle.rules.proofs.Pieces.{nothing, cut, cut-first}
 use Rattle.rules.proofs.Groups.{Apart}
-use Rattle.rules.proofs.Records.{Entered}
-use Rattle.rules.proofs.Sound.{Good, run-refused, run-full, run-more}
+use Rattle.rules.proofs.Sound.{Good, Taken, step-taken, run-refused, run-full, run-more}
 use Rattle.rules.proofs.Back.{reading-short}
-use Rattle.rules.proofs.Trace.{Taken, step-taken}
 
 -- a record among others
 pub data Among (r : Record) : List Record → Type 0 where
@@ -158,7 +156,7 @@ first-kept h p r j a q t = ap (λ (x : Bytes). pieces (take (length p + j) x)) a
   where
     go : (r : Bytes) → h ≡ p ++ r → pieces h ≡ p ∷ pieces r → ((x : Bytes) → (r ≡ [] → ⊥) → pieces (p ++ x) ≡ p ∷ pieces x) → pieces (p ++ take j r) ≡ p ∷ pieces (take j r)
     go [] a q t = rw (take-nil j) (sym (ap pieces a) ∙ q)
-    go (b ∷ r) a q t = t (take j (b ∷ r)) (λ e. let z : _≡_ {A = ℕ} 0 1 = cc in omega arith)
+    go (b ∷ r) a q t = t (take j (b ∷ r)) (λ e. never cc)
 
 -- a run that stops at a place has the entries of the run that ends there
 module _ (lim : Limits) (imposed : Option Version) (room : ℕ) where
@@ -186,7 +184,7 @@ module _ (lim : Limits) (imposed : Option Version) (room : ℕ) where
       → Prefix n start count s h (following (q .1) (runs (suc n) (start + length p) (count + length (q .1)) (q .0) ps))
   unfolding pieces
   more-prefix h p ps n start count s q a t e ih = elim (cut-first h) [
-    | nothing z ↦ let f : _≡_ {A = List Bytes} [] (p ∷ ps) = rw z at e in let z′ : _≡_ {A = ℕ} 0 1 = cc in absurd (omega arith)
+    | nothing z ↦ let f : _≡_ {A = List Bytes} [] (p ∷ ps) = rw z at e in never cc
     | cut p′ r x y w ↦
         let f : p′ ∷ pieces r ≡ p ∷ ps = sym y ∙ e in
         let i : p′ ≡ p = cc in

@@ -2,20 +2,20 @@
 use Prim.Native.Nat.{ℕ, suc, _+_, _*_, _≤_}
 use native.Mathlib.Omega.{arith}
 use mathlib.Core.Path.{_≡_, refl, sym, ap, _∙_}
-use mathlib.Core.Bool.{Bool, true, false}
-use mathlib.Core.List.{List, [], _∷_, _++_}
+use mathlib.Core.Bool.{true}
+use mathlib.Core.List.{List, [], _∷_}
 use mathlib.Core.Option.{Option}
 use mathlib.Core.Logic.{_⊎_, inl, inr, ⊎-elim}
 use lib.Dec.{leb}
 use lib.ListN.{length}
 use borrow.Author.Tests.{leb-true, le-leb}
 use Rattle.values.specs.Bytes.{Bytes}
-use Rattle.values.proofs.Tests.{Test, pass, fail, test}
+use Rattle.values.proofs.Tests.{pass, fail, test}
 use Rattle.rules.specs.Sizes.{Limits}
 use Rattle.rules.specs.Lines.{pieces, lineOf}
 use Rattle.rules.specs.Version.{Version}
-use Rattle.rules.specs.Reading.{State, empty, step, Reading, stop, following, run, reading}
-use Rattle.rules.proofs.Firsts.{Seen, was, not-read, see}
+use Rattle.rules.specs.Reading.{State, empty, step, Reading, following, run, reading}
+use Rattle.rules.proofs.Firsts.{was, not-read, see}
 use Rattle.rules.proofs.Sound.{run-refused, run-full, run-more}
 
 run-rooms : (lim : Limits) (imposed : Option Version) (less more n start count : ℕ) (s : State) (ps : List Bytes) → less ≤ more

@@ -2,21 +2,21 @@
 use Prim.Native.Nat.{ℕ}
 use native.Mathlib.Omega.{arith}
 use mathlib.Core.Path.{_≡_, refl, sym, ap, ap₂, _∙_}
-use mathlib.Core.Bool.{Bool, true, false, not, _||_, _&&_, true≢false}
+use mathlib.Core.Bool.{Bool, true, false, not, _&&_, true≢false}
 use mathlib.Core.List.{List, [], _∷_, _++_, append-assoc, append-nil}
 use mathlib.Core.Option.{Option, none, some}
 use borrow.Author.Tests.{eqb-true}
 use Rattle.values.specs.Bytes.{Bytes, LF, ascii, is, any, same, starts}
 use Rattle.values.specs.Utf8.{completes, followers, isUtf8}
-use Rattle.values.proofs.Tests.{Test, pass, fail, test, or-l, or-r, and-l, and-r, not-true}
+use Rattle.values.proofs.Tests.{pass, fail, test, or-l, or-r, and-l, and-r, not-true}
 use Rattle.values.proofs.Lists.{OnSome, any-append}
-use Rattle.rules.specs.Answer.{Answer, ok, refuse, unless, judged}
+use Rattle.rules.specs.Answer.{ok, unless}
 use Rattle.rules.specs.Columns.{Columns, TAB, add, split, columnNames, afterColumns, distinct, formatted, readColumns}
 use Rattle.rules.specs.House.{parted, writeColumns}
 use Rattle.rules.proofs.Firsts.{OnOk, judged-ok, zero-unless}
-use Rattle.values.proofs.Sames.{same-self, same-sound}
+use Rattle.values.proofs.Sames.{same-sound}
 use Rattle.rules.proofs.Alls.{All, all-map, all-append}
-use Rattle.rules.proofs.Pure.{Pure, pure-nil, Plain, pure-cons, pure-append, pure-join, pure-split}
+use Rattle.rules.proofs.Pure.{Pure, pure-nil, Plain, pure-join, pure-split}
 
 -- a column: no tab
 pub record GoodName (x : Bytes) : Type 0 where

@@ -1,37 +1,37 @@
 -- Demand 2: what the calls show of an accepted header's entries. Assumes nothing.
-use Prim.Native.Nat.{ℕ, zero, suc, _+_, _-_, _*_, _^_, _/_, _%_, _≤_, _<_}
+use Prim.Native.Nat.{ℕ, zero, suc, _+_, _-_, _*_, _^_, _≤_, _<_}
 use native.Mathlib.Omega.{arith}
-use mathlib.Core.Path.{_≡_, refl, sym, ap, ap₂, subst, _∙_}
-use mathlib.Core.Bool.{Bool, true, false, not, _||_, _&&_, false≢true}
+use mathlib.Core.Path.{_≡_, refl, sym, ap, _∙_}
+use mathlib.Core.Bool.{Bool, true, false, _||_, _&&_, false≢true}
 use mathlib.Core.List.{List, [], _∷_, _++_, tail, append-assoc}
 use mathlib.Core.Option.{Option, none, some}
-use lib.Dec.{eqb, leb, ltb}
+use lib.Dec.{eqb, leb}
 use lib.ListN.{length, getD, take, drop, length-append, length-drop, List·getD-append}
 use lib.Seq.{drop-drop, take-take, take-nil, sets, sets-eq, length-sets}
-use borrow.Author.Tests.{eq-eqb, le-leb, lt-ltb, leb-true}
+use borrow.Author.Tests.{eq-eqb, le-leb, lt-ltb}
 use Rattle.values.specs.Bytes.{Bytes, ascii, same}
 use Rattle.values.specs.Utf8.{isUtf8}
-use Rattle.values.specs.Value.{Value, quoted, bare, isQuoted, textOf, written, meaning, meaningOf}
+use Rattle.values.specs.Value.{Value, quoted, written, meaning, meaningOf}
 use Rattle.values.specs.Field.{Field, writtenField}
 use Rattle.values.specs.Places.{textAt}
 use Rattle.values.specs.declared.string.Text.{Text}
-use Rattle.values.proofs.Tests.{Test, pass, fail, test, or-on}
-use Rattle.values.proofs.Lists.{OnSome, on-some, some-is, none-not}
+use Rattle.values.proofs.Tests.{pass, fail, test, or-on}
+use Rattle.values.proofs.Lists.{some-is, none-not}
 use Rattle.values.proofs.Fields.{part, text-here}
-use Rattle.values.proofs.Places.{valueBy, valueIn, TextHere, text-of-value}
-use Rattle.rules.specs.Answer.{Answer, ok, refuse}
+use Rattle.values.proofs.Places.{valueBy, valueIn, text-of-value}
+use Rattle.rules.specs.Answer.{ok}
 use Rattle.rules.specs.Sizes.{Limits}
 use Rattle.rules.specs.Version.{Version}
 use Rattle.rules.specs.Known.{Kind, INFO, FILTER, FORMAT, ALT, contig, other, kindOf, alwaysMap, nameOf, tagOf}
 use Rattle.rules.specs.Map.{isSome, fieldNamed, valueOf as valueOfField, valueNamed, missing}
-use Rattle.rules.specs.Record.{Record, fileformat, fields, text, readRecord}
-use Rattle.rules.specs.Entry.{Entry, place, bit, identity, kindNumber, fieldsStart, textNamed, identityOf, recordEntry, words}
-use Rattle.rules.specs.Shown.{bits, kindIn, startIn, lengthIn, offsetIn, idLengthIn, tagIn, Part, hasId, wellFormed, entryAt, entryPart, shownEntry, idPart, shownId, fieldPart, fieldsPart, linePart, shownField}
+use Rattle.rules.specs.Record.{fields, readRecord}
+use Rattle.rules.specs.Entry.{Entry, place, bit, identity, kindNumber, fieldsStart, textNamed, recordEntry, words}
+use Rattle.rules.specs.Shown.{bits, kindIn, startIn, lengthIn, offsetIn, idLengthIn, tagIn, Part, hasId, wellFormed, entryAt, shownEntry, idPart, shownId, fieldPart, fieldsPart, linePart, shownField}
 use Rattle.rules.specs.House.{writeMore, writeFields, writeRecord}
 use Rattle.rules.specs.Meaning.{tagIn as tagInField}
 use Rattle.values.proofs.Sames.{same-sound}
 use Rattle.rules.proofs.Tidy.{tag}
-use Rattle.rules.proofs.Records.{tag-none, id-given, GoodMap, Entered}
+use Rattle.rules.proofs.Records.{tag-none, id-given}
 use Rattle.rules.proofs.Texts.{LineOf, record-in}
 use Rattle.rules.proofs.Firsts.{on-ok}
 use Rattle.rules.proofs.Checks.{named-yes as field-yes, named-no as field-no}
@@ -180,7 +180,7 @@ line-fields k (f ∷ fs) =
     let n = length-append k (61 ∷ 60 ∷ r) in
     (sym (drop-drop 2 (2 + length k) l) ∙ ap (λ (x : Bytes). drop 2 x) (t .1), omega arith)
 
-abbrev shifted : ℕ → Option Part → Option Part
+abbrev pub shifted : ℕ → Option Part → Option Part
 shifted s none = none
 shifted s (some p) = some (s + p .0, s + p .1)
 
@@ -256,10 +256,10 @@ kind-cases ALT = (refl, omega arith, refl)
 kind-cases contig = (refl, omega arith, refl)
 kind-cases other = (refl, omega arith, refl)
 
-tag-small : (key : Bytes) → leb (tagOf key) 2 ≡ true
+pub tag-small : (key : Bytes) → tagOf key ≤ 2
 tag-small key = elim (test (same key (ascii "Child"))) [
-  | pass e ↦ rw (tagOf, e)
-  | fail e ↦ elim (test (same key (ascii "Derived"))) [ pass f ↦ rw (tagOf, e, f) | fail f ↦ rw (tagOf, e, f) ]
+  | pass e ↦ rw (tagOf, e) (omega arith)
+  | fail e ↦ elim (test (same key (ascii "Derived"))) [ pass f ↦ rw (tagOf, e, f) (omega arith) | fail f ↦ rw (tagOf, e, f) (omega arith) ]
 ]
 
 always-other : (k : Bytes) → alwaysMap k ≡ true → kindOf k ≡ other
@@ -278,7 +278,7 @@ tag-fits v k fs = elim (test (alwaysMap k)) [
   where
     small : (x : Option Field) → leb (tagInField x) 2 ≡ true
     small none = refl
-    small (some f) = tag-small (f .key)
+    small (some f) = le-leb (tagOf (f .key)) 2 (tag-small (f .key))
 
 -- a map's ID in its line
 pub record IdIn (v : Version) (k : Bytes) (fs : List Field) (l : Bytes) (p : Bytes × Text) : Type 0 where
@@ -335,7 +335,7 @@ fields-part : (start kind : ℕ) (k : Bytes) (fs : List Field) (i : ℕ) → kin
 fields-part start kind k fs i e = rw (fieldsPart, eq-eqb (kindNumber (kindOf k)) kind e)
 
 -- a field's part, in the line and in the header
-shift-part : (s at : ℕ) (fs : List Field) (i : ℕ) → fieldPart (s + at) fs i ≡ shifted s (fieldPart at fs i)
+pub shift-part : (s at : ℕ) (fs : List Field) (i : ℕ) → fieldPart (s + at) fs i ≡ shifted s (fieldPart at fs i)
 unfolding fieldPart
 shift-part s at [] i = refl
 shift-part s at (f ∷ fs) zero = let e : s + at + length (writtenField f) ≡ s + (at + length (writtenField f)) = omega arith in rw e
@@ -371,7 +371,7 @@ module _ (lim : Limits) (packed : Packed lim) (h : Bytes) (within : length h ≤
       let hl : len < 2 ^ 16 = omega (arith, packed .line, at .short) in
       let ho : p .1 .start < 2 ^ 16 = omega (arith, i .ordered, i .inside) in
       let hn : p .1 .end - p .1 .start < 2 ^ 16 = omega (arith, i .inside) in
-      let ht : tagOf (p .0) < 4 = omega (arith, leb-true (tagOf (p .0)) 2 (tag-small (p .0))) in
+      let ht : tagOf (p .0) < 4 = omega (arith, tag-small (p .0)) in
       let w = well-id (length h) kind start len hs hl (at .inside) (p .1 .start) (p .1 .end - p .1 .start) (p .1 .quoted) (tagOf (p .0)) (kc .0) (kc .1) ho hn ht
       (omega (arith, i .ordered, i .inside)) (rw (i .tagged) (tag-fits v k fs)) (kc .2) in
       record {

@@ -1,33 +1,32 @@
 -- What an accepted header has: every record is good, none clashes, and there is room. Assumes nothing.
-use Prim.Native.Nat.{ℕ, zero, suc, _+_, _*_, _≤_}
+use Prim.Native.Nat.{ℕ, suc, _+_, _*_, _≤_}
 use native.Mathlib.Omega.{arith}
-use mathlib.Core.Path.{_≡_, refl, sym, ap, _∙_}
-use mathlib.Core.Bool.{Bool, true, false}
-use mathlib.Core.List.{List, [], _∷_, _++_, append-assoc}
-use mathlib.Core.Option.{Option, none, some}
+use mathlib.Core.Path.{_≡_, refl, ap, _∙_}
+use mathlib.Core.Bool.{true, false}
+use mathlib.Core.List.{List, [], _∷_, _++_}
+use mathlib.Core.Option.{Option}
 use lib.Dec.{leb}
 use lib.ListN.{length, length-append}
 use borrow.Author.Tests.{leb-true}
 use Rattle.values.specs.Bytes.{Bytes, LF, ascii, is, any, starts}
 use Rattle.values.specs.Utf8.{isUtf8}
-use Rattle.values.specs.Field.{Field}
-use Rattle.values.proofs.Tests.{Test, pass, fail, test}
-use Rattle.rules.specs.Answer.{Answer, ok, refuse, _>>=_, judged}
+use Rattle.values.proofs.Tests.{pass, fail, test}
+use Rattle.rules.specs.Answer.{Answer, ok, refuse}
 use Rattle.rules.specs.Sizes.{Limits}
 use Rattle.rules.specs.Lines.{pieces, lineOf}
-use Rattle.rules.specs.Version.{Version, v4-5, inForce}
+use Rattle.rules.specs.Version.{Version, v4-5}
 use Rattle.rules.specs.Record.{Record, fileformat, fields, text, readRecord}
 use Rattle.rules.specs.Columns.{Columns, readColumns}
-use Rattle.rules.specs.Entry.{Entry, recordEntry, samplesStart, sampleEntries, columnEntries}
+use Rattle.rules.specs.Entry.{Entry, samplesStart, sampleEntries, columnEntries}
 use Rattle.rules.specs.Reading.{clash, State, empty, ready, done, begin, enter, finish, stepText, isDone, step, Reading, stop, following, atEnd, run, reading}
-use Rattle.rules.proofs.Firsts.{OnOk, on-ok, bind-ok, judged-ok, Seen, was, not-read, see}
+use Rattle.rules.proofs.Firsts.{OnOk, on-ok, map-ok, bind-ok, judged-ok, was, not-read, see}
 use Rattle.rules.proofs.Alls.{All, all-append}
 use Rattle.rules.proofs.Pure.{Pure}
 use Rattle.rules.proofs.Pieces.{Pieces, piece-line, pieces-fine}
 use Rattle.rules.proofs.Versions.{Sized, SizedOption, force-sized}
 use Rattle.rules.proofs.Groups.{Apart, apart-snoc}
 use Rattle.rules.proofs.Samples.{GoodColumns, columns-good}
-use Rattle.rules.proofs.Records.{GoodRecord, GoodMap, GoodText, Entered, record-good}
+use Rattle.rules.proofs.Records.{GoodRecord, Entered, record-good}
 
 pub record Good (v : Version) (rs : List Record) : Type 0 where
   pub sized : Sized v
@@ -82,19 +81,32 @@ text-good imposed start (ready v rs) l i inv p = elim (test (starts (ascii "#CHR
 ]
 text-good imposed start (done v rs c) l i inv p = tt
 
-pub step-good : (lim : Limits) (imposed : Option Version) (start : ℕ) (s : State) (l : Bytes) → SizedOption imposed → Inv s → any (is LF) l ≡ false
-    → OnOk (Stepped s) (step lim imposed start s l)
+-- a line that is taken is short and UTF-8
+abbrev pub Taken : Limits → Option Version → ℕ → State → Bytes → State × List Entry → Type 0
+Taken lim imposed start s l q = (length l ≤ lim .line) × (isUtf8 l ≡ true) × (stepText imposed start s l ≡ ok q)
+
+pub step-taken : (lim : Limits) (imposed : Option Version) (start : ℕ) (s : State) (l : Bytes) → OnOk (Taken lim imposed start s l) (step lim imposed start s l)
 unfolding step
-step-good lim imposed start s l i inv n = elim (test (isDone s)) [
+step-taken lim imposed start s l = elim (test (isDone s)) [
   | pass d ↦ rw (step, d) tt
   | fail d ↦ elim (test (leb (length l) (lim .line))) [
     | pass e ↦ elim (test (isUtf8 l)) [
-      | pass u ↦ rw (step, d, e, u) (text-good imposed start s l i inv (record { utf8 = u; line = n }))
+      | pass u ↦ rw (step, d, e, u) (same (stepText imposed start s l) (leb-true (length l) (lim .line) e) u)
       | fail u ↦ rw (step, d, e, u) tt
     ]
     | fail e ↦ rw (step, d, e) tt
   ]
 ]
+  where
+    same : (a : Answer (State × List Entry)) → length l ≤ lim .line → isUtf8 l ≡ true → OnOk (λ q. (length l ≤ lim .line) × (isUtf8 l ≡ true) × (a ≡ ok q)) a
+    same (ok q) e u = (e, u, refl)
+    same (refuse n) e u = tt
+
+pub step-good : (lim : Limits) (imposed : Option Version) (start : ℕ) (s : State) (l : Bytes) → SizedOption imposed → Inv s → any (is LF) l ≡ false
+    → OnOk (Stepped s) (step lim imposed start s l)
+step-good lim imposed start s l i inv n =
+    map-ok (Taken lim imposed start s l) (Stepped s) (step lim imposed start s l)
+    (λ q t. on-ok (Stepped s) (text-good imposed start s l i inv (record { utf8 = t .1; line = n })) (t .2)) (step-taken lim imposed start s l)
 
 -- a run, one piece at a time
 module _ (lim : Limits) (imposed : Option Version) (room n start count : ℕ) (s : State) (p : Bytes) (ps : List Bytes) where

@@ -1,49 +1,28 @@
--- A record that was read is its line: `##`, the key, `=`, and the text or the fields as they stand. Assumes nothing.
-use Prim.Native.Nat.{ℕ, zero, suc}
+-- A record that was read is its line: `##`, the key, `=`, and the text or the fields as they stand and are scanned. Assumes nothing.
+use Prim.Native.Nat.{ℕ, zero, suc, _+_}
 use native.Mathlib.Omega.{arith}
-use mathlib.Core.Path.{_≡_, refl, sym, ap, ap₂, _∙_}
-use mathlib.Core.Bool.{Bool, true, false, not, _||_, _&&_, false≢true}
+use mathlib.Core.Path.{_≡_, refl, sym, ap, _∙_}
+use mathlib.Core.Bool.{Bool, not, _||_, _&&_}
 use mathlib.Core.List.{List, [], _∷_, _++_, tail, append-assoc}
 use mathlib.Core.Option.{Option, none, some}
 use lib.ListN.{length, drop}
-use borrow.Author.Tests.{eqb-true}
+use lib.Seq.{drop-drop}
 use Rattle.values.specs.Bytes.{Bytes, ascii, is, empty, begins, before, from, same, starts}
 use Rattle.values.specs.Field.{Field, writtenField, readField}
-use Rattle.values.proofs.Tests.{Test, pass, fail, test, and-l, and-r, both}
-use Rattle.values.proofs.Lists.{OnSome, on-some, before-from}
-use Rattle.values.proofs.Fields.{tail-is}
+use Rattle.values.proofs.Tests.{pass, fail, test, and-r}
+use Rattle.values.proofs.Lists.{on-some, before-from}
+use Rattle.values.proofs.Fields.{tail-is, text-here}
 use Rattle.values.proofs.Places.{FieldIn, field-in}
-use Rattle.rules.specs.Answer.{Answer, ok, refuse, _>>=_, judged}
 use Rattle.rules.specs.Version.{Version, readVersion}
 use Rattle.rules.specs.Known.{alwaysMap}
 use Rattle.rules.specs.Map.{After, more, done, wrong, after, Scan, scan, closing, readFields, isMeta, mapRefusal, readMap}
 use Rattle.rules.specs.Record.{Record, fileformat, fields, text, isMap, formatOf, readValue, readKeyed, readRecord}
+use Rattle.rules.specs.Entry.{fieldsStart}
 use Rattle.rules.specs.House.{writeMore, writeFields, writeRecord}
-use Rattle.rules.proofs.Firsts.{OnOk, bind-ok, judged-ok}
+use Rattle.rules.proofs.Firsts.{OnOk, map-ok, bind-ok, judged-ok}
 use Rattle.rules.proofs.Checks.{fine}
-use Rattle.rules.proofs.Fields.{SeenAfter, was-more, was-done, was-wrong, see-after, SeenField, no-field, a-field, see-field}
+use Rattle.rules.proofs.Fields.{AfterIn, after-in, was-more, was-done, was-wrong, see-after, no-field, a-field, see-field}
 use Rattle.rules.proofs.Records.{starts-is}
-
--- what follows a value
-abbrev AfterIn : Bytes → After → Type 0
-AfterIn bs (more r) = bs ≡ 44 ∷ r
-AfterIn bs done = bs ≡ 62 ∷ []
-AfterIn bs wrong = Unit {0}
-
-after-in : (bs : Bytes) → AfterIn bs (after bs)
-unfolding after
-after-in [] = tt
-after-in (b ∷ bs) = elim (test (is 44 b)) [
-  | pass e ↦ rw (after, e) (rw (eqb-true b 44 e))
-  | fail e ↦ elim (test (is 62 b && empty bs)) [
-    | pass f ↦ rw (after, e, f) (ap₂ _∷_ (eqb-true b 62 (and-l (is 62 b) (empty bs) f)) (none bs (and-r (is 62 b) (empty bs) f)))
-    | fail f ↦ rw (after, e, f) tt
-  ]
-]
-  where
-    none : (bs : Bytes) → empty bs ≡ true → bs ≡ []
-    none [] h = refl
-    none (b ∷ bs) h = absurd (false≢true h)
 
 -- fields that end with nothing refused
 abbrev ScanIn : Bytes → Scan → Type 0
@@ -90,32 +69,45 @@ LineOf l (fileformat w) = Unit {0}
 LineOf l (fields k fs) = l ≡ writeRecord (fields k fs)
 LineOf l (text k t) = l ≡ writeRecord (text k t)
 
-map-in : (v : Version) (k x : Bytes) → OnOk (λ fs. x ≡ 60 ∷ (writeFields fs ++ 62 ∷ [])) (readMap v k x)
+-- what was read of a map's line are the fields that stand in it
+abbrev pub Scanned : Version → Bytes → Record → Type 0
+Scanned v l (fileformat w) = Unit {0}
+Scanned v l (fields k fs) = readFields (isMeta v k) (alwaysMap k) (drop (fieldsStart k) l) ≡ (fs, 0)
+Scanned v l (text k t) = Unit {0}
+
+abbrev MapIn : Version → Bytes → Bytes → List Field → Type 0
+MapIn v k x fs = (x ≡ 60 ∷ (writeFields fs ++ 62 ∷ [])) × (readFields (isMeta v k) (alwaysMap k) (drop 1 x) ≡ (fs, 0))
+
+map-in : (v : Version) (k x : Bytes) → OnOk (MapIn v k x) (readMap v k x)
 unfolding readMap
 map-in v k x = elim (test (begins 60 x)) [
   | pass e ↦ let s = readFields (isMeta v k) (alwaysMap k) (tail x) in
-      rw (readMap, e) (judged-ok (λ fs. x ≡ 60 ∷ (writeFields fs ++ 62 ∷ [])) (mapRefusal v k s) (s .0)
-      (λ z. tail-is 60 x e ∙ ap (60 ∷_) (fields-in (isMeta v k) (alwaysMap k) (tail x) (fine v k s z .1))))
+      rw (readMap, e) (judged-ok (MapIn v k x) (mapRefusal v k s) (s .0) (λ z. let f = fine v k s z .1 in
+      (tail-is 60 x e ∙ ap (60 ∷_) (fields-in (isMeta v k) (alwaysMap k) (tail x) f), ap {B = Scan} (λ (n : ℕ). (s .0, n)) f)))
   | fail e ↦ rw (readMap, e) tt
 ]
 
-value-in : (v : Version) (k x l : Bytes) → l ≡ ascii "##" ++ (k ++ 61 ∷ x) → OnOk (LineOf l) (readValue v k x)
+-- the value's bytes after its first
+past-value : (k x l : Bytes) → l ≡ ascii "##" ++ (k ++ 61 ∷ x) → drop (fieldsStart k) l ≡ drop 1 x
+past-value k x l e = sym (drop-drop 2 (2 + length k) l) ∙ ap (λ (y : Bytes). drop 2 y) (text-here l 2 k (61 ∷ x) (ap (drop 2) e) .1)
+
+value-in : (v : Version) (k x l : Bytes) → l ≡ ascii "##" ++ (k ++ 61 ∷ x) → OnOk (λ r. LineOf l r × Scanned v l r) (readValue v k x)
 unfolding readValue writeRecord
 value-in v k x l h = elim (test (same k (ascii "fileformat"))) [
   | pass e ↦ rw (readValue, e) (format (readVersion x))
   | fail e ↦ elim (test (isMap v k x)) [
-    | pass m ↦ rw (readValue, e, m) (bind-ok (λ fs. x ≡ 60 ∷ (writeFields fs ++ 62 ∷ [])) (LineOf l) (readMap v k x) _ (map-in v k x) (λ fs q. h ∙ rw q))
-    | fail m ↦ rw (readValue, e, m) h
+    | pass m ↦ rw (readValue, e, m) (bind-ok (MapIn v k x) (λ r. LineOf l r × Scanned v l r) (readMap v k x) _ (map-in v k x) (λ fs q. (h ∙ rw (q .0), rw (past-value k x l h) (q .1))))
+    | fail m ↦ rw (readValue, e, m) (h, tt)
   ]
 ]
   where
-    format : (a : Option Version) → OnOk (LineOf l) (formatOf a)
+    format : (a : Option Version) → OnOk (λ r. LineOf l r × Scanned v l r) (formatOf a)
     format none = tt
-    format (some w) = tt
+    format (some w) = (tt, tt)
 
-pub record-in : (v : Version) (l : Bytes) → OnOk (LineOf l) (readRecord v l)
+line-in : (v : Version) (l : Bytes) → OnOk (λ r. LineOf l r × Scanned v l r) (readRecord v l)
 unfolding readRecord readKeyed
-record-in v l = elim (test (starts (ascii "##") l)) [
+line-in v l = elim (test (starts (ascii "##") l)) [
   | pass e ↦ let b = before (is 61) (drop 2 l) in let f = from (is 61) (drop 2 l) in
       elim (test (not (empty b) && begins 61 f)) [
         | pass q ↦ rw (readRecord, e, readKeyed, q) (value-in v b (tail f) l
@@ -124,3 +116,9 @@ record-in v l = elim (test (starts (ascii "##") l)) [
       ]
   | fail e ↦ rw (readRecord, e) tt
 ]
+
+pub record-in : (v : Version) (l : Bytes) → OnOk (LineOf l) (readRecord v l)
+record-in v l = map-ok (λ r. LineOf l r × Scanned v l r) (LineOf l) (readRecord v l) (λ r h. h .0) (line-in v l)
+
+pub record-scanned : (v : Version) (l : Bytes) → OnOk (Scanned v l) (readRecord v l)
+record-scanned v l = map-ok (λ r. LineOf l r × Scanned v l r) (Scanned v l) (readRecord v l) (λ r h. h .1) (line-in v l)

@@ -1,18 +1,17 @@
 -- A record as the house form writes it: it says the same, and is fine where the record as read is. Assumes nothing.
-use Prim.Native.Nat.{ℕ, zero, suc, _-_, _^_, _≤_}
-use native.Mathlib.Omega.{arith}
-use mathlib.Core.Path.{_≡_, refl, sym, ap, ap₂, _∙_}
-use mathlib.Core.Bool.{Bool, true, false, not, _||_, _&&_, true≢false, false≢true}
+use Prim.Native.Nat.{ℕ, _-_, _^_}
+use mathlib.Core.Path.{_≡_, refl, ap, ap₂, _∙_}
+use mathlib.Core.Bool.{true, false, false≢true}
 use mathlib.Core.List.{List, [], _∷_, _++_, map}
-use mathlib.Core.Option.{Option, none, some}
+use mathlib.Core.Option.{Option, none, some, orElse}
 use Rattle.values.specs.Bytes.{Bytes, ascii, same}
-use Rattle.values.specs.Value.{meaningOf, valueOf}
+use Rattle.values.specs.Value.{meaningOf}
 use Rattle.values.specs.Field.{Field}
 use Rattle.values.specs.Integer.{u64Read, decimal}
 use Rattle.values.specs.declared.integer.IntegerRead.{IntegerRead}
 use Rattle.values.specs.declared.integer.IntegerRead.the-variants as integer
-use Rattle.values.proofs.Tests.{Test, pass, fail, test, or-l, or-r, or-on, and-l, and-r, and-off, both}
-use Rattle.values.proofs.Lists.{OnSome, on-some}
+use Rattle.values.proofs.Tests.{pass, fail, test, or-l, or-r, or-on, both}
+use Rattle.values.proofs.Lists.{OnSome}
 use Rattle.values.proofs.Integers.{read-bound}
 use Rattle.values.proofs.Decimals.{integer-decimal}
 use Rattle.rules.specs.Version.{Version}
@@ -20,10 +19,10 @@ use Rattle.rules.specs.Known.{Kind, INFO, FILTER, FORMAT, ALT, contig, o
 use Rattle.rules.specs.Map.{fieldNamed}
 use Rattle.rules.specs.Record.{Record, fileformat, fields, text}
 use Rattle.rules.specs.Reading.{keyOf}
-use Rattle.rules.specs.Meaning.{Known, number, word, numberOr, numeric, knownValue, knownOf, tagIn, others, saying}
+use Rattle.rules.specs.Meaning.{Known, number, word, numeric, knownValue, knownOf, tagIn, others, saying}
 use Rattle.rules.specs.House.{isQuoted, writeField, writeKnown, tagName, keyNamed, knownFields, otherFields, recordOf}
-use Rattle.values.proofs.Sames.{same-sound, same-self}
-use Rattle.rules.proofs.Alls.{All, all-map, all-append, map-same, all-in}
+use Rattle.values.proofs.Sames.{same-sound}
+use Rattle.rules.proofs.Alls.{All, map-same, all-in}
 use Rattle.rules.proofs.Names.{Fresh, name-plain, id-key}
 use Rattle.rules.proofs.Checks.{named-yes, named-no, on-named}
 use Rattle.rules.proofs.Fields.{meaning-back}
@@ -74,10 +73,6 @@ module _ (v : Version) (k : Bytes) (tag : ℕ) where
   writtenAs n none = none
   writtenAs n (some x) = some (writeField v k (keyNamed tag n) (writeKnown x))
 
-  abbrev orElse : Option Field → Option Field → Option Field
-  orElse none y = y
-  orElse (some f) y = some f
-
   find-absent : (n : Bytes) (ns : List Bytes) (xs : List (Option Known)) (rest : List Field) → isIn n ns ≡ false → All Named ns
       → fieldNamed v k n (knownFields v k tag ns xs ++ rest) ≡ fieldNamed v k n rest
   unfolding knownFields isIn
@@ -97,7 +92,7 @@ module _ (v : Version) (k : Bytes) (tag : ℕ) where
 
   find-present : (g : Bytes → Option Known) (n : Bytes) (seen ns : List Bytes) (rest : List Field) → isIn n ns ≡ true → Fresh seen ns → All Named ns
       → fieldNamed v k n (knownFields v k tag ns (map g ns) ++ rest) ≡ orElse (writtenAs n (g n)) (fieldNamed v k n rest)
-  unfolding knownFields isIn
+  unfolding knownFields isIn orElse
   find-present g n seen [] rest h f a = absurd (false≢true h)
   find-present g n seen (m ∷ ns) rest h f a = elim (test (same m n)) [
     | pass e ↦ here (g m) (ap g (same-sound m n e)) e
@@ -128,6 +123,7 @@ module _ (v : Version) (k : Bytes) (tag : ℕ) where
   -- the field of a known name is the one that was written for it
   pub find-known : (g : Bytes → Option Known) (n : Bytes) (ns : List Bytes) (ps : List (Bytes × Bytes)) → isIn n ns ≡ true → Fresh [] ns → All Named ns → All (Other ns) ps
       → fieldNamed v k n (knownFields v k tag ns (map g ns) ++ otherFields v k ps) ≡ writtenAs n (g n)
+  unfolding orElse
   find-known g n ns ps h f a o = find-present g n [] ns (otherFields v k ps) h f a ∙ rw (find-other n ns ps h o) (none-else (writtenAs n (g n)))
     where
       none-else : (x : Option Field) → orElse x none ≡ x

@@ -1,30 +1,27 @@
 -- An accepted header's entries, each with its line and its record. Assumes nothing.
-use Prim.Native.Nat.{ℕ, zero, suc, _+_, _-_, _*_, _≤_, _<_}
+use Prim.Native.Nat.{ℕ, suc, _+_, _*_, _≤_}
 use native.Mathlib.Omega.{arith}
-use mathlib.Core.Path.{_≡_, refl, sym, ap, ap₂, subst, _∙_}
-use mathlib.Core.Bool.{Bool, true, false}
+use mathlib.Core.Path.{_≡_, refl, sym, ap, subst, _∙_}
+use mathlib.Core.Bool.{true}
 use mathlib.Core.List.{List, [], _∷_, _++_, append-assoc, append-nil}
-use mathlib.Core.Option.{Option, none, some}
-use mathlib.Core.Logic.{_⊎_, inl, inr, ⊎-elim}
+use mathlib.Core.Option.{Option, none}
 use lib.Dec.{leb}
-use lib.ListN.{length, take, drop, length-append, length-drop}
-use lib.Seq.{drop-drop}
-use borrow.Author.Tests.{leb-true}
-use Rattle.values.specs.Bytes.{Bytes, LF, ascii, is, any, starts}
+use lib.ListN.{length, drop, length-append, length-drop}
+use Rattle.values.specs.Bytes.{Bytes, ascii, starts}
 use Rattle.values.specs.Utf8.{isUtf8}
-use Rattle.values.proofs.Tests.{Test, pass, fail, test}
+use Rattle.values.proofs.Tests.{pass, fail, test, never}
 use Rattle.values.proofs.Fields.{part, text-here}
-use Rattle.rules.specs.Answer.{Answer, ok, refuse, _>>=_, judged}
+use Rattle.rules.specs.Answer.{ok}
 use Rattle.rules.specs.Sizes.{Limits}
 use Rattle.rules.specs.Lines.{pieces, lineOf}
 use Rattle.rules.specs.Version.{Version, v4-5, inForce}
 use Rattle.rules.specs.Record.{Record, fileformat, fields, text, readRecord}
 use Rattle.rules.specs.Columns.{Columns, readColumns}
 use Rattle.rules.specs.Entry.{Entry, recordEntry, columnEntries}
-use Rattle.rules.specs.Reading.{clash, State, empty, ready, done, begin, enter, finish, stepText, isDone, step, Reading, stop, following, atEnd, run, reading}
-use Rattle.rules.proofs.Firsts.{OnOk, on-ok, bind-ok, judged-ok, Seen, was, not-read, see}
-use Rattle.rules.proofs.Pieces.{Cut, nothing, cut, cut-first, line-prefix}
-use Rattle.rules.proofs.Sound.{run-refused, run-full, run-more}
+use Rattle.rules.specs.Reading.{clash, State, empty, ready, done, begin, enter, stepText, step, Reading, stop, following, run, reading}
+use Rattle.rules.proofs.Firsts.{OnOk, on-ok, judged-ok, was, not-read, see}
+use Rattle.rules.proofs.Pieces.{nothing, cut, cut-first, line-prefix}
+use Rattle.rules.proofs.Sound.{Taken, step-taken, run-refused, run-full, run-more}
 use Rattle.rules.proofs.Back.{Accepted}
 
 -- a line of the header, at its place
@@ -71,27 +68,6 @@ text-steps imposed start v rs l = elim (test (starts (ascii "#CHROM") l)) [
   ]
 ]
 
--- a line that is taken is short and UTF-8
-abbrev pub Taken : Limits → Option Version → ℕ → State → Bytes → State × List Entry → Type 0
-Taken lim imposed start s l q = (length l ≤ lim .line) × (isUtf8 l ≡ true) × (stepText imposed start s l ≡ ok q)
-
-pub step-taken : (lim : Limits) (imposed : Option Version) (start : ℕ) (s : State) (l : Bytes) → OnOk (Taken lim imposed start s l) (step lim imposed start s l)
-unfolding step
-step-taken lim imposed start s l = elim (test (isDone s)) [
-  | pass d ↦ rw (step, d) tt
-  | fail d ↦ elim (test (leb (length l) (lim .line))) [
-    | pass e ↦ elim (test (isUtf8 l)) [
-      | pass u ↦ rw (step, d, e, u) (same (stepText imposed start s l) (leb-true (length l) (lim .line) e) u)
-      | fail u ↦ rw (step, d, e, u) tt
-    ]
-    | fail e ↦ rw (step, d, e) tt
-  ]
-]
-  where
-    same : (a : Answer (State × List Entry)) → length l ≤ lim .line → isUtf8 l ≡ true → OnOk (λ q. (length l ≤ lim .line) × (isUtf8 l ≡ true) × (a ≡ ok q)) a
-    same (ok q) e u = (e, u, refl)
-    same (refuse n) e u = tt
-
 -- the first line of what is left of a header, and what is left after it
 pub record FirstLine (h : Bytes) (start : ℕ) (p : Bytes) (ps : List Bytes) : Type 0 where
   pub here : part h start (start + length (lineOf p)) ≡ lineOf p
@@ -121,7 +97,7 @@ first-line h start p ps l e = elim (cut-first (drop start h)) [
 ]
   where
     none : _≡_ {A = List Bytes} [] (p ∷ ps) → ⊥
-    none z = let w : _≡_ {A = ℕ} 0 1 = cc in omega arith
+    none z = never cc
 
 -- the records that were added, their entries, and the column line
 pub record Traced (lim : Limits) (h : Bytes) (v : Version) (before : List Record) (w : Version) (after : List Record) (c : Columns) (entries : List Entry) : Type 0 where
@@ -143,7 +119,7 @@ done-only lim imposed room n start count v rs c [] z = refl
 done-only lim imposed room n start count v rs c (p ∷ ps) z = absurd (omega (arith, sym (ap (λ (r : Reading). r .number) (run-refused lim imposed room n start count (done v rs c) p ps refl)) ∙ z))
 
 ready-not : {v w : Version} {rs rs′ : List Record} {c : Columns} → _≡_ {A = State} (ready v rs) (done w rs′ c) → ⊥
-ready-not e = let z : _≡_ {A = ℕ} 0 1 = cc in omega arith
+ready-not e = never cc
 
 accepted-rest : {v : Version} {rs : List Record} {c : Columns} {r t : Reading} (es : List Entry) → r ≡ following es t → Accepted v rs c r → Accepted v rs c t
 accepted-rest es e a = record { number = sym (ap (λ (r : Reading). r .number) e) ∙ a .number; state = sym (ap (λ (r : Reading). r .state) e) ∙ a .state }
@@ -256,7 +232,7 @@ pub record TracedHeader (lim : Limits) (imposed : Option Version) (h : Bytes) (v
   pub these : entries ≡ recordEntry own 0 format (fileformat own) ∷ (rows ++ columnEntries start line c)
 
 empty-not : {w : Version} {rs′ : List Record} {c : Columns} → _≡_ {A = State} empty (done w rs′ c) → ⊥
-empty-not e = let z : _≡_ {A = ℕ} 0 1 = cc in omega arith
+empty-not e = never cc
 
 -- the fileformat line: the rest is read from the state after it
 module _ (lim : Limits) (imposed : Option Version) (room : ℕ) (h p : Bytes) (ps : List Bytes) (v : Version) (rs : List Record) (c : Columns) where

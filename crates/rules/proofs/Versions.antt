@@ -1,9 +1,9 @@
 -- Versions: what is read is 32-bit, and what is written is read back. Assumes nothing.
 use Prim.Native.Nat.{ℕ, _-_, _^_, _≤_}
 use native.Mathlib.Omega.{arith}
-use mathlib.Core.Path.{_≡_, refl, sym, ap, ap₂, _∙_}
-use mathlib.Core.Bool.{Bool, true, false}
-use mathlib.Core.List.{List, [], _∷_, _++_, tail}
+use mathlib.Core.Path.{_≡_, refl}
+use mathlib.Core.Bool.{false}
+use mathlib.Core.List.{_∷_, _++_, tail}
 use mathlib.Core.Option.{Option, none, some}
 use lib.ListN.{drop}
 use Rattle.values.specs.Bytes.{Bytes, ascii, is, begins, any, before, from, starts}
@@ -11,11 +11,11 @@ use Rattle.values.specs.Utf8.{completes, followers}
 use Rattle.values.specs.Integer.{u32Read, decimal}
 use Rattle.values.specs.declared.integer.IntegerRead.{IntegerRead}
 use Rattle.values.specs.declared.integer.IntegerRead.the-variants.{Value, Refused}
-use Rattle.values.proofs.Tests.{Test, pass, fail, test}
+use Rattle.values.proofs.Tests.{pass, fail, test}
 use Rattle.values.proofs.Lists.{OnSome, before-stop, from-stop}
 use Rattle.values.proofs.Integers.{read-bound}
 use Rattle.values.proofs.Decimals.{decimal-lacks, integer-decimal}
-use Rattle.rules.specs.Version.{Version, version, inForce, versionOf, readParts, readVersion, writeVersion}
+use Rattle.rules.specs.Version.{Version, inForce, versionOf, readParts, readVersion, writeVersion}
 use Rattle.rules.proofs.Pure.{Pure, pure-append, pure-join, pure-decimal}
 
 -- its parts are below 2 to the 32

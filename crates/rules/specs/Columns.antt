@@ -1,7 +1,7 @@
 -- Document 01, "Records": the column line and its sample names. Assumes nothing.
 use Prim.Native.Nat.{ℕ}
 use mathlib.Core.Bool.{Bool, true, false, not, _&&_}
-use mathlib.Core.List.{List, [], _∷_, _++_}
+use mathlib.Core.List.{List, [], _∷_}
 use mathlib.Core.Option.{Option, none, some}
 use Rattle.values.specs.Bytes.{Bytes, ascii, is, same}
 use Rattle.rules.specs.Answer.{Answer, ok, refuse, unless, judged}

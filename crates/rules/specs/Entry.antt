@@ -5,7 +5,6 @@ use mathlib.Core.List.{List, [], _∷_, _++_}
 use mathlib.Core.Option.{Option, none, some}
 use lib.ListN.{length}
 use Rattle.values.specs.Bytes.{Bytes, ascii, same}
-use Rattle.values.specs.Value.{Value, isQuoted, textOf}
 use Rattle.values.specs.Field.{Field, writtenField}
 use Rattle.values.specs.Places.{textAt}
 use Rattle.values.specs.declared.string.Text.{Text}

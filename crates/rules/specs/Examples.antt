@@ -1,10 +1,8 @@
 -- Document 01, "Lines on both sides": the starred cases as one table, computed by the checker. Assumes nothing.
 use Prim.Native.Nat.{ℕ}
 use mathlib.Core.Path.{_≡_, refl}
-use mathlib.Core.Bool.{Bool, true, false}
 use mathlib.Core.List.{List, [], _∷_, _++_, map}
 use mathlib.Core.Option.{Option, none, some}
-use lib.ListN.{length}
 use Prim.Native.String.{String}
 use Rattle.values.specs.Bytes.{Bytes, LF, ascii, begins, any, before, from, same, starts}
 use Rattle.values.specs.Utf8.{completes, followers}
@@ -21,9 +19,9 @@ use Rattle.rules.specs.Map.{after, scan, readFields, fieldRefusal, check
 use Rattle.rules.specs.Record.{looksMap, readValue as readRecordValue, readKeyed, readRecord}
 use Rattle.rules.specs.Columns.{split, afterColumns, distinct, readColumns}
 use Rattle.rules.specs.Entry.{textNamed, recordEntry, tabbed, samplesStart, sampleEntries, columnEntries, words}
-use Rattle.rules.specs.Reading.{beside, clash, stepText, step, run, Reading, reading}
+use Rattle.rules.specs.Reading.{beside, clash, stepText, step, run, reading}
 use Rattle.rules.specs.Meaning.{knownValue, others, saying, under, without, otherKeys, groups, meaning}
-use Rattle.rules.specs.House.{closes, isQuoted, knownFields, otherFields, recordOf, recordsOf, writeMore, writeFields, writeRecord, parted, writeColumns, houseLines, houseForm, HouseReading, tooLong, formOf, house}
+use Rattle.rules.specs.House.{closes, isQuoted, knownFields, otherFields, recordOf, recordsOf, writeMore, writeFields, writeRecord, parted, writeColumns, houseLines, houseForm, tooLong, formOf, house}
 use Rattle.rules.specs.Report.{report}
 
 -- what the definitions need to compute

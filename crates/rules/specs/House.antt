@@ -11,12 +11,12 @@ use Rattle.values.specs.Integer.{decimal}
 use Rattle.values.specs.Value.{isStop, valueOf}
 use Rattle.values.specs.Field.{Field, writtenField}
 use Rattle.rules.specs.Sizes.{Limits}
-use Rattle.rules.specs.Lines.{lines, pieces, lineOf, writeLine, writeLines}
+use Rattle.rules.specs.Lines.{writeLine, writeLines}
 use Rattle.rules.specs.Version.{Version, writeVersion}
-use Rattle.rules.specs.Known.{Kind, kindOf, known}
+use Rattle.rules.specs.Known.{kindOf, known}
 use Rattle.rules.specs.Map.{isMeta}
 use Rattle.rules.specs.Record.{Record, fileformat, fields, text}
-use Rattle.rules.specs.Columns.{Columns, TAB, columnNames}
+use Rattle.rules.specs.Columns.{TAB, columnNames}
 use Rattle.rules.specs.Reading.{State, done, ready, Reading, reading}
 use Rattle.rules.specs.Meaning.{Known, number, word, Saying, says, lists, Meaning, meaning}
 

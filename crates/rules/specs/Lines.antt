@@ -1,7 +1,7 @@
 -- Document 01, "Lines": how a header falls into lines, and how a line is written. Assumes nothing.
 use Prim.Native.Nat.{ℕ}
 use mathlib.Core.Bool.{Bool, true, false}
-use mathlib.Core.List.{List, [], _∷_, _++_, map}
+use mathlib.Core.List.{List, [], _∷_, _++_}
 use Rattle.values.specs.Bytes.{Bytes, CR, LF, is}
 
 -- one byte more, in front of the first piece
@@ -29,9 +29,6 @@ dropEnd c (b ∷ d ∷ bs) = b ∷ dropEnd c (d ∷ bs)
 -- one CR just before an LF is dropped with it; a last line without LF keeps a final CR
 unfoldable pub lineOf : Bytes → Bytes
 lineOf p = elim (ends LF p) [ true ↦ dropEnd CR (dropEnd LF p) | false ↦ p ]
-
-abbrev pub lines : Bytes → List Bytes
-lines h = map lineOf (pieces h)
 
 -- a line ends in LF, but in CR LF if its own last byte is CR
 unfoldable pub writeLine : Bytes → Bytes

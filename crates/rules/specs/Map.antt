@@ -2,7 +2,7 @@
 -- Bytes by their numbers: `,` 44, `<` 60, `>` 62. Assumes nothing.
 use Prim.Native.Nat.{ℕ, zero, suc}
 use mathlib.Core.Bool.{Bool, true, false, not, _||_, _&&_}
-use mathlib.Core.List.{List, [], _∷_, _++_, tail, map}
+use mathlib.Core.List.{List, [], _∷_, tail, map}
 use mathlib.Core.Option.{Option, none, some}
 use lib.ListN.{length}
 use Rattle.values.specs.Bytes.{Bytes, ascii, is, empty, begins, same}
@@ -11,7 +11,7 @@ use Rattle.values.specs.Value.{meaningOf}
 use Rattle.values.specs.Field.{Field, readField}
 use Rattle.values.specs.declared.integer.IntegerRead.{IntegerRead}
 use Rattle.values.specs.declared.integer.IntegerRead.the-variants as integer
-use Rattle.rules.specs.Answer.{Answer, ok, refuse, unless, first, judged}
+use Rattle.rules.specs.Answer.{Answer, refuse, unless, first, judged}
 use Rattle.rules.specs.Version.{Version, v4-3, since}
 use Rattle.rules.specs.Known.{Kind, kindOf, isIn, alwaysMap, required, known, nameOf, types, readNumber, integers}
 use Rattle.rules.specs.Reserved.{reserved, declares}

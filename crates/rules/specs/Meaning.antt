@@ -1,6 +1,6 @@
 -- Document 01, "House form": the meaning of a header, unescaped and defined from the lines as read. Assumes nothing.
 use Prim.Native.Nat.{ℕ}
-use mathlib.Core.Bool.{Bool, true, false, not}
+use mathlib.Core.Bool.{Bool, true, false}
 use mathlib.Core.List.{List, [], _∷_, _++_, map}
 use mathlib.Core.Option.{Option, none, some}
 use Rattle.values.specs.Bytes.{Bytes, ascii, same}
@@ -14,7 +14,7 @@ use Rattle.rules.specs.Known.{Kind, INFO, FILTER, FORMAT, ALT, contig, o
 use Rattle.rules.specs.Map.{fieldNamed}
 use Rattle.rules.specs.Record.{Record, fileformat, fields, text}
 use Rattle.rules.specs.Columns.{Columns}
-use Rattle.rules.specs.Reading.{State, empty, ready, done, keyOf}
+use Rattle.rules.specs.Reading.{keyOf}
 
 -- a known value: integers as numbers
 pub data Known : Type 0 where

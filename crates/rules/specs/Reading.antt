@@ -1,14 +1,13 @@
 -- Document 01, "Lines" and "Refusal numbers": the line machine, and the reading of a whole header. Assumes nothing.
 use Prim.Native.Nat.{ℕ, suc, _+_, _*_}
-use mathlib.Core.Bool.{Bool, true, false, not, _||_, _&&_}
+use mathlib.Core.Bool.{Bool, true, false}
 use mathlib.Core.List.{List, [], _∷_, _++_}
-use mathlib.Core.Option.{Option, none, some}
+use mathlib.Core.Option.{Option}
 use lib.Dec.{leb}
 use lib.ListN.{length}
 use Rattle.values.specs.Bytes.{Bytes, ascii, same, starts}
 use Rattle.values.specs.Utf8.{isUtf8}
-use Rattle.values.specs.Field.{Field}
-use Rattle.rules.specs.Answer.{Answer, ok, refuse, _>>=_, unless, first, judged}
+use Rattle.rules.specs.Answer.{Answer, ok, refuse, _>>=_, first, judged}
 use Rattle.rules.specs.Sizes.{Limits}
 use Rattle.rules.specs.Lines.{pieces, lineOf}
 use Rattle.rules.specs.Version.{Version, v4-5, inForce}

@@ -1,7 +1,6 @@
 -- Document 01, "Records": `##`, a key of one byte or more up to the first `=`, a value. Assumes nothing.
-use Prim.Native.Nat.{ℕ}
 use mathlib.Core.Bool.{Bool, true, false, not, _||_, _&&_}
-use mathlib.Core.List.{List, [], _∷_, _++_, tail}
+use mathlib.Core.List.{List, tail}
 use mathlib.Core.Option.{Option, none, some}
 use lib.ListN.{drop}
 use Rattle.values.specs.Bytes.{Bytes, ascii, is, empty, begins, before, from, same, starts}

@@ -1,11 +1,10 @@
 -- Document 01, "Lines on both sides": the line that the check program prints. Assumes nothing.
 use Prim.Native.Nat.{ℕ, zero, suc}
-use mathlib.Core.List.{List, [], _∷_, _++_}
+use mathlib.Core.List.{[], _∷_, _++_}
 use lib.ListN.{length}
 use Rattle.values.specs.Bytes.{Bytes, LF, ascii}
 use Rattle.values.specs.Integer.{decimal}
 use Rattle.rules.specs.Version.{Version}
-use Rattle.rules.specs.Columns.{Columns}
 use Rattle.rules.specs.Reading.{State, empty, ready, done, Reading}
 
 abbrev pub accepted : Version → ℕ → ℕ → Bytes

@@ -1,7 +1,6 @@
 -- Document 01, "Records": from 4.3, reserved IDs must have the Number and Type of the specification's tables. Assumes nothing.
-use Prim.Native.Nat.{ℕ}
 use mathlib.Core.Bool.{Bool, true, false, _&&_}
-use mathlib.Core.List.{List, [], _∷_, _++_}
+use mathlib.Core.List.{List, [], _∷_}
 use mathlib.Core.Option.{Option, none, some}
 use lib.Dec.{eqb}
 use Rattle.values.specs.Bytes.{Bytes, ascii, same}

@@ -3,13 +3,13 @@ use Prim.Native.Nat.{ℕ, zero, suc, _+_, _≤_, _<_}
 use native.Mathlib.Omega.{arith}
 use mathlib.Core.Path.{_≡_, refl, sym, _∙_}
 use mathlib.Core.Bool.{Bool, true, false, _&&_}
-use mathlib.Core.List.{List, [], _∷_}
+use mathlib.Core.List.{[], _∷_}
 use lib.Dec.{ltb}
 use lib.ListN.{length, getD, take, drop, drop-of-length-le}
 use borrow.Author.Tests.{ltb-true, lt-ltb}
 use Rattle.values.specs.Bytes.{Bytes}
 use Rattle.values.specs.Utf8.{completes, isUtf8, isAscii}
-use Rattle.values.proofs.Tests.{Test, pass, fail, test, and-l, and-r, and-off}
+use Rattle.values.proofs.Tests.{pass, fail, test, and-l, and-r, and-off}
 use Rattle.values.proofs.Lists.{here}
 use Rattle.values.proofs.Texts.{utf8-ascii}
 

@@ -1,20 +1,20 @@
 -- Cursors: the next byte, and the next byte of a meaning. Assumes nothing.
-use Prim.Native.Nat.{ℕ, suc, _+_, _≤_, _<_}
+use Prim.Native.Nat.{ℕ, _+_, _≤_, _<_}
 use native.Mathlib.Omega.{arith}
 use mathlib.Core.Path.{_≡_, refl, sym, ap, _∙_}
 use mathlib.Core.Bool.{Bool, true, false, not}
-use mathlib.Core.List.{List, [], _∷_}
+use mathlib.Core.List.{[], _∷_}
 use lib.Dec.{eqb}
 use lib.ListN.{length, getD, drop, drop-of-length-le}
 use borrow.Author.Tests.{eq-eqb, ne-eqb, eqb-true, eqb-false}
-use Rattle.values.specs.Bytes.{Bytes, is}
+use Rattle.values.specs.Bytes.{Bytes}
 use Rattle.values.specs.Value.{unescaped, meaning}
-use Rattle.values.specs.Places.{to, byteFrom, byteAt, unescapedFrom, unescapedAt}
+use Rattle.values.specs.Places.{to, byteAt, unescapedFrom, unescapedAt}
 use Rattle.values.specs.declared.cursor.Cursor.{Cursor}
 use Rattle.values.specs.declared.cursor.ByteRead.{ByteRead}
 use Rattle.values.specs.declared.cursor.ByteRead.the-variants.{Byte, End}
-use Rattle.values.proofs.Tests.{Test, pass, fail, test, not-true, not-false}
-use Rattle.values.proofs.Lists.{Stands, there, past, stands, drop-past, here}
+use Rattle.values.proofs.Tests.{pass, fail, test, not-true, not-false, never}
+use Rattle.values.proofs.Lists.{there, past, stands, drop-past, here}
 
 pub byte-there : (s : Bytes) (i : ℕ) → i < length s → Byte (getD s i 0) (to (i + 1)) ≡ byteAt s i
 byte-there s i h = rw (here s i)
@@ -29,7 +29,7 @@ pub ruleset bytes = (byte-there, byte-past)
 pub byte-read : (s : Bytes) (i : ℕ) {b : ℕ} {c : Cursor} → byteAt s i ≡ Byte b c → (getD s i 0 ≡ b) × (c ≡ to (i + 1)) × (i < length s)
 byte-read s i {b} {c} e = elim (stands s i) [
   | there h ↦ let f : Byte (getD s i 0) (to (i + 1)) ≡ Byte b c = byte-there s i h ∙ e in (cc, cc, h)
-  | past h ↦ let f : End ≡ Byte b c = byte-past s i h ∙ e in let z : _≡_ {A = ℕ} 0 1 = cc in absurd (omega arith)
+  | past h ↦ let f : End ≡ Byte b c = byte-past s i h ∙ e in never cc
 ]
 
 pub unescaped-past : (q : Bool) (s : Bytes) (i : ℕ) → length s ≤ i → unescapedAt q s i ≡ End

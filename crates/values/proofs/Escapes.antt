@@ -1,17 +1,17 @@
 -- Escaping and unescaping: they undo one another, keep UTF-8, and bring in no byte but backslashes. Assumes nothing.
-use Prim.Native.Nat.{ℕ, suc, _+_, _≤_, _<_}
+use Prim.Native.Nat.{ℕ, _≤_, _<_}
 use native.Mathlib.Omega.{arith}
 use mathlib.Core.Path.{_≡_, refl, sym, ap, _∙_}
-use mathlib.Core.Bool.{Bool, true, false, _||_}
+use mathlib.Core.Bool.{Bool, true, false}
 use mathlib.Core.List.{List, [], _∷_, _++_}
-use mathlib.Core.Option.{Option, none, some}
-use lib.Dec.{eqb, leb}
+use mathlib.Core.Option.{some}
+use lib.Dec.{leb}
 use borrow.Author.Tests.{eqb-true, ne-eqb, leb-true}
 use Rattle.values.specs.Bytes.{Bytes, is, any}
 use Rattle.values.specs.Utf8.{Range, within, followers, completes, isUtf8}
-use Rattle.values.specs.Value.{isEscapable, escapedByte, escape, unescaped, put, quotedText}
-use Rattle.values.proofs.Tests.{Test, pass, fail, test, or-l, or-r, or-on, and-l, both}
-use Rattle.values.proofs.Texts.{begin, begin-bad, next, next-bad, Led, no-row, in-row, led, High, followers-high, utf8-ascii}
+use Rattle.values.specs.Value.{isEscapable, escapedByte, escape, unescaped, quotedText}
+use Rattle.values.proofs.Tests.{pass, fail, test, or-l, or-r, and-l, both}
+use Rattle.values.proofs.Texts.{begin, begin-bad, next, next-bad, no-row, in-row, led, High, followers-high, utf8-ascii}
 
 pub escape-slash : (b : ℕ) (bs : Bytes) → isEscapable b ≡ true → escape (b ∷ bs) ≡ 92 ∷ b ∷ escape bs
 unfolding escape

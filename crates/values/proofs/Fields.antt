@@ -1,18 +1,17 @@
 -- Fields: the ways through the readers of a key and of a field, on plain values. Assumes nothing.
-use Prim.Native.Nat.{ℕ, suc, _+_, _-_, _≤_, _<_}
+use Prim.Native.Nat.{ℕ, _+_, _-_, _≤_, _<_}
 use native.Mathlib.Omega.{arith}
 use mathlib.Core.Path.{_≡_, refl, sym, ap, _∙_}
-use mathlib.Core.Bool.{Bool, true, false, not, _||_, _&&_}
-use mathlib.Core.List.{List, [], _∷_, _++_, tail}
+use mathlib.Core.Bool.{Bool, true, false, not, _&&_, and-assoc}
+use mathlib.Core.List.{[], _∷_, _++_, tail}
 use mathlib.Core.Option.{Option, none, some}
-use lib.Dec.{eqb}
 use lib.ListN.{length, getD, take, drop, length-append, length-drop}
 use lib.Seq.{take-at, drop-at, drop-drop}
 use borrow.Author.Tests.{eq-eqb, ne-eqb, eqb-true}
 use Rattle.values.specs.Bytes.{Bytes, ascii, is, empty, begins, any, before, from, same}
 use Rattle.values.specs.Value.{Value, written, readValue}
 use Rattle.values.specs.Field.{Field, writtenField, isForbidden, endsKey, isKey, readKey, withValue, mayBracket, withKey, readField}
-use Rattle.values.specs.Places.{to, textAt, valuePlaced, valueAt, keyPlaced, keyAt, fieldPlaced, fieldAt, separatorPlaced, separatorAt}
+use Rattle.values.specs.Places.{to, valuePlaced, valueAt, keyPlaced, keyAt, fieldPlaced, fieldAt, separatorPlaced, separatorAt}
 use Rattle.values.specs.declared.cursor.Cursor.{Cursor}
 use Rattle.values.specs.declared.string.Text.{Text}
 use Rattle.values.specs.declared.string.ValueRead.{ValueRead}
@@ -22,7 +21,7 @@ use Rattle.values.specs.declared.field.KeyRead.the-variants as key
 use Rattle.values.specs.declared.field.FieldRead.{FieldRead}
 use Rattle.values.specs.declared.field.FieldRead.the-variants as field
 use Rattle.values.specs.declared.field.Separator.the-variants.{Comma, Other}
-use Rattle.values.proofs.Tests.{Test, pass, fail, test, not-true, not-false, or-l, or-r, and-l, and-r, and-off}
+use Rattle.values.proofs.Tests.{pass, fail, test, not-true, not-false, and-l, and-r, and-off, never}
 use Rattle.values.proofs.Lists.{OnSome, on-some, drop-past, here, before-hit, before-miss, before-none, before-from, from-hit, from-miss, from-at}
 use Rattle.values.proofs.Scans.{stopOf}
 
@@ -68,12 +67,8 @@ no-key : (bs : Bytes) → begins 61 (from endsKey bs) ≡ false → readKey bs �
 unfolding begins
 no-key bs h = elim (ends bs) [
   | equals r p q t u ↦ let f : begins 61 (61 ∷ r) ≡ false = rw p at h in cc
-  | other p q ↦ key-not bs (go (not (empty (before (is 61) bs))) _ _ q)
+  | other p q ↦ key-not bs (and-assoc (not (empty (before (is 61) bs))) _ _ ∙ and-off (not (empty (before (is 61) bs))) q)
 ]
-  where
-    go : (x y z : Bool) → y && z ≡ false → (x && y) && z ≡ false
-    go true y z e = e
-    go false y z e = refl
 
 empty-key : (bs : Bytes) → length (before endsKey bs) ≡ 0 → readKey bs ≡ none
 unfolding begins
@@ -141,6 +136,15 @@ separator-other s i h ne = rw (here s i) (rw (ne-eqb (getD s i 0) 44 ne))
 
 pub ruleset separators = (separator-past, separator-comma, separator-other)
 
+-- what the code was told of a separator
+pub placed-comma : (i : ℕ) (q : Bool) {c : Cursor} → separatorPlaced i q ≡ Comma c → (q ≡ true) × (to (i + 1) ≡ c)
+placed-comma i true e = (refl, cc)
+placed-comma i false e = never cc
+
+pub placed-other : (i : ℕ) (q : Bool) → separatorPlaced i q ≡ Other → q ≡ false
+placed-other i true e = cc
+placed-other i false e = refl
+
 -- what answers the needs of `may_bracket`
 pub no-bracket : (m : Bool) (k : Bytes) → not m ≡ true → false ≡ mayBracket m k
 no-bracket m k n = rw (not-true m n)
@@ -181,6 +185,10 @@ text-here s i x r e =
     let n : i + length x - i ≡ length x = omega arith in
     (rw (n, e) (take-at x r (length x) refl), sym (drop-drop (length x) i s) ∙ rw e (drop-at x r (length x) refl))
 
+-- what stands at i before the first byte of a class
+pub before-part : (t : ℕ → Bool) (s : Bytes) (i : ℕ) {e : ℕ} → e ≡ stopOf t s i → part s i e ≡ before t (drop i s)
+before-part t s i a = rw a (text-here s i (before t (drop i s)) (from t (drop i s)) (sym (before-from t (drop i s))) .0)
+
 pub text-inside : (s : Bytes) (i : ℕ) (x : Bytes) (b : ℕ) (r : Bytes) → drop i s ≡ x ++ b ∷ r → i + length x < length s
 text-inside s i x b r e =
     let n = sym (length-drop i s) ∙ ap length e ∙ length-append x (b ∷ r) in
@@ -198,7 +206,7 @@ unfolding keyAt
 key-here s i {e} {c} q = go (readKey (drop i s)) refl q
   where
     go : (x : Option (Bytes × Bytes)) → readKey (drop i s) ≡ x → keyPlaced i x ≡ key.Key e c → KeyHere s i e c
-    go none a f = let z : _≡_ {A = ℕ} 0 1 = cc in absurd (omega arith)
+    go none a f = never cc
     go (some p) a f =
         let w : i + length (p .0) ≡ e = cc in
         let n : to (i + length (p .0) + 1) ≡ c = cc in

@@ -1,18 +1,18 @@
 -- Integers: a turn of `unsigned`'s loop on plain values, the sign, and the bound of what is read. Assumes nothing.
-use Prim.Native.Nat.{ℕ, zero, suc, _+_, _-_, _*_, _/_, _^_, _≤_, _<_}
+use Prim.Native.Nat.{ℕ, suc, _+_, _-_, _*_, _/_, _^_, _≤_, _<_}
 use native.Mathlib.Nat.{pow-suc, one-le-pow, mul-le-mul-left}
 use native.Mathlib.Omega.{arith}
 use mathlib.Core.Path.{_≡_, refl, sym, ap, _∙_}
-use mathlib.Core.Bool.{Bool, true, false, not, _||_, _&&_}
-use mathlib.Core.List.{List, [], _∷_, tail}
-use lib.Dec.{leb, eqb, lit<}
+use mathlib.Core.Bool.{Bool, true, false, not, _||_}
+use mathlib.Core.List.{[], _∷_}
+use lib.Dec.{leb, lit<}
 use lib.ListN.{length, getD, take, drop, drop-of-length-le}
 use borrow.Author.Tests.{le-leb, lt-leb, leb-true, eq-eqb, ne-eqb}
 use Rattle.values.specs.Bytes.{Bytes, empty, begins, any}
 use Rattle.values.specs.declared.integer.IntegerRead.{IntegerRead}
 use Rattle.values.specs.declared.integer.IntegerRead.the-variants.{Value, Refused}
-use Rattle.values.specs.Integer.{isDigit, isOther, numberOf, spells, answer, unsignedRead, withoutSign, integerRead}
-use Rattle.values.proofs.Tests.{Test, pass, fail, test, and-r, and-off, not-true, not-false}
+use Rattle.values.specs.Integer.{isOther, numberOf, spells, answer, unsignedRead, withoutSign, integerRead}
+use Rattle.values.proofs.Tests.{pass, fail, test, and-r, and-off, not-true, not-false, never}
 use Rattle.values.proofs.Lists.{here, rest}
 
 other-byte : (bound : ℕ) (s : Bytes) → any isOther s ≡ true → Refused ≡ unsignedRead bound s
@@ -148,5 +148,5 @@ read-bound sign bound s e = go (withoutSign sign s) e
     go w {n} e = elim (test (spells bound w)) [
       | pass q ↦ let k : numberOf w ≡ n = cc (e, q) in
           omega (arith, leb-true (numberOf w) bound (and-r (not (any isOther w)) _ (and-r (not (empty w)) _ q)))
-      | fail q ↦ let z : _≡_ {A = ℕ} 0 1 = cc (e, q) in absurd (omega arith)
+      | fail q ↦ never (cc (e, q))
     ]

@@ -1,17 +1,17 @@
 -- The rest of a list at a place and at the next, and laws of `before`, `from` and `any`. Assumes nothing.
-use Prim.Native.Nat.{ℕ, suc, _+_, _-_, _≤_, _<_}
+use Prim.Native.Nat.{ℕ, _+_, _-_, _≤_, _<_}
 use native.Mathlib.Numerals.{add-one}
 use native.Mathlib.Decide.{decLe}
 use native.Mathlib.Omega.{arith}
-use mathlib.Core.Path.{_≡_, refl, sym, ap, _∙_}
-use mathlib.Core.Bool.{Bool, true, false, _||_}
+use mathlib.Core.Path.{_≡_, refl, sym, _∙_}
+use mathlib.Core.Bool.{Bool, true, false, _||_, or-assoc}
 use mathlib.Core.List.{List, [], _∷_, _++_, tail}
 use mathlib.Core.Option.{Option, none, some}
 use lib.ListN.{length, getD, take, drop, length-drop, drop-of-length-le}
 use lib.Seq.{drop-cons, drop-drop, take-all}
 use borrow.Author.Tests.{eqb-true}
-use Rattle.values.specs.Bytes.{Bytes, is, any, before, from}
-use Rattle.values.proofs.Tests.{Test, pass, fail, test, or-l, or-r, both}
+use Rattle.values.specs.Bytes.{Bytes, is, begins, any, before, from}
+use Rattle.values.proofs.Tests.{pass, fail, test, or-l, or-r, both, never}
 
 pub here : (s : List ℕ) (i : ℕ) → i < length s → drop i s ≡ getD s i 0 ∷ drop (i + 1) s
 here s i h = rw (add-one, drop-cons s i 0)
@@ -28,7 +28,7 @@ pub some-is : {A : Type 0} {x y : A} → some x ≡ some y → x ≡ y
 some-is e = cc
 
 pub none-not : {A B : Type 0} {x : A} → _≡_ {A = Option A} none (some x) → B
-none-not e = let z : _≡_ {A = ℕ} 0 1 = cc in absurd (omega arith)
+none-not e = never cc
 
 -- a place is before the end, or past it
 pub data Stands (s : List ℕ) (i : ℕ) : Type 0 where
@@ -52,11 +52,7 @@ rest s a = take-all (length s - a) (drop a s) (omega (arith, length-drop a s))
 pub any-append : (t : ℕ → Bool) (xs ys : Bytes) → any t (xs ++ ys) ≡ (any t xs || any t ys)
 unfolding any
 any-append t [] ys = refl
-any-append t (b ∷ xs) ys = go (t b) (any-append t xs ys)
-  where
-    go : (q : Bool) → any t (xs ++ ys) ≡ (any t xs || any t ys) → (q || any t (xs ++ ys)) ≡ ((q || any t xs) || any t ys)
-    go true e = refl
-    go false e = e
+any-append t (b ∷ xs) ys = rw (any-append t xs ys) (sym (or-assoc (t b) (any t xs) (any t ys)))
 
 -- where s passes less than t
 pub any-less : (s t : ℕ → Bool) → ((b : ℕ) → s b ≡ true → t b ≡ true) → (bs : Bytes) → any t bs ≡ false → any s bs ≡ false
@@ -146,6 +142,10 @@ from-first t (b ∷ bs) {c} {r} e = elim (test (t b)) [
   | pass q ↦ let f : b ∷ bs ≡ c ∷ r = sym (from-hit t b bs q) ∙ e in let g : b ≡ c = cc in rw g at q
   | fail q ↦ from-first t bs (sym (from-miss t b bs q) ∙ e)
 ]
+
+pub from-begins : (x : ℕ) (bs : Bytes) {c : ℕ} {r : Bytes} → from (is x) bs ≡ c ∷ r → begins x (from (is x) bs) ≡ true
+unfolding begins
+from-begins x bs e = rw e (from-first (is x) bs e)
 
 -- where a byte passes a test that only c passes, c stands first
 pub from-is : (c : ℕ) (bs : Bytes) → any (is c) bs ≡ true → from (is c) bs ≡ c ∷ tail (from (is c) bs)

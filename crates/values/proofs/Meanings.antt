@@ -1,12 +1,10 @@
 -- Texts by their meaning: compared, and written; a turn of each loop on plain values. Assumes nothing.
-use Prim.Native.Nat.{ℕ, suc, _+_, _-_, _≤_, _<_}
+use Prim.Native.Nat.{ℕ, _-_, _≤_, _<_}
 use native.Mathlib.Omega.{arith}
-use mathlib.Core.Path.{_≡_, refl, sym, ap, subst, _∙_}
+use mathlib.Core.Path.{_≡_, refl, sym, subst, _∙_}
 use mathlib.Core.Bool.{Bool, true, false, not}
-use mathlib.Core.List.{List, [], _∷_, _++_, append-nil}
-use lib.Dec.{eqb}
+use mathlib.Core.List.{[], _∷_, _++_, append-nil}
 use lib.ListN.{length, drop}
-use borrow.Author.Tests.{eq-eqb, ne-eqb}
 use Rattle.values.specs.Bytes.{Bytes, same}
 use Rattle.values.specs.Value.{written, meaning, isEscapable, escapedByte, escape, spelling, writeValue}
 use Rattle.values.specs.Places.{unescapedAt}
@@ -74,10 +72,6 @@ module _ {a : Bytes} {aq : Bool} {b : Bytes} {bq : Bool} {i j : ℕ} (g : Compar
 -- what answers the needs of `same_meaning`
 pub ruleset compares = (both-bare, compare, both-end, right-longer, left-longer, differ, agree, told-less)
 
-escape-cons : (b : ℕ) (bs : Bytes) → escape (b ∷ bs) ≡ escapedByte b ++ escape bs
-unfolding escape
-escape-cons b bs = refl
-
 spelling-nil : (quote : Bool) → spelling quote [] ≡ []
 unfolding escape
 spelling-nil true = refl
@@ -88,14 +82,6 @@ unfolding escape
 spelling-cons true b bs = rw append-nil
 spelling-cons false b bs = refl
 
-escape-slash : (b : ℕ) → isEscapable b ≡ true → escape (b ∷ []) ≡ 92 ∷ b ∷ []
-unfolding escape
-escape-slash b e = rw (e, escapedByte)
-
-escape-plain : (b : ℕ) → isEscapable b ≡ false → escape (b ∷ []) ≡ b ∷ []
-unfolding escape
-escape-plain b e = rw (e, escapedByte)
-
 -- what answers the needs of `put_spelled`
 module _ {out : Bytes} {at : ℕ} (b : ℕ) (quote : Bool) where
   pub bare-spelled : not quote ≡ true → {r : ℕ} {o : Bytes} → Wrote out at (b ∷ []) r o → Wrote out at (spelling quote (b ∷ [])) r o
@@ -104,11 +90,13 @@ module _ {out : Bytes} {at : ℕ} (b : ℕ) (quote : Bool) where
   -- q is what the code's test of the byte answered
   module _ (n : not quote ≡ false) {q : Bool} (a : q ≡ isEscapable b) where
     pub plain-spelled : q ≡ false → {r : ℕ} {o : Bytes} → Wrote out at (b ∷ []) r o → Wrote out at (spelling quote (b ∷ [])) r o
-    plain-spelled e w = rw (not-false quote n, escape-plain b (sym a ∙ e)) w
+    unfolding escape
+    plain-spelled e w = rw (not-false quote n, sym a ∙ e, escapedByte) w
 
     pub slash-spelled : q ≡ true → {r : ℕ} {o : Bytes} → Wrote out at (92 ∷ []) r o → {r′ : ℕ} {o′ : Bytes} → Wrote o r (b ∷ []) r′ o′
         → Wrote out at (spelling quote (b ∷ [])) r′ o′
-    slash-spelled e w w′ = rw (not-false quote n, escape-slash b (sym a ∙ e)) (then w w′)
+    unfolding escape
+    slash-spelled e w w′ = rw (not-false quote n, sym a ∙ e, escapedByte) (then w w′)
 
 pub ruleset spells = (bare-spelled, plain-spelled, slash-spelled)
 

@@ -1,12 +1,11 @@
 -- Laws of writing: nothing, one byte, one text after another; and a turn of `put_bytes`' loop. Assumes nothing.
-use Prim.Native.Nat.{ℕ, zero, suc, _+_, _-_, _/_, _%_, _≤_, _<_, min}
-use native.Mathlib.Numerals.{add-one}
+use Prim.Native.Nat.{ℕ, suc, _+_, _/_, _%_, _≤_, _<_, min}
 use native.Mathlib.Omega.{arith}
 use native.Mathlib.Decide.{decLe}
 use mathlib.Core.Path.{_≡_, refl, sym, ap, _∙_}
-use mathlib.Core.List.{List, [], _∷_, _++_, append-nil}
-use lib.ListN.{length, getD, take, drop, set, length-append, length-set, drop-of-length-le}
-use lib.Seq.{sets, length-sets, sets-eq, set-out}
+use mathlib.Core.List.{[], _∷_, _++_}
+use lib.ListN.{length, getD, drop, set, length-append, drop-of-length-le}
+use lib.Seq.{sets, length-sets, set-out}
 use Rattle.values.specs.Bytes.{Bytes}
 use Rattle.values.specs.Integer.{decimal}
 use Rattle.values.specs.Written.{last, onward, Wrote}
@@ -105,12 +104,3 @@ small-number {n = n} h w = rw (decimal-small n h) w
 pub large-number : {out : Bytes} {at n r : ℕ} {o : Bytes} {r′ : ℕ} {o′ : Bytes} → 10 ≤ n
     → Wrote out at (decimal (n / 10)) r o → Wrote o r ((48 + n % 10) ∷ []) r′ o′ → Wrote out at (decimal n) r′ o′
 large-number {n = n} h w w′ = rw (decimal-large n h) (then w w′)
-
--- the whole text, where there is room
-pub wrote-room : {out : Bytes} {text : Bytes} {r : ℕ} {o : Bytes} → Wrote out 0 text r o → length text ≤ length out → o ≡ text ++ drop (length text) out
-wrote-room {out} {text} w h = let e : 0 + length text ≡ length text = omega arith in w .output ∙ sets-eq text out 0 (omega arith) ∙ rw e
-
--- no byte of an output without room
-pub wrote-none : {text : Bytes} {r : ℕ} {o : Bytes} → Wrote [] 0 text r o → length text ≤ last → r ≡ length text
-unfolding onward
-wrote-none {text} w h = w .place ∙ omega arith

@@ -1,21 +1,21 @@
 -- What was read stands where the places say: the bridge between the readers on bytes and the code's answers by place. Assumes nothing.
-use Prim.Native.Nat.{ℕ, suc, _+_, _-_, _≤_, _<_}
+use Prim.Native.Nat.{ℕ, suc, _+_, _≤_, _<_}
 use native.Mathlib.Omega.{arith}
 use mathlib.Core.Path.{_≡_, refl, sym, ap, _∙_}
-use mathlib.Core.Bool.{Bool, true, false, not, _&&_}
-use mathlib.Core.List.{List, [], _∷_, _++_, tail, append-assoc}
+use mathlib.Core.Bool.{Bool, true, false}
+use mathlib.Core.List.{[], _∷_, _++_, tail, append-assoc}
 use mathlib.Core.Option.{Option, none, some}
 use lib.ListN.{length, drop, length-append, length-drop}
 use lib.Seq.{drop-drop}
 use borrow.Author.Tests.{eqb-true}
-use Rattle.values.specs.Bytes.{Bytes, is, empty, begins, any, before, from}
-use Rattle.values.specs.Value.{Value, quoted, bare, written, put, isEscapable, quotedText, inQuotes, isStop, isBracketed, readValues, readUnquoted, readValue}
-use Rattle.values.specs.Field.{Field, writtenField, isForbidden, isKey, readKey, withValue, mayBracket, withKey, readField}
+use Rattle.values.specs.Bytes.{Bytes, is, begins, any, before, from}
+use Rattle.values.specs.Value.{Value, quoted, bare, textOf, written, put, isEscapable, quotedText, inQuotes, isStop, isBracketed, readValues, readUnquoted, readValue}
+use Rattle.values.specs.Field.{Field, writtenField, isKey, readKey, withValue, mayBracket, withKey, readField}
 use Rattle.values.specs.Places.{to, textAt, fieldPlaced, fieldAt}
 use Rattle.values.specs.declared.cursor.Cursor.{Cursor}
 use Rattle.values.specs.declared.string.Text.{Text}
 use Rattle.values.specs.declared.field.FieldRead.the-variants as field
-use Rattle.values.proofs.Tests.{Test, pass, fail, test, and-l, and-r}
+use Rattle.values.proofs.Tests.{pass, fail, test, and-r, never}
 use Rattle.values.proofs.Lists.{OnSome, on-some, before-from, from-is}
 use Rattle.values.proofs.Values.{bracketed-is, bracketed-not}
 use Rattle.values.proofs.Fields.{part, KeyIn, key-in, text-here, text-inside, tail-is}
@@ -98,6 +98,10 @@ abbrev pub valueBy : Bool → Bytes → Value
 valueBy true t = quoted t
 valueBy false t = bare t
 
+pub text-by : (q : Bool) (t : Bytes) → textOf (valueBy q t) ≡ t
+text-by true t = refl
+text-by false t = refl
+
 abbrev pub valueIn : Bytes → Text → Value
 valueIn s t = valueBy (t .quoted) (part s (t .start) (t .end))
 
@@ -142,7 +146,7 @@ pub record FieldHere (m : Bool) (s : Bytes) (i e : ℕ) (t : Text) (n : Cursor) 
   pub inside : n .at ≤ length s
 
 key-some : (k : Bytes) → isKey k ≡ true → 0 < length k
-key-some [] e = let z : _≡_ {A = ℕ} 0 1 = cc in absurd (omega arith)
+key-some [] e = never cc
 key-some (b ∷ k) e = omega arith
 
 pub field-here : (m : Bool) (s : Bytes) (i : ℕ) {e : ℕ} {t : Text} {n : Cursor} → fieldAt m s i ≡ field.Field e t n → FieldHere m s i e t n
@@ -150,7 +154,7 @@ unfolding fieldAt writtenField
 field-here m s i {e} {t} {n} q = go (readField m (drop i s)) refl q
   where
     go : (x : Option (Field × Bytes)) → readField m (drop i s) ≡ x → fieldPlaced i x ≡ field.Field e t n → FieldHere m s i e t n
-    go none a f = let z : _≡_ {A = ℕ} 0 1 = cc in absurd (omega arith)
+    go none a f = never cc
     go (some p) a f =
         let k = p .0 .key in
         let v = p .0 .value in

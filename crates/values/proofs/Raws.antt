@@ -1,16 +1,16 @@
 -- A text that spells an integer holds no escape, so that the code may read the bytes as they stand. Assumes nothing.
-use Prim.Native.Nat.{ℕ, _^_, _-_}
+use Prim.Native.Nat.{ℕ}
 use mathlib.Core.Path.{_≡_, refl, sym, ap, _∙_}
-use mathlib.Core.Bool.{Bool, true, false, not, _||_, _&&_}
-use mathlib.Core.List.{List, [], _∷_, tail}
+use mathlib.Core.Bool.{Bool, true, false, not, _&&_}
+use mathlib.Core.List.{[], _∷_, tail}
 use mathlib.Core.Option.{Option, none, some}
 use borrow.Author.Tests.{eqb-true}
 use Rattle.values.specs.Bytes.{Bytes, is, empty, begins, any}
 use Rattle.values.specs.Integer.{isOther, answer, unsignedRead, withoutSign, integerRead, numberOf}
-use Rattle.values.specs.Value.{Value, quoted, bare, textOf, meaningOf, unescaped, put, isEscapable, quotedText, inQuotes, isBracketed, readValues, readUnquoted, readValue}
-use Rattle.values.specs.Field.{Field, readKey, withValue, mayBracket, withKey, readField}
+use Rattle.values.specs.Value.{Value, textOf, meaningOf, unescaped, put, isEscapable, quotedText, inQuotes, isBracketed, readUnquoted, readValue}
+use Rattle.values.specs.Field.{readKey, withValue, mayBracket, withKey, readField}
 use Rattle.values.specs.declared.integer.IntegerRead.the-variants.{Refused}
-use Rattle.values.proofs.Tests.{Test, pass, fail, test, or-l, or-r, or-on, and-r}
+use Rattle.values.proofs.Tests.{pass, fail, test, or-l, or-r, or-on, and-r}
 use Rattle.values.proofs.Lists.{OnSome}
 use Rattle.values.proofs.Values.{bracketed-is, bracketed-not}
 use Rattle.values.proofs.Escapes.{unescaped-slash, unescaped-plain}

@@ -1,15 +1,15 @@
 -- Equal runs of bytes, and how the code compares them. Assumes nothing.
-use Prim.Native.Nat.{ℕ, suc, _+_, _-_, _≤_, _<_}
+use Prim.Native.Nat.{ℕ, _+_, _-_, _≤_, _<_}
 use native.Mathlib.Omega.{arith}
 use mathlib.Core.Path.{_≡_, refl, sym, ap, ap₂, _∙_}
-use mathlib.Core.Bool.{Bool, true, false}
-use mathlib.Core.List.{List, [], _∷_}
+use mathlib.Core.Bool.{true, false}
+use mathlib.Core.List.{[], _∷_}
 use lib.Dec.{eqb}
 use lib.ListN.{length, getD, drop, take, length-drop, drop-of-length-le}
 use lib.Seq.{take-all, take-nil}
 use borrow.Author.Tests.{eqb-true, eq-eqb, ne-eqb}
 use Rattle.values.specs.Bytes.{Bytes, starts, same}
-use Rattle.values.proofs.Tests.{Test, pass, fail, test, both}
+use Rattle.values.proofs.Tests.{pass, fail, test, both}
 use Rattle.values.proofs.Lists.{here}
 
 pub same-hit : (x y : ℕ) (xs ys : Bytes) → x ≡ y → same (x ∷ xs) (y ∷ ys) ≡ same xs ys

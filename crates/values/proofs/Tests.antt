@@ -1,5 +1,6 @@
 -- Tests by cases, with the equation kept, and the parts of a test. Assumes nothing.
 use Prim.Native.Nat.{ℕ}
+use native.Mathlib.Omega.{arith}
 use mathlib.Core.Path.{_≡_, refl, sym}
 use mathlib.Core.Bool.{Bool, true, false, not, _||_, _&&_, true≢false, false≢true}
 use lib.Dec.{eqb}
@@ -38,9 +39,6 @@ pub not-false : (a : Bool) → not a ≡ false → a ≡ true
 not-false true e = refl
 not-false false e = sym e
 
--- takes a nested test apart
-pub ruleset bools = (or-l, or-r, and-l, and-r, not-true, not-false)
-
 pub or-on : (a : Bool) {b : Bool} → b ≡ true → a || b ≡ true
 or-on true e = refl
 or-on false e = e
@@ -52,6 +50,10 @@ and-off false e = refl
 -- a test is not both
 pub both : {A : Type 0} {b : Bool} → b ≡ true → b ≡ false → A
 both {b = b} e f = absurd (true≢false (rw e at f))
+
+-- `never cc`, where the facts at hand make two constructors equal
+pub never : {A : Type 0} → _≡_ {A = ℕ} 0 1 → A
+never e = absurd (omega arith)
 
 -- a byte is x, or else
 pub or-first : (b x : ℕ) (q : Bool) → b ≡ x → eqb b x ≡ (eqb b x || q)

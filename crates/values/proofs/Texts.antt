@@ -2,7 +2,7 @@
 use Prim.Native.Nat.{ℕ, zero, suc, _+_, _-_, _≤_, _<_}
 use native.Mathlib.Omega.{arith}
 use mathlib.Core.Path.{_≡_, refl, sym, ap, _∙_}
-use mathlib.Core.Bool.{Bool, true, false, _&&_}
+use mathlib.Core.Bool.{true, false, _&&_}
 use mathlib.Core.List.{List, [], _∷_, _++_}
 use mathlib.Core.Option.{Option, none, some}
 use lib.Dec.{leb, eqb, eqb·suc-zero}
@@ -13,7 +13,7 @@ use Rattle.values.specs.Utf8.{Range, Row, to, tail, within, look, rows, 
 use Rattle.values.specs.declared.utf8.Lead.{Lead}
 use Rattle.values.specs.declared.utf8.Lead.the-variants.{Follow, Refused}
 use Rattle.values.specs.Lead.{due, leadMeans}
-use Rattle.values.proofs.Tests.{Test, pass, fail, test, and-off}
+use Rattle.values.proofs.Tests.{pass, fail, test, and-off}
 use Rattle.values.proofs.Lists.{here}
 use Rattle.values.proofs.Rows.{spans}
 

@@ -1,28 +1,27 @@
 -- Values: the scan for a closing quote, and the ways through the readers of a value, on plain values. Assumes nothing.
-use Prim.Native.Nat.{ℕ, suc, _+_, _-_, _≤_, _<_}
+use Prim.Native.Nat.{ℕ, suc, _+_, _≤_, _<_}
 use native.Mathlib.Omega.{arith}
 use mathlib.Core.Path.{_≡_, refl, sym, ap, _∙_}
-use mathlib.Core.Bool.{Bool, true, false, not, _||_, _&&_}
-use mathlib.Core.List.{List, [], _∷_, _++_, tail}
+use mathlib.Core.Bool.{Bool, true, false, not}
+use mathlib.Core.List.{[], _∷_, _++_}
 use mathlib.Core.Option.{Option, none, some}
 use lib.Dec.{eqb}
-use lib.ListN.{length, getD, drop, length-append, drop-of-length-le}
+use lib.ListN.{length, getD, drop, length-append}
 use borrow.Author.Tests.{eq-eqb, ne-eqb}
-use Rattle.values.specs.Bytes.{Bytes, is, begins, any, before, from}
-use Rattle.values.specs.Value.{Value, quoted, bare, written, put, isEscapable, quotedText, inQuotes, readQuoted, isStop, readBare, isBracketed, readBracketed, readValues, readUnquoted, readValue}
-use Rattle.values.specs.Places.{to, byteFrom, byteAt, textAt, closing, valuePlaced, escapedFrom, valueAt}
+use Rattle.values.specs.Bytes.{Bytes, is, begins, before, from}
+use Rattle.values.specs.Value.{Value, quoted, written, put, isEscapable, quotedText, inQuotes, readQuoted, isStop, readBare, isBracketed, readBracketed, readValues, readUnquoted, readValue}
+use Rattle.values.specs.Places.{to, byteAt, closing, valuePlaced, escapedFrom, valueAt}
 use Rattle.values.specs.declared.cursor.Cursor.{Cursor}
 use Rattle.values.specs.declared.cursor.ByteRead.{ByteRead}
 use Rattle.values.specs.declared.cursor.ByteRead.the-variants.{Byte, End}
-use Rattle.values.specs.declared.string.Text.{Text}
 use Rattle.values.specs.declared.string.Closing.{Closing}
 use Rattle.values.specs.declared.string.Closing.the-variants.{At, Missing}
 use Rattle.values.specs.declared.string.ValueRead.{ValueRead}
 use Rattle.values.specs.declared.string.ValueRead.the-variants as value
 use Rattle.values.proofs.Tests.{not-true, not-false, and-off}
-use Rattle.values.proofs.Lists.{Stands, there, past, stands, drop-past, here, from-at, from-none, from-some}
+use Rattle.values.proofs.Lists.{there, past, stands, drop-past, here, from-at, from-none, from-some}
 use Rattle.values.proofs.Scans.{stopOf}
-use Rattle.values.proofs.Cursors.{byte-read, byte-there, byte-past}
+use Rattle.values.proofs.Cursors.{byte-read, byte-there}
 
 closing-put : (i b : ℕ) (x : Option (Bytes × Bytes)) → closing i (put b x) ≡ closing (i + 1) x
 closing-put i b none = refl

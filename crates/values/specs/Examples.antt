@@ -1,18 +1,17 @@
 -- Worked examples, one table for each definition, computed by the checker. Assumes nothing.
-use Prim.Native.Nat.{ℕ, _+_, _-_, _^_}
+use Prim.Native.Nat.{ℕ, _-_, _^_}
 use mathlib.Core.Path.{_≡_, refl}
 use mathlib.Core.Bool.{Bool, true, false}
 use mathlib.Core.List.{List, [], _∷_, _++_, map}
 use lib.ListN.{replicate}
 use Rattle.values.specs.Bytes.{Bytes, ascii, begins, any, before, from, same}
 use Rattle.values.specs.Utf8.{isUtf8, isAscii, completes, followers}
-use Rattle.values.specs.Integer.{integerRead, u32Read, u64Read, unsignedRead, withoutSign, numberOf, decimal, digitsOf}
+use Rattle.values.specs.Integer.{u32Read, u64Read, unsignedRead, withoutSign, numberOf, decimal, digitsOf}
 use Rattle.values.specs.Value.{Value, written, quotedText, readValues, readValue, unescaped, meaning, escape, writeValue}
 use Rattle.values.specs.Field.{readKey, readField, writtenField}
 use Rattle.values.specs.Places.{to, unescapedAt, fieldAt}
 use Rattle.values.specs.declared.cursor.ByteRead.{ByteRead}
 use Rattle.values.specs.declared.cursor.ByteRead.the-variants.{Byte, End}
-use Rattle.values.specs.declared.integer.IntegerRead.{IntegerRead}
 use Rattle.values.specs.declared.integer.IntegerRead.the-variants as integer
 use Rattle.values.specs.declared.string.Text.{Text}
 use Rattle.values.specs.declared.field.FieldRead.{FieldRead}

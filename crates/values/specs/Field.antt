@@ -1,7 +1,7 @@
 -- Document 01, "Records": a field of a map. Bytes by their numbers: `"` 34, `,` 44, `<` 60, `=` 61, `>` 62. Assumes nothing.
 use Prim.Native.Nat.{ℕ}
 use mathlib.Core.Bool.{Bool, true, false, not, _||_, _&&_}
-use mathlib.Core.List.{List, [], _∷_, _++_, tail}
+use mathlib.Core.List.{_∷_, _++_, tail}
 use mathlib.Core.Option.{Option, none, some}
 use Rattle.values.specs.Bytes.{Bytes, ascii, is, empty, begins, any, before, from, same}
 use Rattle.values.specs.Value.{Value, written, readValue}

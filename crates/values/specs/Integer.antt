@@ -1,7 +1,7 @@
 -- Integers as a header spells them, and a number's decimal form. Assumes nothing.
 use Prim.Native.Nat.{ℕ, zero, suc, _+_, _-_, _*_, _/_, _%_, _^_}
 use mathlib.Core.Bool.{Bool, true, false, not, _&&_}
-use mathlib.Core.List.{List, [], _∷_, _++_, tail}
+use mathlib.Core.List.{[], _∷_, _++_, tail}
 use lib.ListN.{length}
 use lib.Dec.{leb, ltb}
 use Rattle.values.specs.Bytes.{Bytes, empty, begins, any}

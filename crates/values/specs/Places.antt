@@ -1,11 +1,11 @@
 -- Where the code's answers stand: each place is a sum of lengths of what was read. Assumes nothing.
 use Prim.Native.Nat.{ℕ, _+_}
 use mathlib.Core.Bool.{Bool, true, false}
-use mathlib.Core.List.{List, [], _∷_, tail}
+use mathlib.Core.List.{[], _∷_, tail}
 use mathlib.Core.Option.{Option, none, some}
 use lib.ListN.{length, drop}
 use Rattle.values.specs.Bytes.{Bytes, is, begins}
-use Rattle.values.specs.Value.{Value, quoted, bare, isQuoted, textOf, written, readQuoted, readValue}
+use Rattle.values.specs.Value.{Value, quoted, bare, written, readQuoted, readValue}
 use Rattle.values.specs.Field.{Field, writtenField, readKey, readField}
 use Rattle.values.specs.declared.cursor.Cursor.{Cursor}
 use Rattle.values.specs.declared.cursor.ByteRead.{ByteRead}

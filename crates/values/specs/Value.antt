@@ -1,8 +1,8 @@
 -- Document 01, "Records": a value of a map's field, as it stands in the line and by its meaning; and how the house form writes one.
 -- Bytes by their numbers: `"` 34, `,` 44, `>` 62, `[` 91, backslash 92, `]` 93. Assumes nothing.
 use Prim.Native.Nat.{ℕ}
-use mathlib.Core.Bool.{Bool, true, false, not, _||_, _&&_}
-use mathlib.Core.List.{List, [], _∷_, _++_, tail}
+use mathlib.Core.Bool.{Bool, true, false, _||_, _&&_}
+use mathlib.Core.List.{[], _∷_, _++_, tail}
 use mathlib.Core.Option.{Option, none, some}
 use Rattle.values.specs.Bytes.{Bytes, is, begins, any, before, from}
 

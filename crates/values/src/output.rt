@@ -1,5 +1,4 @@
 // Writing into a lent output. What does not fit is counted and not written, so that no call asks for room.
-ghost use mathlib.Core.Path.{_≡_};
 ghost use mathlib.Core.List.{[], _∷_};
 ghost use Prim.Native.Nat.{_<_};
 ghost use Rattle.values.specs.Integer.{decimal};

@@ -9,7 +9,7 @@ ghost use mathlib.Core.List.{[], _∷_};
 ghost use Prim.Native.Nat.{_+_};
 ghost use lib.ListN.{length, drop};
 ghost use Rattle.values.specs.Bytes.{before, same};
-ghost use Rattle.values.specs.Value.{isStop, isEscapable, quotedText, readBare, readQuoted, readValues, meaning, spelling, writeValue};
+ghost use Rattle.values.specs.Value.{isStop, isEscapable, quotedText, readBare, readValues, meaning, spelling, writeValue};
 ghost use Rattle.values.specs.Places.{closing, escapedFrom, valuePlaced};
 ghost use Rattle.values.specs.Written.{Wrote};
 

@@ -11,7 +11,7 @@ use borrow.Author.Tests.{ltb-true}
 use mir.Syntax.{w64}
 use mir.Val.{Fits}
 use Rattle.values.specs.Bytes.{Bytes}
-use Rattle.values.proofs.Tests.{pass, fail, test, and-l}
+use Rattle.values.proofs.Tests.{pass, fail, test, and-l, never}
 use Rattle.values.proofs.Lists.{none-not}
 use Rattle.rules.specs.Shown.{Part as RulePart, wellFormed, entryAt, shownEntry}
 use Rattle.entries.specs.declared.shown.Shown.{Shown}
@@ -32,12 +32,12 @@ shown-near h table n e = elim (test (ltb (2 * n + 1) (length table) && wellForme
 
 -- the answer behind what is shown
 shown-part : (o : Option RulePart) {s e : ℕ} → Part s e ≡ shownAs o → o ≡ some (s, e)
-shown-part none e = let z : _≡_ {A = ℕ} 0 1 = cc in absurd (omega arith)
+shown-part none e = never cc
 shown-part (some p) {s} {e} q = let a : s ≡ p .0 = cc in let b : e ≡ p .1 = cc in rw (a, b)
 
 shown-none : (o : Option RulePart) → Refused ≡ shownAs o → o ≡ none
 shown-none none e = refl
-shown-none (some p) e = let z : _≡_ {A = ℕ} 0 1 = cc in absurd (omega arith)
+shown-none (some p) e = never cc
 
 module _ (h : Bytes) (table : List ℕ) (at : ℕ) {r : Shown} (a : r ≡ shownAs (shownEntry h table at)) where
   pub step-refused : r ≡ Refused → _≡_ {A = Stepped} (record { found = r; at = at }) (stepAt h table at)

@@ -1,4 +1,4 @@
--- A line that is read alone, for the field call. Assumes nothing.
+-- The field call: a field of a line that is read alone. Assumes nothing.
 use Prim.Native.Nat.{ℕ, _≤_}
 use mathlib.Core.Path.{_≡_}
 use mathlib.Core.Bool.{true, false}

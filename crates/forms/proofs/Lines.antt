@@ -11,10 +11,10 @@ use lib.Seq.{take-at}
 use Rattle.values.specs.Bytes.{Bytes, ascii, is}
 use Rattle.values.specs.Value.{meaningOf}
 use Rattle.values.specs.Field.{Field, writtenField}
-use Rattle.values.specs.Written.{Wrote}
+use Rattle.values.specs.Written.{last, onward, Wrote}
 use Rattle.values.specs.declared.string.Text.{Text}
 use Rattle.values.proofs.Tests.{never}
-use Rattle.values.proofs.Outputs.{then}
+use Rattle.values.proofs.Outputs.{wrote-nothing, then}
 use Rattle.rules.specs.Answer.{ok}
 use Rattle.rules.specs.Lines.{ends, writeLine}
 use Rattle.rules.specs.Version.{Version, v4-3, since}
@@ -41,8 +41,9 @@ use Rattle.records.specs.declared.record.RecordRead.the-variants as read
 use Rattle.records.proofs.Determined.{filled-one}
 use Rattle.entries.specs.Shown.{fieldsAt}
 use Rattle.entries.proofs.Fields.{fields-read}
+use Rattle.forms.specs.declared.line.LineWritten.{LineWritten}
 use Rattle.forms.specs.Forms.{fieldBy, rowsOf, listed, othersText}
-use Rattle.forms.specs.Lines.{fieldsText, mapText, lineOf, IsEntry, PutsRecord, ending, PutsLine}
+use Rattle.forms.specs.Lines.{fieldsText, mapText, lineOf, IsEntry, entryLine, houseLine, ending, WroteEnded}
 use Rattle.forms.proofs.Forms.{fields-as}
 
 -- The pieces of a map's line
@@ -133,24 +134,26 @@ module _ (v : Version) (s : Bytes) {r : RecordRead} (a : RecordAre v s r) where
   told e = subst (RecordIs v s) e (a .is)
 
   -- a line is one record
-  alone : {out : Bytes} {at : ℕ} {y : Record} {n : ℕ} {o : Bytes} → readRecord v s ≡ ok y → (IsEntry y → Wrote out at (lineOf v y) n o) → PutsRecord v s out at n o
-  alone {out} {at} {y} {n} {o} f w = record { is = λ x e h. let q : y ≡ x = cc in subst (λ (z : Record). IsEntry z → Wrote out at (lineOf v z) n o) q w h }
+  alone : {y : Record} → readRecord v s ≡ ok y → {out : Bytes} {at n : ℕ} {o : Bytes} → Wrote out at (entryLine v y) n o → Wrote out at (houseLine v s) n o
+  unfolding houseLine
+  alone e w = rw (houseLine, e) w
 
-  pub version-left : {w : FileFormat} → r ≡ read.FileFormat w → {out : Bytes} {at : ℕ} → PutsRecord v s out at at out
-  version-left e = alone (told e) (λ h. absurd h)
+  pub version-left : {w : FileFormat} → r ≡ read.FileFormat w → {out : Bytes} {at : ℕ} → at ≤ last → length out ≤ last → Wrote out at (houseLine v s) at out
+  version-left e {out} {at} h l = alone (told e) (wrote-nothing out at h l)
 
-  pub refused-left : {w : Refusal} → r ≡ read.Refused w → {out : Bytes} {at : ℕ} → PutsRecord v s out at at out
-  refused-left e = record { is = λ x f h. never (cc (told e)) }
+  pub refused-left : {w : Refusal} → r ≡ read.Refused w → {out : Bytes} {at : ℕ} → at ≤ last → length out ≤ last → Wrote out at (houseLine v s) at out
+  unfolding houseLine
+  refused-left e {out} {at} h l = rw (houseLine, told e) (wrote-nothing out at h l)
 
-  pub text-put : {i : ℕ} → r ≡ read.Text i → {out : Bytes} {at n : ℕ} {o : Bytes} → Wrote out at s n o → PutsRecord v s out at n o
+  pub text-put : {i : ℕ} → r ≡ read.Text i → {out : Bytes} {at n : ℕ} {o : Bytes} → Wrote out at s n o → Wrote out at (houseLine v s) n o
   unfolding saying recordOf
-  text-put {i} e {out} {at} {n} {o} w = let f = told e .1 in alone f (λ h. subst (λ (l : Bytes). Wrote out at l n o) (on-ok (LineOf s) (record-in v s) f) w)
+  text-put {i} e {out} {at} {n} {o} w = let f = told e .1 in alone f (subst (λ (l : Bytes). Wrote out at l n o) (on-ok (LineOf s) (record-in v s) f) w)
 
   module _ {key : Key} {i : ℕ} {id : Text} {tag : ℕ} (e : r ≡ read.Map key i id tag) where
     abbrev is-map : RecordIs v s (read.Map key i id tag)
     is-map = told e
 
-    pub map-short : length s ≤ i → {out : Bytes} {at : ℕ} → PutsRecord v s out at at out
+    pub map-short : length s ≤ i → {out : Bytes} {at : ℕ} → Wrote out at (houseLine v s) at out
     map-short l =
         let k = keyIn s in
         let q : s ≡ opening k ++ (writeFields (is-map .0) ++ 62 ∷ []) = on-ok (LineOf s) (record-in v s) (is-map .3) ∙ map-opened k (is-map .0) in
@@ -159,8 +162,8 @@ module _ (v : Version) (s : Bytes) {r : RecordRead} (a : RecordAre v s r) where
         let p = is-map .2 in
         absurd (omega arith)
 
-    pub map-put-in : {out : Bytes} {at n : ℕ} {o : Bytes} → Wrote out at (mapText key v (isMeta v (bytesOf key)) s (i + 1) id tag) n o → PutsRecord v s out at n o
-    map-put-in {out} {at} {n} {o} w = alone (is-map .3) (λ h. subst (λ (l : Bytes). Wrote out at l n o)
+    pub map-put-in : {out : Bytes} {at n : ℕ} {o : Bytes} → Wrote out at (mapText key v (isMeta v (bytesOf key)) s (i + 1) id tag) n o → Wrote out at (houseLine v s) n o
+    map-put-in {out} {at} {n} {o} w = alone (is-map .3) (subst (λ (l : Bytes). Wrote out at l n o)
         (map-text v (keyIn s) (is-map .0) key s (i + 1) (is-map .1) (is-map .3) (omega (arith, is-map .2)) id tag (is-map .4)) w)
 
 pub ruleset records = (version-left, refused-left, text-put, map-short, map-put-in)
@@ -202,17 +205,34 @@ module _ (cr : Bool) {out : Bytes} {at r : ℕ} {o : Bytes} where
 pub ruleset endings = (end-lf, end-cr)
 
 -- any line and its ending
-pub line-ended : (line : Bytes) {cr : Bool} → cr ≡ ends 13 line → {out : Bytes} {at r : ℕ} {o : Bytes} → Wrote out at line r o → {r′ : ℕ} {o′ : Bytes} → Wrote o r (ending cr) r′ o′
-    → Wrote out at (writeLine line) r′ o′
+ended-line : (line : Bytes) → line ++ ending (ends 13 line) ≡ writeLine line
 unfolding writeLine
-line-ended line {cr} e {out} {at} w {r′} {o′} w′ = subst (λ (t : Bytes). Wrote out at t r′ o′) (go (ends 13 line)) (then w (rw e at w′))
+ended-line line = go (ends 13 line)
   where
     go : (b : Bool) → line ++ ending b ≡ elim b [ true ↦ line ++ 13 ∷ 10 ∷ [] | false ↦ line ++ 10 ∷ [] ]
     go true = refl
     go false = refl
 
-pub line-put : (v : Version) (s : Bytes) {out : Bytes} {at r : ℕ} {o : Bytes} → PutsRecord v s out at r o → {cr : Bool} → cr ≡ ends 13 s → {r′ : ℕ} {o′ : Bytes} → Wrote o r (ending cr) r′ o′
-    → PutsLine v s out at (record { end = r; next = r′ }) o′
-line-put v s p e w = record {
-  is = λ x f h. record { place = p .is x f h .place; text = line-ended (lineOf v x) (e ∙ same-ending v s x f h) (p .is x f h) w };
-}
+pub line-ended : (line : Bytes) {cr : Bool} → cr ≡ ends 13 line → {out : Bytes} {at r : ℕ} {o : Bytes} → Wrote out at line r o → {r′ : ℕ} {o′ : Bytes} → Wrote o r (ending cr) r′ o′
+    → Wrote out at (writeLine line) r′ o′
+line-ended line e {out} {at} w {r′} {o′} w′ = subst (λ (t : Bytes). Wrote out at t r′ o′) (ended-line line) (then w (rw e at w′))
+
+-- what answers the needs of `put_line`
+pub line-put : (line : Bytes) {out : Bytes} {at r : ℕ} {o : Bytes} → Wrote out at line r o → {cr b : Bool} → cr ≡ b → {r′ : ℕ} {o′ : Bytes} → Wrote o r (ending cr) r′ o′
+    → WroteEnded out at line b (record { end = r; next = r′ }) o′
+line-put line w e w′ = record { place = w .place; text = then w (rw e at w′) }
+
+-- of a map or a text it is the house form's line, with its own ending
+pub entry-is : (v : Version) (s : Bytes) (x : Record) → readRecord v s ≡ ok x → IsEntry x → houseLine v s ≡ lineOf v x
+unfolding houseLine
+entry-is v s (fileformat w) e h = absurd h
+entry-is v s (fields k fs) e h = rw (houseLine, e)
+entry-is v s (text k t) e h = rw (houseLine, e)
+
+pub entry-ended : (v : Version) (s : Bytes) (x : Record) → readRecord v s ≡ ok x → IsEntry x → {out : Bytes} {at : ℕ} {r : LineWritten} {o : Bytes}
+    → WroteEnded out at (houseLine v s) (ends 13 s) r o → (r .end ≡ onward at (length (lineOf v x))) × Wrote out at (writeLine (lineOf v x)) (r .next) o
+entry-ended v s x e h {out} {at} {r} {o} w =
+    let l = entry-is v s x e h in (
+      rw l at (w .place),
+      subst (λ (t : Bytes). Wrote out at t (r .next) o) (rw (l, same-ending v s x e h) (ended-line (lineOf v x))) (w .text),
+    )

@@ -8,8 +8,7 @@ use Rattle.values.specs.Bytes.{Bytes, CR, LF}
 use Rattle.values.specs.Field.{writtenField}
 use Rattle.values.specs.Written.{onward, Wrote}
 use Rattle.values.specs.declared.string.Text.{Text}
-use Rattle.rules.specs.Answer.{ok}
-use Rattle.rules.specs.Lines.{writeLine}
+use Rattle.rules.specs.Answer.{Answer, ok, refuse}
 use Rattle.rules.specs.Version.{Version}
 use Rattle.rules.specs.Record.{Record, fileformat, fields, text, readRecord}
 use Rattle.rules.specs.Reading.{keyOf}
@@ -39,18 +38,24 @@ IsEntry (fileformat w) = ⊥
 IsEntry (fields k fs) = Unit {0}
 IsEntry (text k t) = Unit {0}
 
--- of a line s that is read as a map or a text, the house form's line was written
-pub record PutsRecord (v : Version) (s old : Bytes) (at r : ℕ) (new : Bytes) : Type 0 where
-  pub is : (x : Record) → readRecord v s ≡ ok x → IsEntry x → Wrote old at (lineOf v x) r new
+abbrev pub entryLine : Version → Record → Bytes
+entryLine v (fileformat w) = []
+entryLine v (fields k fs) = lineOf v (fields k fs)
+entryLine v (text k t) = lineOf v (text k t)
+
+abbrev pub lineFor : Version → Answer Record → Bytes
+lineFor v (ok x) = entryLine v x
+lineFor v (refuse n) = []
+
+-- what is written of the line s: of a map or a text the house form's line, else nothing
+unfoldable pub houseLine : Version → Bytes → Bytes
+houseLine v s = lineFor v (readRecord v s)
 
 abbrev pub ending : Bool → Bytes
 ending true = CR ∷ LF ∷ []
 ending false = LF ∷ []
 
--- a line was written, and its ending
-pub record WroteLine (old : Bytes) (at : ℕ) (line : Bytes) (r : LineWritten) (new : Bytes) : Type 0 where
+-- a line was written, and an ending; cr: it is CR LF
+pub record WroteEnded (old : Bytes) (at : ℕ) (line : Bytes) (cr : Bool) (r : LineWritten) (new : Bytes) : Type 0 where
   pub place : r .end ≡ onward at (length line)
-  pub text : Wrote old at (writeLine line) (r .next) new
-
-pub record PutsLine (v : Version) (s old : Bytes) (at : ℕ) (r : LineWritten) (new : Bytes) : Type 0 where
-  pub is : (x : Record) → readRecord v s ≡ ok x → IsEntry x → WroteLine old at (lineOf v x) r new
+  pub text : Wrote old at (line ++ ending cr) (r .next) new

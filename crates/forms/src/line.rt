@@ -15,7 +15,7 @@ ghost use Rattle.rules.specs.Lines.{ends};
 ghost use Rattle.rules.specs.Map.{isMeta};
 ghost use Rattle.records.specs.Formats.{versionOf};
 ghost use Rattle.records.specs.Keys.{bytesOf};
-ghost use Rattle.forms.specs.Lines.{fieldsText, mapText, ending, PutsRecord, PutsLine};
+ghost use Rattle.forms.specs.Lines.{fieldsText, mapText, houseLine, ending, WroteEnded};
 
 // The place after a line's text, and the place after its ending: what does not fit is counted and not written.
 pub struct LineWritten {
@@ -62,7 +62,7 @@ fn put_map(
 
 // The line s, a map or a text, without an ending; of a fileformat line or a refused one nothing is written.
 pub fn put_record(out: &mut [u8], at: usize, s: &[u8], version: FileFormat) -> usize
-    ensures { λ r. ⌜ PutsRecord (versionOf version) (now (s .entry)) (now (out .entry)) at r (now (out .exit)) ⌝ }
+    ensures { λ r. ⌜ Wrote (now (out .entry)) at (houseLine (versionOf version) (now (s .entry))) r (now (out .exit)) ⌝ }
 {
     match record::parse_record(s, version) {
         RecordRead::FileFormat(_) => at,
@@ -102,7 +102,7 @@ pub fn end_line(out: &mut [u8], at: usize, cr: bool) -> usize
 // The same with its ending, which the last byte of s tells: a map's line ends in `>` as read and as written. Of a line of which
 // put_record writes nothing, the ending alone.
 pub fn put_line(out: &mut [u8], at: usize, s: &[u8], version: FileFormat) -> LineWritten
-    ensures { λ r. ⌜ PutsLine (versionOf version) (now (s .entry)) (now (out .entry)) at r (now (out .exit)) ⌝ }
+    ensures { λ r. ⌜ WroteEnded (now (out .entry)) at (houseLine (versionOf version) (now (s .entry))) (ends 13 (now (s .entry))) r (now (out .exit)) ⌝ }
 {
     let end = put_record(out, at, s, version);
     let cr = ends_with_cr(s);

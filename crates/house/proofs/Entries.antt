@@ -31,8 +31,9 @@ use Rattle.rules.proofs.Shows.{place-kind, place-start, place-length}
 use Rattle.ids.specs.Clashes.{lineIn, prefixOf}
 use Rattle.ids.proofs.Clashes.{prefix-starts}
 use Rattle.ids.proofs.KeyKinds.{typed-below, number-small}
-use Rattle.forms.specs.Lines.{lineOf, IsEntry}
-use Rattle.house.specs.Writes.{houseLine, Readable}
+use Rattle.forms.specs.Lines.{lineOf, IsEntry, houseLine}
+use Rattle.forms.proofs.Lines.{entry-is}
+use Rattle.house.specs.Writes.{Readable}
 use Rattle.house.specs.Keys.{isRecord, isUnder, prefixIn, isOther}
 
 -- a line's entry tells its kind and its line
@@ -84,13 +85,13 @@ module _ (v : Version) (h : Bytes) (e : Entry) (r : Record) (rest l : Bytes) (is
   record-kind = rw (is-kind, lt-ltb 1 kind (omega arith), lt-ltb kind 9 (omega arith))
 
   row-of : isOther (e .0) ≡ not (isTyped (keyOf r)) → readRecord v l ≡ ok r → IsEntry r → RowIs v h e r
-  unfolding houseLine isUnder
+  unfolding isUnder
   row-of o read entry = record {
     other = o;
     no-columns = rw is-kind (ne-eqb kind 9 (λ q. omega arith));
     plain = plain;
     readable = record { line = r; read = rw is-line read; entry = entry };
-    written = rw (houseLine, is-line, read);
+    written = rw is-line (entry-is v l r read entry);
     under = λ k a. rw (record-kind, is-line ∙ l-is) (prefix-starts k (keyOf r) rest a plain);
     prefix = prefix-is;
   }

@@ -16,7 +16,8 @@ use Rattle.rules.specs.Shown.{kindIn}
 use Rattle.ids.specs.Clashes.{lineIn, prefixOf}
 use Rattle.ids.proofs.Seen.{pair, Short, none, one, short}
 use Rattle.house.specs.declared.progress.Progress.{Progress}
-use Rattle.house.specs.Writes.{WroteLines, houseLine, Readable, PutsEntry}
+use Rattle.forms.specs.Lines.{houseLine}
+use Rattle.house.specs.Writes.{WroteLines, Readable, PutsEntry}
 use Rattle.house.specs.Keys.{isRecord, isUnder, picked, AllReadable, PutsKey, linesUnder, laterKeys, PutsKeys}
 use Rattle.house.proofs.Writes.{wrote-no-lines, then-lines}
 

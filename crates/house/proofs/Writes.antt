@@ -21,11 +21,11 @@ use Rattle.rules.specs.Lines.{ends, writeLine, writeLines}
 use Rattle.rules.specs.Record.{fileformat, readRecord}
 use Rattle.rules.specs.House.{writeRecord, tooLong}
 use Rattle.rules.proofs.Pieces.{no-end}
-use Rattle.forms.specs.Lines.{lineOf, ending, PutsLine}
-use Rattle.forms.proofs.Lines.{line-ended}
+use Rattle.forms.specs.Lines.{lineOf, houseLine, ending, WroteEnded}
+use Rattle.forms.proofs.Lines.{line-ended, entry-is, entry-ended}
 use Rattle.forms.specs.declared.line.LineWritten.{LineWritten}
 use Rattle.house.specs.declared.progress.Progress.{Progress}
-use Rattle.house.specs.Writes.{longIn, isLong, noted, WroteLines, houseLine, PutsEntry}
+use Rattle.house.specs.Writes.{longIn, isLong, noted, WroteLines, PutsEntry}
 
 -- what answers the needs of `count_line`
 pub count-more : (n : ℕ) → n < 18446744073709551615 → n + 1 ≡ onward n 1
@@ -177,14 +177,12 @@ one-line {out} {s} l {end} {next} {o} place w {r} e = record {
 }
 
 -- what answers the needs of `put_entry`
-pub entry-line : (v : Version) (s : Progress) {p l : Bytes} → p ≡ l → {out : Bytes} {put : LineWritten} {o : Bytes} → PutsLine v p out (s .next) put o
+pub entry-line : (v : Version) (s : Progress) {p l : Bytes} → p ≡ l → {out : Bytes} {put : LineWritten} {o : Bytes} → WroteEnded out (s .next) (houseLine v p) (ends 13 p) put o
     → {r : Progress} → r ≡ noted s (put .end) (put .next) → PutsEntry v l out s r o
-unfolding houseLine
 entry-line v s {p} {l} e {out} {put} {o} w {r} n = record {
   is = λ x.
-      let d = w .is (x .line) (ap (readRecord v) e ∙ x .read) (x .entry) in
-      let q : houseLine v l ≡ lineOf v (x .line) = rw (houseLine, x .read) in
-      rw q (one-line (lineOf v (x .line)) (d .place) (d .text) n);
+      let d = entry-ended v p (x .line) (ap (readRecord v) e ∙ x .read) (x .entry) w in
+      rw (entry-is v l (x .line) (x .read) (x .entry)) (one-line (lineOf v (x .line)) (d .0) (d .1) n);
 }
 
 -- what answers the needs of `put_plain`

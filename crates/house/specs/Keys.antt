@@ -10,7 +10,8 @@ use Rattle.rules.specs.Version.{Version}
 use Rattle.rules.specs.Shown.{kindIn}
 use Rattle.ids.specs.Clashes.{lineIn, prefixOf}
 use Rattle.house.specs.declared.progress.Progress.{Progress}
-use Rattle.house.specs.Writes.{WroteLines, houseLine, Readable}
+use Rattle.forms.specs.Lines.{houseLine}
+use Rattle.house.specs.Writes.{WroteLines, Readable}
 
 -- an entry of a map or a text; w is its first word
 abbrev pub isRecord : ℕ → Bool

@@ -8,13 +8,13 @@ use lib.Dec.{eqb, ltb}
 use lib.ListN.{length}
 use Rattle.values.specs.Bytes.{Bytes}
 use Rattle.values.specs.Written.{last, onward, Wrote}
-use Rattle.rules.specs.Answer.{Answer, ok, refuse}
+use Rattle.rules.specs.Answer.{ok}
 use Rattle.rules.specs.Sizes.{limits}
 use Rattle.rules.specs.Version.{Version}
 use Rattle.rules.specs.Lines.{writeLines}
 use Rattle.rules.specs.Record.{Record, readRecord}
 use Rattle.rules.specs.House.{tooLong}
-use Rattle.forms.specs.Lines.{lineOf, IsEntry}
+use Rattle.forms.specs.Lines.{IsEntry, houseLine}
 use Rattle.house.specs.declared.progress.Progress.{Progress}
 
 -- the first line that was too long
@@ -37,14 +37,6 @@ pub record WroteLines (old : Bytes) (s : Progress) (ls : List Bytes) (r : Progre
   pub text : Wrote old (s .next) (writeLines ls) (r .next) new
   pub count : r .lines ≡ onward (s .lines) (length ls)
   pub long : s .next + length (writeLines ls) ≤ last → s .lines + length ls ≤ last → longIn r ≡ orElse (longIn s) (tooLong (limits .line) (s .lines) (s .next) ls)
-
--- the form's line for a line of the header
-abbrev pub lineFor : Answer Record → Version → Bytes
-lineFor (ok x) v = lineOf v x
-lineFor (refuse n) v = []
-
-unfoldable pub houseLine : Version → Bytes → Bytes
-houseLine v l = lineFor (readRecord v l) v
 
 -- a line that is read as a map or a text
 pub record Readable (v : Version) (l : Bytes) : Type 0 where

@@ -4,13 +4,13 @@ use Rattle.forms.proofs.line.put_line.Statement.{statement}
 use Rattle.forms.proofs.line.put_line.Tie as tie
 
 put-record-requires : tie.Need-put-record-requires
-put-record-requires c κs = search needs
+put-record-requires c κs = search (line-put, needs)
 
 ends-with-cr-requires : tie.Need-ends-with-cr-requires
-ends-with-cr-requires c κs = search needs
+ends-with-cr-requires c κs = search (line-put, needs)
 
 end-line-requires : tie.Need-end-line-requires
-end-line-requires c κs = search needs
+end-line-requires c κs = search (line-put, needs)
 
 same-length : tie.Need-same-length
 same-length c = search (line-put, needs)

@@ -1,4 +1,4 @@
-use Rattle.forms.proofs.Lines.{records}
+use Rattle.forms.proofs.Lines.{version-left, refused-left, records}
 use borrow.Author.Needs.{needs}
 use Rattle.forms.proofs.line.put_record.Statement.{statement}
 use Rattle.forms.proofs.line.put_record.Tie as tie
@@ -31,7 +31,7 @@ enum-told-3 : tie.Need-enum-told-3
 enum-told-3 c = search (records, needs)
 
 returns-2 : tie.Need-returns-2
-returns-2 c = search (records, needs)
+returns-2 c = version-left _ _ (c .before .before .parse-record .ensures) (c .enum-told .given .1) (search needs) (search needs)
 
 same-length : tie.Need-same-length
 same-length c = search (records, needs)
@@ -46,7 +46,7 @@ returns-4 : tie.Need-returns-4
 returns-4 c = search (records, needs)
 
 returns-5 : tie.Need-returns-5
-returns-5 c = search (records, needs)
+returns-5 c = refused-left _ _ (c .before .before .parse-record .ensures) (c .enum-told3 .given .1) (search needs) (search needs)
 
 pub put-record-spec : {M : Type 1} → statement M
 put-record-spec =

@@ -4,7 +4,7 @@ use native.Mathlib.Omega.{arith}
 use mathlib.Core.Path.{_≡_, refl, sym, ap, _∙_}
 use mathlib.Core.Bool.{false}
 use mathlib.Core.List.{List, [], _∷_, _++_, append-assoc, append-nil}
-use lib.ListN.{length, getD, drop, take, length-drop, length-append, drop-of-length-le}
+use lib.ListN.{length, getD, drop, take, drop-of-length-le}
 use lib.Seq.{take-add, take-append-add, drop-drop}
 use borrow.Author.Tests.{eqb-true}
 use Rattle.values.specs.Bytes.{Bytes, is, any, before, from}
@@ -37,11 +37,6 @@ split-append (b ∷ x) r h = rw (split, or-l (is TAB b) _ h, split-append x r (o
 module _ (s : Bytes) (at : ℕ) {end : ℕ} (a : end ≡ at + length (before (is TAB) (drop at s))) where
   pub name-part : take (end - at) (drop at s) ≡ before (is TAB) (drop at s)
   name-part = rw a (text-here s at (before (is TAB) (drop at s)) (from (is TAB) (drop at s)) (sym (before-from (is TAB) (drop at s))) .0)
-
-  pub name-inside : at ≤ length s → end ≤ length s
-  name-inside h =
-      let n = sym (length-append (before (is TAB) (drop at s)) (from (is TAB) (drop at s))) ∙ ap length (before-from (is TAB) (drop at s)) ∙ length-drop at s in
-      omega arith
 
   split-at : split (drop at s) ≡ before (is TAB) (drop at s) ∷ following (drop end s)
   split-at = split-first (drop at s) ∙ ap (λ (r : Bytes). before (is TAB) (drop at s) ∷ following r) (from-at (is TAB) s at ∙ ap (λ (i : ℕ). drop i s) (sym a))

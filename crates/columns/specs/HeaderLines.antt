@@ -1,16 +1,17 @@
 -- What the code answers of a column line, and what it stores of it. Assumes nothing.
-use Prim.Native.Nat.{ℕ, _+_, _≤_, _<_}
+use Prim.Native.Nat.{ℕ, _+_, _%_}
 use mathlib.Core.Path.{_≡_}
 use mathlib.Core.Bool.{Bool, true, false, _&&_}
 use mathlib.Core.List.{List, [], _∷_}
 use lib.ListN.{length, drop}
 use lib.Seq.{sets}
+use lib.Dec.{leb, ltb}
 use Rattle.values.specs.Bytes.{Bytes}
 use Rattle.values.specs.Marks.{isMarked}
 use Rattle.rules.specs.Answer.{ok, refuse}
 use Rattle.rules.specs.Known.{isIn}
 use Rattle.rules.specs.Columns.{Columns, split, readColumns}
-use Rattle.rules.specs.Entry.{words, sampleEntries, columnEntries}
+use Rattle.rules.specs.Entry.{Entry, place}
 use Rattle.columns.specs.declared.header_line.ColumnsRead.{ColumnsRead}
 use Rattle.columns.specs.declared.header_line.ColumnsRead.the-variants as read
 
@@ -37,15 +38,30 @@ ended bs = butLast (split bs)
 unfoldable pub isRepeated : Bytes → Bytes → Bytes → Bool
 isRepeated bs ms name = isMarked ms 0 name && isIn name (ended bs)
 
--- the words of the names that stand from the place i of the line on
-abbrev pub nameWords : Bytes → ℕ → ℕ → List ℕ
-nameWords s start i = words (sampleEntries (start + i) (split (drop i s)))
+-- entries one after the other from the place `at` on, as far as there is room
+unfoldable pub putAll : List ℕ → ℕ → List Entry → List ℕ
+putAll t at [] = t
+putAll t at (e ∷ es) = elim (leb (at + 2) (length t)) [
+  | true ↦ putAll (sets t at (e .0 ∷ e .1 ∷ [])) (at + 2) es
+  | false ↦ t
+]
 
--- a line of 46 bytes or more has names, if it is good
-pub record SamplesWritten (s : Bytes) (start at : ℕ) (t t′ : List ℕ) : Type 0 where
-  pub none : length s < 46 → t′ ≡ t
-  pub named : 46 ≤ length s → at + length (nameWords s start 46) ≤ length t → start + length s < 1048576 → length s < 65536 → t′ ≡ sets t at (nameWords s start 46)
+-- the entry of a place and a length, of which only the lower bits are kept
+abbrev pub cutEntry : ℕ → ℕ → ℕ → Entry
+cutEntry kind start n = (place kind (start % 1048576) (n % 65536), 0)
 
-pub record ColumnsWritten (s : Bytes) (start at : ℕ) (t t′ : List ℕ) : Type 0 where
-  pub is : (c : Columns) → readColumns s ≡ ok c → at + length (words (columnEntries start s c)) ≤ length t → start + length s < 1048576 → length s < 65536
-      → t′ ≡ sets t at (words (columnEntries start s c))
+-- the names stand at the place `at`, tab-parted
+unfoldable pub cutNames : ℕ → List Bytes → List Entry
+cutNames at [] = []
+cutNames at (x ∷ xs) = cutEntry 10 at (length x) ∷ cutNames (at + length x + 1) xs
+
+-- the names stand from the place 46 of the line s on, if it is that long; none is put where it starts at a place that no header reaches
+unfoldable pub nameEntries : Bytes → ℕ → List Entry
+nameEntries s start = elim (ltb start 1048576 && leb 46 (length s)) [
+  | true ↦ cutNames (start + 46) (split (drop 46 s))
+  | false ↦ []
+]
+
+-- the table t with the entries of the line s, which stands at `start` in its header, from the place `at` on
+unfoldable pub columnsPut : Bytes → ℕ → ℕ → List ℕ → List ℕ
+columnsPut s start at t = putAll t at (cutEntry 9 start (length s) ∷ nameEntries s start)

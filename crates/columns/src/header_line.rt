@@ -7,7 +7,7 @@ ghost use mathlib.Core.Path.{_≡_};
 ghost use lib.ListN.{length, drop};
 ghost use Rattle.rules.specs.Known.{isIn};
 ghost use Rattle.rules.specs.Columns.{split, distinct};
-ghost use Rattle.columns.specs.HeaderLines.{HeaderRead, samplesRead, ended, isRepeated, SamplesWritten, ColumnsWritten};
+ghost use Rattle.columns.specs.HeaderLines.{HeaderRead, samplesRead, ended, isRepeated, putAll, nameEntries, columnsPut};
 
 // Where the fixed columns end, and where the first name stands: after these, FORMAT and two tabs.
 const FIXED_END: usize = 38;
@@ -97,7 +97,7 @@ pub fn parse_header(s: &[u8]) -> ColumnsRead
 
 // One entry for each name after FORMAT, as far as there is room. No header reaches 0x10_0000, so past it nothing is written.
 fn write_samples(s: &[u8], start: usize, at: usize, table: &mut [u64])
-    ensures { λ _. ⌜ SamplesWritten (now (s .entry)) start at (now (table .entry)) (now (table .exit)) ⌝ }
+    ensures { λ _. ⌜ now (table .exit) ≡ putAll (now (table .entry)) at (nameEntries (now (s .entry)) start) ⌝ }
 {
     if 0x10_0000 <= start {
         return;
@@ -120,9 +120,9 @@ fn write_samples(s: &[u8], start: usize, at: usize, table: &mut [u64])
     }
 }
 
-// The entry of the column line s, which stands at `start` in its header, and those of its samples.
+// The entry of the column line s, which stands at `start` in its header, and those of its samples, as far as there is room.
 pub fn write_columns(s: &[u8], start: usize, at: usize, table: &mut [u64])
-    ensures { λ _. ⌜ ColumnsWritten (now (s .entry)) start at (now (table .entry)) (now (table .exit)) ⌝ }
+    ensures { λ _. ⌜ now (table .exit) ≡ columnsPut (now (s .entry)) start at (now (table .entry)) ⌝ }
 {
     if !table::put_entry(table, at, word::place(9, start, s.len()), 0) {
         return;

@@ -36,8 +36,9 @@ use Rattle.entries.specs.Tables.{EntryPut}
 use Rattle.lines.specs.Lines.{LineIs}
 use Rattle.lines.specs.declared.line.Line.{Line}
 use Rattle.lines.proofs.Lines.{pieces-past, pieces-there}
-use Rattle.columns.specs.HeaderLines.{ColumnsWritten}
+use Rattle.columns.specs.HeaderLines.{columnsPut}
 use Rattle.columns.proofs.Answers.{columns-room}
+use Rattle.columns.proofs.Stores.{columns-put}
 use Rattle.ids.specs.Marks.{markAll, AllMarked}
 use Rattle.ids.proofs.Markings.{all-length, all-more}
 use Rattle.header.specs.Verdicts.{PhaseIs, Tabled, Says, New, Ended, Begun, LineJudged}
@@ -263,7 +264,7 @@ module _ (p : Parser) (l : Bytes) (next : ℕ) (v : Verdict) (t : List ℕ) wher
           line-full imposed h t₀ t p l next k here (g .ends) (omega (arith, entries-of g, div-half (length t)));
     }
 
-    pub columns-kept : n < length t / 2 - p .count → {t′ : List ℕ} → ColumnsWritten l (p .at) (2 * p .count) t t′
+    pub columns-kept : n < length t / 2 - p .count → {t′ : List ℕ} → t′ ≡ columnsPut l (p .at) (2 * p .count) t
         → Keeps p l next v t (partial.Next (record { phase = phase.Done f n; line = p .line + 1; at = next; count = p .count + 1 + n })) t′
     columns-kept d c = record {
       is = λ imposed h t₀ k here s.
@@ -271,7 +272,7 @@ module _ (p : Parser) (l : Bytes) (next : ℕ) (v : Verdict) (t : List ℕ) wher
           let m = entries-of g in
           let long = line-at imposed h t₀ t p l next k here (g .ends) in
           line-kept imposed h t₀ t p l next k here (g .ends) (omega (arith, m, div-half (length t)))
-          (c .is (g .c) (g .read) (omega (arith, m, words-count (columnEntries (p .at) l (g .c)), div-half (length t))) (omega (arith, long .inside, k .small)) (omega (arith, long .short)))
+          (c ∙ columns-put l (p .at) (g .c) (g .read) (omega (arith, long .inside, k .small)) (omega (arith, long .short)) (2 * p .count) t (omega (arith, m, words-count (columnEntries (p .at) l (g .c)), div-half (length t))))
           (phase.Done f n) (refl, g .count) tt (omega (arith, m));
     }
 

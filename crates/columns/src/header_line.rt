@@ -86,7 +86,7 @@ pub fn parse_header(s: &[u8]) -> ColumnsRead
     if !bytes::starts_with(rest, b"\tFORMAT\t") {
         return ColumnsRead::WrongColumn;
     }
-    // A short line has few names, and clearing more marks than they need would take longer than reading it.
+    // A short line has few names, and clearing more marks than they need costs more than it spares.
     if s.len() < 8192 {
         let mut marks = [0u8; 4096];
         return count_samples(s, &mut marks);

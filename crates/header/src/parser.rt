@@ -198,7 +198,7 @@ pub fn read(header: &[u8], imposed: FileFormatOption, table: &mut [u64]) -> Read
     ensures answer { λ r. ⌜ told r ≡ tells (reading limits (imposedOf imposed) (length (now (table .entry))) (now (header .entry))) ⌝ }
     ensures table { λ _. ⌜ now (table .exit) ≡ sets (now (table .entry)) 0 (words (reading limits (imposedOf imposed) (length (now (table .entry))) (now (header .entry)) .entries)) ⌝ }
 {
-    // A short header has few entries, and clearing more marks than they need would take longer than reading it.
+    // A short header has few entries, and clearing more marks than they need costs more than it spares.
     if header.len() < 65536 {
         let mut marks = [0u8; 4096];
         return read_lines(header, imposed, table, &mut marks);

@@ -9,10 +9,10 @@ use lib.Seq.{sets}
 use borrow.Author.Tests.{eq-eqb, ne-eqb}
 use Rattle.rules.specs.Sizes.{limits}
 use Rattle.rules.specs.Version.{Version, version}
-use Rattle.rules.specs.Entry.{words}
 use Rattle.rules.specs.Reading.{reading}
 use Rattle.rules.specs.House.{house}
-use Rattle.rules.specs.Shown.{Part, shownField}
+use Rattle.rules.specs.Shown.{Part}
+use Rattle.entries.specs.Tables.{room, stored as storedIn, shownField}
 use Rattle.records.specs.Refusals.{number}
 use Rattle.records.specs.declared.refusal.Refusal.{Refusal}
 use Rattle.records.specs.Formats.{versionOf}
@@ -72,8 +72,8 @@ module _ {imposed wanted : Option Version} (e : imposed ≡ wanted) (h : List �
   answers c d = ap (λ k. record { number = k; line = a .line; start = a .start; entries = a .entries }) c ∙ ap numbers d ∙ ap (λ i. answerOf (reading limits i room h)) e
 
 module _ {imposed wanted : Option Version} (e : imposed ≡ wanted) (h t : List ℕ) {t′ : List ℕ} where
-  pub stored : t′ ≡ sets t 0 (words (reading limits imposed (length t) h .entries)) → t′ ≡ sets t 0 (words (reading limits wanted (length t) h .entries))
-  stored s = s ∙ ap (λ i. sets t 0 (words (reading limits i (length t) h .entries))) e
+  pub stored : t′ ≡ storedIn t 0 (reading limits imposed (room t) h .entries) → t′ ≡ storedIn t 0 (reading limits wanted (room t) h .entries)
+  stored s = s ∙ ap (λ i. storedIn t 0 (reading limits i (room t) h .entries)) e
 
 abbrev form-numbers : ToldForm → VcfhForm
 form-numbers t = record { number = t .number; line = t .line; start = t .start; entries = t .entries; length = t .size }
@@ -87,8 +87,8 @@ module _ {imposed wanted : Option Version} (e : imposed ≡ wanted) (h : List �
       ∙ ap (λ i. formOf (reading limits i room h) (house limits i room space h)) e
 
 module _ {imposed wanted : Option Version} (e : imposed ≡ wanted) (h t o : List ℕ) {o′ : List ℕ} where
-  pub written : o′ ≡ sets o 0 (house limits imposed (length t) (length o) h .form) → o′ ≡ sets o 0 (house limits wanted (length t) (length o) h .form)
-  written s = s ∙ ap (λ i. sets o 0 (house limits i (length t) (length o) h .form)) e
+  pub written : o′ ≡ sets o 0 (house limits imposed (room t) (length o) h .form) → o′ ≡ sets o 0 (house limits wanted (room t) (length o) h .form)
+  written s = s ∙ ap (λ i. sets o 0 (house limits i (room t) (length o) h .form)) e
 
 module _ (o : Outcome) (x : Refusal) {n : ℕ} where
   pub refused-number : o ≡ outcome.Refused x → n ≡ number x → n ≡ outcomeNumber o

@@ -8,13 +8,11 @@ ghost use lib.ListN.{length};
 ghost use lib.Seq.{sets};
 ghost use Rattle.values.specs.Utf8.{isUtf8};
 ghost use Rattle.rules.specs.Sizes.{limits};
-ghost use Rattle.rules.specs.Entry.{words};
 ghost use Rattle.rules.specs.Version.{version};
-ghost use Rattle.rules.specs.Shown.{shownEntry, shownId, shownField};
-ghost use Rattle.rules.specs.Reading.{reading};
 ghost use Rattle.rules.specs.House.{house};
+ghost use Rattle.entries.specs.Tables.{room, stored, shownEntry, shownId, shownField};
 ghost use Rattle.header.specs.Verdicts.{imposedOf};
-ghost use Rattle.header.specs.Parsers.{outcomeNumber};
+ghost use Rattle.header.specs.Parsers.{outcomeNumber, readInto};
 ghost use Rattle.capi.specs.Answers.{flag, imposedBy, answerOf, formOf, partOf, partAs, Ordered};
 
 // Document 01's number, 0 if accepted; the line and its start; how many entries the table keeps.
@@ -101,8 +99,8 @@ pub extern "C" fn vcfh_read(
     minor: u32,
     table: &mut [u64],
 ) -> VcfhAnswer
-    ensures answer { λ r. ⌜ r ≡ answerOf (reading limits (imposedBy imposed major minor) (length (now (table .entry))) (now (header .entry))) ⌝ }
-    ensures table { λ _. ⌜ now (table .exit) ≡ sets (now (table .entry)) 0 (words (reading limits (imposedBy imposed major minor) (length (now (table .entry))) (now (header .entry)) .entries)) ⌝ }
+    ensures answer { λ r. ⌜ r ≡ answerOf (readInto limits (imposedBy imposed major minor) (now (table .entry)) (now (header .entry))) ⌝ }
+    ensures table { λ _. ⌜ now (table .exit) ≡ stored (now (table .entry)) 0 (readInto limits (imposedBy imposed major minor) (now (table .entry)) (now (header .entry)) .entries) ⌝ }
 {
     let version = imposed_by(imposed, major, minor);
     let answer = header::parser::read(header, version, table);
@@ -126,9 +124,9 @@ pub extern "C" fn vcfh_house(
     table: &mut [u64],
     out: &mut [u8],
 ) -> VcfhForm
-    ensures answer { λ r. ⌜ r ≡ formOf (reading limits (imposedBy imposed major minor) (length (now (table .entry))) (now (header .entry))) (house limits (imposedBy imposed major minor) (length (now (table .entry))) (length (now (out .entry))) (now (header .entry))) ⌝ }
-    ensures table { λ _. ⌜ now (table .exit) ≡ sets (now (table .entry)) 0 (words (reading limits (imposedBy imposed major minor) (length (now (table .entry))) (now (header .entry)) .entries)) ⌝ }
-    ensures output { λ _. ⌜ now (out .exit) ≡ sets (now (out .entry)) 0 (house limits (imposedBy imposed major minor) (length (now (table .entry))) (length (now (out .entry))) (now (header .entry)) .form) ⌝ }
+    ensures answer { λ r. ⌜ r ≡ formOf (readInto limits (imposedBy imposed major minor) (now (table .entry)) (now (header .entry))) (house limits (imposedBy imposed major minor) (room (now (table .entry))) (length (now (out .entry))) (now (header .entry))) ⌝ }
+    ensures table { λ _. ⌜ now (table .exit) ≡ stored (now (table .entry)) 0 (readInto limits (imposedBy imposed major minor) (now (table .entry)) (now (header .entry)) .entries) ⌝ }
+    ensures output { λ _. ⌜ now (out .exit) ≡ sets (now (out .entry)) 0 (house limits (imposedBy imposed major minor) (room (now (table .entry))) (length (now (out .entry))) (now (header .entry)) .form) ⌝ }
 {
     let version = imposed_by(imposed, major, minor);
     let answer = house::form::house_form(header, version, table, out);

@@ -1,14 +1,13 @@
 -- What callers go by: the answer of a column line, and the room that its entries take. Assumes nothing.
-use Prim.Native.Nat.{ℕ, _+_, _*_}
+use Prim.Native.Nat.{ℕ, _+_}
 use native.Mathlib.Omega.{arith}
-use mathlib.Core.Path.{_≡_, subst, _∙_}
+use mathlib.Core.Path.{_≡_, subst}
 use mathlib.Core.Bool.{Bool}
 use lib.ListN.{length}
 use Rattle.values.specs.Bytes.{Bytes}
 use Rattle.rules.specs.Answer.{ok, refuse}
 use Rattle.rules.specs.Columns.{Columns, readColumns}
-use Rattle.rules.specs.Entry.{samplesStart, columnEntries, words}
-use Rattle.rules.proofs.Shows.{words-count}
+use Rattle.rules.specs.Entry.{samplesStart, columnEntries}
 use Rattle.rules.proofs.Sound.{samples-count}
 use Rattle.columns.specs.declared.header_line.ColumnsRead.{ColumnsRead}
 use Rattle.columns.specs.declared.header_line.ColumnsRead.the-variants as read
@@ -27,6 +26,6 @@ module _ (s : Bytes) {r : ColumnsRead} (h : HeaderRead s r) where
   unfolding HeaderRead
   sample-twice e = subst (HeaderRead s) e h
 
-pub columns-room : (start : ℕ) (s : Bytes) (c : Columns) → length (words (columnEntries start s c)) ≡ 2 + 2 * length (c .samples)
+pub columns-room : (start : ℕ) (s : Bytes) (c : Columns) → length (columnEntries start s c) ≡ 1 + length (c .samples)
 unfolding columnEntries
-columns-room start s c = words-count (columnEntries start s c) ∙ omega (arith, samples-count (start + samplesStart) (c .samples))
+columns-room start s c = omega (arith, samples-count (start + samplesStart) (c .samples))

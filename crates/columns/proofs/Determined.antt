@@ -2,7 +2,6 @@
 use mathlib.Core.Path.{_≡_, refl}
 use Rattle.values.specs.Bytes.{Bytes}
 use Rattle.values.proofs.Tests.{never}
-use Rattle.rules.specs.Columns.{Columns}
 use Rattle.columns.specs.HeaderLines.{HeaderRead}
 use Rattle.columns.specs.declared.header_line.ColumnsRead.{ColumnsRead}
 use Rattle.columns.specs.declared.header_line.ColumnsRead.the-variants as read

@@ -13,6 +13,7 @@ use Rattle.values.proofs.Lists.{there, past, stands, before-none}
 use Rattle.values.proofs.Sames.{same-sound, same-sym}
 use Rattle.values.proofs.Markings.{mark-length, mark-own, mark-kept, sure}
 use Rattle.rules.specs.Known.{isIn}
+use Rattle.rules.specs.Entry.{sampleKind}
 use Rattle.rules.specs.Columns.{TAB, split, distinct}
 use Rattle.columns.specs.declared.header_line.ColumnsRead.the-variants as read
 use Rattle.columns.specs.HeaderLines.{samplesRead, ended, isRepeated}
@@ -48,7 +49,7 @@ name-less s at a h = omega arith
 pub ruleset looks = (look-all, names-ended, name-found, name-next, name-less)
 
 -- q is what the marks answered
-module _ (names ms name : Bytes) {q : Bool} (e : q ≡ isMarked ms 0 name) where
+module _ (names ms name : Bytes) {q : Bool} (e : q ≡ isMarked ms sampleKind name) where
   pub name-unmarked : not q ≡ true → false ≡ isRepeated names ms name
   unfolding isRepeated
   name-unmarked n = rw (← e, not-true q n)
@@ -96,7 +97,7 @@ pub record Counting (s ms₀ : Bytes) (at n : ℕ) (ms : Bytes) : Type 0 where
   pub count : length names ≡ n
   pub stand : (t : Bytes) → split (take (at - 46) (drop 46 s) ++ t) ≡ names ++ split t
   pub fresh : distinct names ≡ true
-  pub marked : (x : Bytes) → isIn x names ≡ true → isMarked ms 0 x ≡ true
+  pub marked : (x : Bytes) → isIn x names ≡ true → isMarked ms sampleKind x ≡ true
 
 pub count-all : (s ms : Bytes) → Counting s ms 46 0 ms
 unfolding distinct isIn
@@ -135,7 +136,7 @@ module _ {s ms₀ : Bytes} {at n : ℕ} {ms : Bytes} (g : Counting s ms₀ at n 
       met : q ≡ isIn here (g .names)
       unfolding isRepeated
       met = c ∙ rw (is-here, d, ended-names (take (at - 46) (drop 46 s)) (g .names) (g .stand))
-          (sure (isMarked ms 0 here) (isIn here (g .names)) (g .marked here))
+          (sure (isMarked ms sampleKind here) (isIn here (g .names)) (g .marked here))
 
       pub count-twice : q ≡ true → read.DuplicateSample ≡ samplesRead (distinct (split (drop 46 s))) (length (split (drop 46 s)))
       count-twice e = elim (stands s end) [
@@ -153,22 +154,22 @@ module _ {s ms₀ : Bytes} {at n : ℕ} {ms : Bytes} (g : Counting s ms₀ at n 
         pub count-last : length s ≤ end → read.Columns true (n + 1) ≡ samplesRead (distinct (split (drop 46 s))) (length (split (drop 46 s)))
         count-last h = rw (all, split-last s at a h, more, longer)
 
-        still : (x : Bytes) → isIn x (g .names ++ here ∷ []) ≡ true → isMarked (mark ms 0 here) 0 x ≡ true
+        still : (x : Bytes) → isIn x (g .names ++ here ∷ []) ≡ true → isMarked (mark ms sampleKind here) sampleKind x ≡ true
         unfolding isIn
         still x i = elim (test (isIn x (g .names))) [
-          | pass f ↦ mark-kept ms 0 here 0 x (g .marked x f)
+          | pass f ↦ mark-kept ms sampleKind here sampleKind x (g .marked x f)
           | fail f ↦ elim (test (same here x)) [
-            | pass k ↦ rw (← same-sound here x k) (mark-own ms 0 here)
+            | pass k ↦ rw (← same-sound here x k) (mark-own ms sampleKind here)
             | fail k ↦ both i (in-append x (g .names) (here ∷ []) ∙ rw (f, k))
           ]
         ]
 
-        pub count-next : end < length s → {ms′ : Bytes} → ms′ ≡ mark ms 0 name → Counting s ms₀ (end + 1) (n + 1) ms′
+        pub count-next : end < length s → {ms′ : Bytes} → ms′ ≡ mark ms sampleKind name → Counting s ms₀ (end + 1) (n + 1) ms′
         count-next h m = record {
           begun = omega (arith, g .begun);
           few = omega (arith, g .few);
           inside = omega (arith, g .few);
-          long = ap length m ∙ mark-length ms 0 name ∙ g .long;
+          long = ap length m ∙ mark-length ms sampleKind name ∙ g .long;
           names = g .names ++ here ∷ [];
           count = longer;
           stand = λ t. ap (λ (x : Bytes). split (x ++ t)) (part-tab s at a 46 (g .begun) h)

@@ -1,17 +1,17 @@
 -- What the code answers of a column line, and what it stores of it. Assumes nothing.
-use Prim.Native.Nat.{ℕ, _+_, _%_}
+use Prim.Native.Nat.{ℕ, _+_}
 use mathlib.Core.Path.{_≡_}
 use mathlib.Core.Bool.{Bool, true, false, _&&_}
 use mathlib.Core.List.{List, [], _∷_}
 use lib.ListN.{length, drop}
-use lib.Seq.{sets}
-use lib.Dec.{leb, ltb}
+use lib.Dec.{leb}
 use Rattle.values.specs.Bytes.{Bytes}
 use Rattle.values.specs.Marks.{isMarked}
 use Rattle.rules.specs.Answer.{ok, refuse}
 use Rattle.rules.specs.Known.{isIn}
 use Rattle.rules.specs.Columns.{Columns, split, readColumns}
-use Rattle.rules.specs.Entry.{Entry, place}
+use Rattle.rules.specs.Entry.{Entry, columnsKind, sampleKind, plainEntry, sampleEntries}
+use Rattle.entries.specs.Tables.{putAll}
 use Rattle.columns.specs.declared.header_line.ColumnsRead.{ColumnsRead}
 use Rattle.columns.specs.declared.header_line.ColumnsRead.the-variants as read
 
@@ -36,32 +36,12 @@ ended bs = butLast (split bs)
 
 -- a name is not looked for where the marks tell that it isn't there
 unfoldable pub isRepeated : Bytes → Bytes → Bytes → Bool
-isRepeated bs ms name = isMarked ms 0 name && isIn name (ended bs)
+isRepeated bs ms name = isMarked ms sampleKind name && isIn name (ended bs)
 
--- entries one after the other from the place `at` on, as far as there is room
-unfoldable pub putAll : List ℕ → ℕ → List Entry → List ℕ
-putAll t at [] = t
-putAll t at (e ∷ es) = elim (leb (at + 2) (length t)) [
-  | true ↦ putAll (sets t at (e .0 ∷ e .1 ∷ [])) (at + 2) es
-  | false ↦ t
-]
-
--- the entry of a place and a length, of which only the lower bits are kept
-abbrev pub cutEntry : ℕ → ℕ → ℕ → Entry
-cutEntry kind start n = (place kind (start % 1048576) (n % 65536), 0)
-
--- the names stand at the place `at`, tab-parted
-unfoldable pub cutNames : ℕ → List Bytes → List Entry
-cutNames at [] = []
-cutNames at (x ∷ xs) = cutEntry 10 at (length x) ∷ cutNames (at + length x + 1) xs
-
--- the names stand from the place 46 of the line s on, if it is that long; none is put where it starts at a place that no header reaches
+-- the names stand from the place 46 of the line s on, if it is that long
 unfoldable pub nameEntries : Bytes → ℕ → List Entry
-nameEntries s start = elim (ltb start 1048576 && leb 46 (length s)) [
-  | true ↦ cutNames (start + 46) (split (drop 46 s))
-  | false ↦ []
-]
+nameEntries s start = elim (leb 46 (length s)) [ true ↦ sampleEntries (start + 46) (split (drop 46 s)) | false ↦ [] ]
 
--- the table t with the entries of the line s, which stands at `start` in its header, from the place `at` on
+-- the table t with the entries of the line s, which stands at `start` in its header, from number n on
 unfoldable pub columnsPut : Bytes → ℕ → ℕ → List ℕ → List ℕ
-columnsPut s start at t = putAll t at (cutEntry 9 start (length s) ∷ nameEntries s start)
+columnsPut s start n t = putAll t n (plainEntry columnsKind start (length s) ∷ nameEntries s start)

@@ -1,13 +1,18 @@
 // The column line: its fixed columns and its sample names, and their entries.
+use entries::entry::Entry;
+use entries::kind;
 use entries::table;
-use entries::word;
 use values::bytes;
 use values::marks;
 ghost use mathlib.Core.Path.{_≡_};
 ghost use lib.ListN.{length, drop};
+ghost use Rattle.values.specs.Marks.{mark};
+ghost use Rattle.values.proofs.Fields.{part};
 ghost use Rattle.rules.specs.Known.{isIn};
 ghost use Rattle.rules.specs.Columns.{split, distinct};
-ghost use Rattle.columns.specs.HeaderLines.{HeaderRead, samplesRead, ended, isRepeated, putAll, nameEntries, columnsPut};
+ghost use Rattle.rules.specs.Entry.{sampleKind};
+ghost use Rattle.entries.specs.Tables.{putAll};
+ghost use Rattle.columns.specs.HeaderLines.{HeaderRead, samplesRead, ended, isRepeated, nameEntries, columnsPut};
 
 // Where the fixed columns end, and where the first name stands: after these, FORMAT and two tabs.
 const FIXED_END: usize = 38;
@@ -38,17 +43,18 @@ fn is_among(names: &[u8], name: &[u8]) -> bool
     }
 }
 
-// The same, where the marks don't tell it already.
-fn is_repeated(names: &[u8], marks: &[u8], name: &[u8]) -> bool
-    ensures { λ r. ⌜ r ≡ isRepeated (now (names .entry)) (now (marks .entry)) (now (name .entry)) ⌝ }
+// The same, where the marks don't tell it already; the name is marked.
+fn is_repeated(names: &[u8], marks: &mut [u8], name: &[u8]) -> bool
+    ensures repeated { λ r. ⌜ r ≡ isRepeated (now (names .entry)) (now (marks .entry)) (now (name .entry)) ⌝ }
+    ensures marks { λ _. ⌜ now (marks .exit) ≡ mark (now (marks .entry)) sampleKind (now (name .entry)) ⌝ }
 {
-    if !marks::is_marked(marks, 0, name, false) {
+    if !marks::meet(marks, kind::SAMPLE, name, false) {
         return false;
     }
     is_among(names, name)
 }
 
-// The names after FORMAT, each held against those before it and then marked, whatever stands in `marks` before.
+// The names after FORMAT, each held against those before it, whatever stands in `marks` before.
 fn count_samples(s: &[u8], marks: &mut [u8]) -> ColumnsRead
     ensures { λ r. ⌜ r ≡ samplesRead (distinct (split (drop 46 (now (s .entry))))) (length (split (drop 46 (now (s .entry))))) ⌝ }
 {
@@ -64,7 +70,6 @@ fn count_samples(s: &[u8], marks: &mut [u8]) -> ColumnsRead
         if s.len() <= end {
             return ColumnsRead::Columns(true, n);
         }
-        marks::mark(marks, 0, name, false);
         at = end + 1;
     }
 }
@@ -95,37 +100,41 @@ pub fn parse_header(s: &[u8]) -> ColumnsRead
     count_samples(s, &mut marks)
 }
 
-// One entry for each name after FORMAT, as far as there is room. No header reaches 0x10_0000, so past it nothing is written.
-fn write_samples(s: &[u8], start: usize, at: usize, table: &mut [u64])
-    ensures { λ _. ⌜ now (table .exit) ≡ putAll (now (table .entry)) at (nameEntries (now (s .entry)) start) ⌝ }
+// One entry for each name after FORMAT, from number n on, as far as there is room.
+fn write_samples(h: &[u8], start: usize, end: usize, n: usize, table: &mut [u64])
+    ensures { λ _. ⌜ now (table .exit) ≡ putAll (now (table .entry)) n (nameEntries (part (now (h .entry)) start end) start) ⌝ }
 {
-    if 0x10_0000 <= start {
-        return;
-    }
-    if s.len() < NAMES_START {
+    let line = bytes::part(h, start, end);
+    if line.len() < NAMES_START {
         return;
     }
     let mut from: usize = NAMES_START;
-    let mut k = at;
+    let mut k = n;
     loop {
-        let end = bytes::find(s, from, b'\t');
-        if !table::put_entry(table, k, word::place(10, start + from, end - from), 0) {
+        let tab = bytes::find(line, from, b'\t');
+        if !table::put(
+            table,
+            k,
+            Entry::plain(kind::SAMPLE, start + from, tab - from),
+        ) {
             return;
         }
-        if s.len() <= end {
+        if line.len() <= tab {
             return;
         }
-        from = end + 1;
-        k += 2;
+        from = tab + 1;
+        k += 1;
     }
 }
 
-// The entry of the column line s, which stands at `start` in its header, and those of its samples, as far as there is room.
-pub fn write_columns(s: &[u8], start: usize, at: usize, table: &mut [u64])
-    ensures { λ _. ⌜ now (table .exit) ≡ columnsPut (now (s .entry)) start at (now (table .entry)) ⌝ }
+// The entry of the column line that stands from `start` to `end`, from number n on, and those of its samples, as far as there
+// is room.
+pub fn write_columns(h: &[u8], start: usize, end: usize, n: usize, table: &mut [u64])
+    ensures { λ _. ⌜ now (table .exit) ≡ columnsPut (part (now (h .entry)) start end) start n (now (table .entry)) ⌝ }
 {
-    if !table::put_entry(table, at, word::place(9, start, s.len()), 0) {
+    let line = bytes::part(h, start, end);
+    if !table::put(table, n, Entry::plain(kind::COLUMNS, start, line.len())) {
         return;
     }
-    write_samples(s, start, at + 2, table);
+    write_samples(h, start, end, n + 1, table);
 }

@@ -1,200 +1,224 @@
 -- The calls on an entry number: the ways of the code's tests and answers, on plain values. Assumes nothing.
-use Prim.Native.Nat.{ℕ, _+_, _-_, _*_, _/_, _%_, _≤_, _<_}
+use Prim.Native.Nat.{ℕ, _+_, _-_, _≤_, _<_}
 use native.Mathlib.Omega.{arith}
 use mathlib.Core.Path.{_≡_, refl, sym, ap, ap₂, _∙_}
-use mathlib.Core.Bool.{Bool, true, false, not, _||_, _&&_, and-assoc}
+use mathlib.Core.Bool.{Bool, true, false, not, _||_, _&&_}
 use mathlib.Core.List.{List}
 use mathlib.Core.Option.{Option, none, some}
-use lib.Dec.{eqb, leb, ltb}
-use lib.ListN.{length, getD, take, drop}
-use borrow.Author.Tests.{eq-eqb, ne-eqb, le-leb, lt-leb, lt-ltb, le-ltb, leb-true}
+use lib.Dec.{eqb, leb}
+use lib.ListN.{length, take, drop, length-drop}
+use lib.Seq.{take-all, drop-drop}
+use borrow.Author.Tests.{eq-eqb, ne-eqb, le-leb, lt-leb, eqb-true, leb-true, leb-false}
 use Rattle.values.specs.Bytes.{Bytes}
 use Rattle.values.proofs.Tests.{pass, fail, test, and-l, and-r, not-true, not-false, never}
 use Rattle.values.proofs.Lists.{some-is, none-not}
-use Rattle.rules.specs.Shown.{bits, kindIn, startIn, lengthIn, offsetIn, idLengthIn, tagIn, Part as RulePart, hasId, wellFormed, entryAt, shownEntry, idPart, shownId}
+use Rattle.rules.specs.Entry.{Entry as RuleEntry}
+use Rattle.rules.specs.Shown.{Part as RulePart, hasId, saysNoId, wellFormed, idIn, idPart}
+use Rattle.entries.specs.Tables.{entryIn, wordsClear, entryAt, shownEntry, shownId}
+use Rattle.entries.specs.Values.{entryOf}
+use Rattle.entries.specs.declared.entry.Entry.{Entry}
 use Rattle.entries.specs.declared.shown.Shown.{Shown}
 use Rattle.entries.specs.declared.shown.Shown.the-variants.{Part, Refused}
 use Rattle.entries.specs.declared.shown.EntryRead.{EntryRead}
-use Rattle.entries.specs.declared.shown.EntryRead.the-variants.{Entry, Missing}
-use Rattle.entries.specs.Shown.{shownAs, entryAs, bytesOf, Inside}
+use Rattle.entries.specs.declared.shown.EntryRead.the-variants as read
+use Rattle.entries.specs.Shown.{shownAs, entryMeant, bytesOf, Inside}
 
--- The tests of the words
+-- The tests of an entry
 
-module _ (a b : ℕ) {k m : ℕ} (e : k ≡ m) where
-  pub below : k < a → false ≡ (leb a m && leb m b)
-  below h = rw (← e, lt-leb a k h)
+module _ (a b k : ℕ) where
+  pub below : k < a → false ≡ (leb a k && leb k b)
+  below h = rw (lt-leb a k h)
 
-  pub not-below : a ≤ k → leb k b ≡ (leb a m && leb m b)
-  not-below h = rw (← e, le-leb a k h)
+  pub not-below : a ≤ k → leb k b ≡ (leb a k && leb k b)
+  not-below h = rw (le-leb a k h)
 
 pub ruleset ranges = (below, not-below)
 
-module _ (w x : ℕ) where
-  low-bits : bits 0 24 w ≡ w % 16777216
-  low-bits = omega arith
+module _ (k t : ℕ) where
+  pub untagged : t ≡ 0 → true ≡ (eqb t 0 || (eqb k 7 && leb t 2))
+  untagged e = rw (eq-eqb t 0 e)
 
-  pub one-set : (w % 16777216 ≡ 0 → ⊥) → false ≡ (eqb (bits 0 24 w) 0 && eqb (bits 0 29 x) 0)
-  one-set n = rw (low-bits, ne-eqb (w % 16777216) 0 n)
+  module _ (n : t ≡ 0 → ⊥) where
+    pub tagged-else : (k ≡ 7 → ⊥) → false ≡ (eqb t 0 || (eqb k 7 && leb t 2))
+    tagged-else m = rw (ne-eqb t 0 n, ne-eqb k 7 m)
 
-  pub one-clear : w % 16777216 ≡ 0 → eqb (x % 536870912) 0 ≡ (eqb (bits 0 24 w) 0 && eqb (bits 0 29 x) 0)
-  one-clear e = let f : bits 0 29 x ≡ x % 536870912 = omega arith in rw (low-bits, e, f)
-
-pub ruleset zeros = (one-set, one-clear)
-
-module _ (w x : ℕ) {t : ℕ} (a : t ≡ tagIn x) where
-  pub untagged : t ≡ 0 → true ≡ (eqb (tagIn x) 0 || (eqb (kindIn w) 7 && leb (tagIn x) 2))
-  untagged e = rw (← a, eq-eqb t 0 e)
-
-  module _ (n : t ≡ 0 → ⊥) {k : ℕ} (b : k ≡ kindIn w) where
-    pub tagged-else : (k ≡ 7 → ⊥) → false ≡ (eqb (tagIn x) 0 || (eqb (kindIn w) 7 && leb (tagIn x) 2))
-    tagged-else m = rw (← a, ne-eqb t 0 n, ← b, ne-eqb k 7 m)
-
-    pub tagged : k ≡ 7 → leb t 2 ≡ (eqb (tagIn x) 0 || (eqb (kindIn w) 7 && leb (tagIn x) 2))
-    tagged e = rw (← a, ne-eqb t 0 n, ← b, eq-eqb k 7 e)
+    pub tagged : k ≡ 7 → leb t 2 ≡ (eqb t 0 || (eqb k 7 && leb t 2))
+    tagged e = rw (ne-eqb t 0 n, eq-eqb k 7 e)
 
 pub ruleset tags = (untagged, tagged-else, tagged)
 
-module _ (w x : ℕ) {k : ℕ} (a : k ≡ kindIn w) {q : Bool} (b : q ≡ hasId k) where
-  pub id-due : q ≡ true → true ≡ (hasId (kindIn w) || eqb x 0)
-  id-due e = rw (← a, ← b, e)
+module _ (e : Entry) where
+  pub offset-said : (e .offset ≡ 0 → ⊥) → false ≡ saysNoId (entryOf e)
+  unfolding saysNoId
+  offset-said n = rw (ne-eqb (e .offset) 0 n)
 
-  pub no-id-due : q ≡ false → eqb x 0 ≡ (hasId (kindIn w) || eqb x 0)
-  no-id-due e = rw (← a, ← b, e)
+  module _ (o : e .offset ≡ 0) where
+    pub length-said : (e .«id_length» ≡ 0 → ⊥) → false ≡ saysNoId (entryOf e)
+    unfolding saysNoId
+    length-said n = rw (eq-eqb (e .offset) 0 o, ne-eqb (e .«id_length») 0 n)
+
+    module _ (l : e .«id_length» ≡ 0) where
+      pub quotes-said : e .quoted ≡ true → false ≡ saysNoId (entryOf e)
+      unfolding saysNoId
+      quotes-said q = rw (eq-eqb (e .offset) 0 o, eq-eqb (e .«id_length») 0 l, q)
+
+      pub tag-said : e .quoted ≡ false → eqb (e .tag) 0 ≡ saysNoId (entryOf e)
+      unfolding saysNoId
+      tag-said q = rw (eq-eqb (e .offset) 0 o, eq-eqb (e .«id_length») 0 l, q)
+
+pub ruleset said = (offset-said, length-said, quotes-said, tag-said)
+
+module _ (k : ℕ) (s : Bool) {q : Bool} (b : q ≡ hasId k) where
+  pub id-due : q ≡ true → true ≡ (hasId k || s)
+  id-due f = rw (← b, f)
+
+  pub no-id-due : q ≡ false → {r : Bool} → r ≡ s → r ≡ (hasId k || s)
+  no-id-due f a = rw (← b, f) a
 
 pub ruleset dues = (id-due, no-id-due)
 
-module _ (size w x : ℕ) {l s : ℕ} (a : l ≡ lengthIn w) (b : s ≡ startIn w) where
-  pub line-outside : size < s + l → false ≡ (leb (startIn w + lengthIn w) size && leb (offsetIn x + idLengthIn x) (lengthIn w))
-  line-outside h = rw (← a, ← b, lt-leb (s + l) size h)
+module _ (size start len : ℕ) where
+  pub begins-outside : size < start → false ≡ leb (start + len) size
+  begins-outside h = sym (lt-leb (start + len) size (omega arith))
 
-  pub line-inside : s + l ≤ size → {o i : ℕ} → o ≡ offsetIn x → i ≡ idLengthIn x
-      → leb (o + i) l ≡ (leb (startIn w + lengthIn w) size && leb (offsetIn x + idLengthIn x) (lengthIn w))
-  line-inside h c d = rw (← a, ← b, ← c, ← d, le-leb (s + l) size h)
+  pub begins-inside : start ≤ size → leb len (size - start) ≡ leb (start + len) size
+  begins-inside h = elim (test (leb len (size - start))) [
+    | pass e ↦ e ∙ sym (le-leb (start + len) size (omega (arith, leb-true len (size - start) e)))
+    | fail e ↦ e ∙ sym (lt-leb (start + len) size (omega (arith, leb-false len (size - start) e)))
+  ]
 
-pub ruleset insides = (line-outside, line-inside)
+pub ruleset insides = (begins-outside, begins-inside)
 
--- the tests of a well-formed entry, as they are grouped in the code
-grouped : (a b c d e f g h : Bool) → (a && b && c && d && e && f && g && h) ≡ ((a && b) && ((c && d) && (e && (f && (g && h)))))
-grouped a b c d e f g h = simp and-assoc
-
-module _ (size w x : ℕ) {p : Bool} (a : p ≡ (leb 1 (kindIn w) && leb (kindIn w) 10)) where
-  formed : wellFormed size w x ≡ (p && ((eqb (bits 0 24 w) 0 && eqb (bits 0 29 x) 0) && ((eqb (tagIn x) 0 || (eqb (kindIn w) 7 && leb (tagIn x) 2))
-      && ((hasId (kindIn w) || eqb x 0) && (leb (startIn w + lengthIn w) size && leb (offsetIn x + idLengthIn x) (lengthIn w))))))
+module _ (size : ℕ) (e : RuleEntry) {p : Bool} (a : p ≡ (leb 1 (e .kind) && leb (e .kind) 10)) where
+  pub wrong-kind : not p ≡ true → false ≡ wellFormed size e
   unfolding wellFormed
-  formed =
-      grouped (leb 1 (kindIn w)) (leb (kindIn w) 10) (eqb (bits 0 24 w) 0) (eqb (bits 0 29 x) 0) (eqb (tagIn x) 0 || (eqb (kindIn w) 7 && leb (tagIn x) 2))
-      (hasId (kindIn w) || eqb x 0) (leb (startIn w + lengthIn w) size) (leb (offsetIn x + idLengthIn x) (lengthIn w))
-      ∙ rw (← a)
+  wrong-kind f = rw (← a, not-true p f)
 
-  pub wrong-kind : not p ≡ true → false ≡ wellFormed size w x
-  wrong-kind e = rw (formed, not-true p e)
+  module _ (on : not p ≡ false) {r : Bool} (c : r ≡ (eqb (e .tag) 0 || (eqb (e .kind) 7 && leb (e .tag) 2))) where
+    pub wrong-tag : not r ≡ true → false ≡ wellFormed size e
+    unfolding wellFormed
+    wrong-tag f = rw (← a, not-false p on, ← c, not-true r f)
 
-  module _ (on : not p ≡ false) {q : Bool} (b : q ≡ (eqb (bits 0 24 w) 0 && eqb (bits 0 29 x) 0)) where
-    pub wrong-bits : not q ≡ true → false ≡ wellFormed size w x
-    wrong-bits e = rw (formed, not-false p on, ← b, not-true q e)
+    module _ (rn : not r ≡ false) {t : Bool} (d : t ≡ (hasId (e .kind) || saysNoId e)) where
+      pub wrong-id : not t ≡ true → false ≡ wellFormed size e
+      unfolding wellFormed
+      wrong-id f = rw (← a, not-false p on, ← c, not-false r rn, ← d, not-true t f)
 
-    module _ (qn : not q ≡ false) {r : Bool} (c : r ≡ (eqb (tagIn x) 0 || (eqb (kindIn w) 7 && leb (tagIn x) 2))) where
-      pub wrong-tag : not r ≡ true → false ≡ wellFormed size w x
-      wrong-tag e = rw (formed, not-false p on, ← b, not-false q qn, ← c, not-true r e)
+      module _ (tn : not t ≡ false) {u : Bool} (g : u ≡ leb (e .start + e .length) size) where
+        pub line-outside : not u ≡ true → false ≡ wellFormed size e
+        unfolding wellFormed
+        line-outside f = rw (← a, not-false p on, ← c, not-false r rn, ← d, not-false t tn, ← g, not-true u f)
 
-      module _ (rn : not r ≡ false) {t : Bool} (d : t ≡ (hasId (kindIn w) || eqb x 0)) where
-        pub wrong-id : not t ≡ true → false ≡ wellFormed size w x
-        wrong-id e = rw (formed, not-false p on, ← b, not-false q qn, ← c, not-false r rn, ← d, not-true t e)
+        pub line-inside : not u ≡ false → {w : Bool} → w ≡ leb (e .offset + e .idLength) (e .length) → w ≡ wellFormed size e
+        unfolding wellFormed
+        line-inside f b = rw (← a, not-false p on, ← c, not-false r rn, ← d, not-false t tn, ← g, not-false u f) b
 
-        pub well-inside : not t ≡ false → {u : Bool} → u ≡ (leb (startIn w + lengthIn w) size && leb (offsetIn x + idLengthIn x) (lengthIn w)) → u ≡ wellFormed size w x
-        well-inside e g = rw (formed, not-false p on, ← b, not-false q qn, ← c, not-false r rn, ← d, not-false t e) g
+pub ruleset wells = (wrong-kind, wrong-tag, wrong-id, line-outside, line-inside)
 
-pub ruleset wells = (wrong-kind, wrong-bits, wrong-tag, wrong-id, well-inside)
+-- The parts
+
+pub id-text : (h : Bytes) (e : RuleEntry) {p r : Bytes} → p ≡ take (length h) (drop (e .start) h) → r ≡ take (e .idLength) (drop (e .offset) p) → r ≡ idIn h e
+unfolding idIn
+id-text h e a b = b ∙ rw (a, take-all (length h) (drop (e .start) h) (simp length-drop (omega arith)), drop-drop (e .offset) (e .start) h)
 
 -- The entry
 
-module _ (h : Bytes) (table : List ℕ) (n : ℕ) where
-  pub out-of-table : length table / 2 ≤ n → Missing ≡ entryAs (entryAt h table n)
+module _ (h : Bytes) (table : List ℕ) (n : ℕ) {p : Bool} (a : p ≡ wordsClear table n) where
+  pub entry-unclear : not p ≡ true → none ≡ entryAt h table n
   unfolding entryAt
-  out-of-table l = rw (entryAt, le-ltb (2 * n + 1) (length table) (omega arith))
+  entry-unclear f = rw (entryAt, ← a, not-true p f)
 
-  module _ (l : n < length table / 2) {q : Bool} (a : q ≡ wellFormed (length h) (getD table (2 * n) 0) (getD table (2 * n + 1) 0)) where
-    inside : ltb (2 * n + 1) (length table) ≡ true
-    inside = lt-ltb (2 * n + 1) (length table) (omega arith)
-
-    pub entry-formed : q ≡ true → Entry (getD table (2 * n) 0) (getD table (2 * n + 1) 0) ≡ entryAs (entryAt h table n)
+  module _ (on : not p ≡ false) {e : RuleEntry} (c : e ≡ entryIn table n) {q : Bool} (b : q ≡ wellFormed (length h) e) where
+    pub entry-formed : q ≡ true → some e ≡ entryAt h table n
     unfolding entryAt
-    entry-formed e = rw (entryAt, inside, ← a, e)
+    entry-formed f = rw (entryAt, ← a, not-false p on, ← c, ← b, f) (ap some c)
 
-    pub entry-malformed : q ≡ false → Missing ≡ entryAs (entryAt h table n)
+    pub entry-malformed : q ≡ false → none ≡ entryAt h table n
     unfolding entryAt
-    entry-malformed e = rw (entryAt, inside, ← a, e)
+    entry-malformed f = rw (entryAt, ← a, not-false p on, ← c, ← b, f)
 
-pub ruleset entries = (out-of-table, entry-formed, entry-malformed)
+pub ruleset entries = (entry-unclear, entry-formed, entry-malformed)
 
--- the entry behind an answer
-pub entry-is : (o : Option (ℕ × ℕ)) {w x : ℕ} → Entry w x ≡ entryAs o → o ≡ some (w, x)
-entry-is none e = never cc
-entry-is (some p) {w} {x} e = let a : w ≡ p .0 = cc in let b : x ≡ p .1 = cc in rw (a, b)
+-- what a well-formed entry is
+pub record Formed (size : ℕ) (e : RuleEntry) : Type 0 where
+  pub low : 1 ≤ e .kind
+  pub high : e .kind ≤ 10
+  pub tag : e .tag ≤ 2
+  pub line : e .start + e .length ≤ size
+  pub id : e .offset + e .idLength ≤ e .length
 
-pub entry-none : (o : Option (ℕ × ℕ)) → Missing ≡ entryAs o → o ≡ none
-entry-none none e = refl
-entry-none (some p) e = never cc
+tag-two : (k t : ℕ) → eqb t 0 || (eqb k 7 && leb t 2) ≡ true → t ≤ 2
+tag-two k t e = elim (test (eqb t 0)) [
+  | pass f ↦ omega (arith, eqb-true t 0 f)
+  | fail f ↦ leb-true t 2 (and-r (eqb k 7) (leb t 2) (rw f at e))
+]
 
--- a well-formed line lies in the header, and its ID in the line
-formed-inside : (size w x : ℕ) → wellFormed size w x ≡ true → (startIn w + lengthIn w ≤ size) × (offsetIn x + idLengthIn x ≤ lengthIn w)
+pub formed : (size : ℕ) (e : RuleEntry) → wellFormed size e ≡ true → Formed size e
 unfolding wellFormed
-formed-inside size w x e =
-    let d = last-two (
-    leb 1 (kindIn w) && leb (kindIn w) 10
-    && eqb (bits 0 24 w) 0 && eqb (bits 0 29 x) 0
-    && (eqb (tagIn x) 0 || (eqb (kindIn w) 7 && leb (tagIn x) 2))
-    && (hasId (kindIn w) || eqb x 0)
-    ) (leb (startIn w + lengthIn w) size) (leb (offsetIn x + idLengthIn x) (lengthIn w)) e in
-    (leb-true (startIn w + lengthIn w) size (d .0), leb-true (offsetIn x + idLengthIn x) (lengthIn w) (d .1))
-  where
-    last-two : (p g h : Bool) → p && g && h ≡ true → (g ≡ true) × (h ≡ true)
-    last-two p g h e = (and-r p g (and-l (p && g) h e), and-r (p && g) h e)
+formed size e w =
+    let ks = leb 1 (e .kind) && leb (e .kind) 10 in
+    let ts = eqb (e .tag) 0 || (eqb (e .kind) 7 && leb (e .tag) 2) in
+    let is = hasId (e .kind) || saysNoId e in
+    let ls = leb (e .start + e .length) size in
+    let ds = leb (e .offset + e .idLength) (e .length) in
+    let k = and-l ks (ts && (is && (ls && ds))) w in
+    let a = and-r ks (ts && (is && (ls && ds))) w in
+    let b = and-r ts (is && (ls && ds)) a in
+    let c = and-r is (ls && ds) b in
+    record {
+      low = leb-true 1 (e .kind) (and-l (leb 1 (e .kind)) (leb (e .kind) 10) k);
+      high = leb-true (e .kind) 10 (and-r (leb 1 (e .kind)) (leb (e .kind) 10) k);
+      tag = tag-two (e .kind) (e .tag) (and-l ts (is && (ls && ds)) a);
+      line = leb-true (e .start + e .length) size (and-l ls ds c);
+      id = leb-true (e .offset + e .idLength) (e .length) (and-r ls ds c);
+    }
 
-pub entry-inside : (h : Bytes) (table : List ℕ) (n : ℕ) {w x : ℕ} → entryAt h table n ≡ some (w, x) → (startIn w + lengthIn w ≤ length h) × (offsetIn x + idLengthIn x ≤ lengthIn w)
+pub entry-inside : (h : Bytes) (table : List ℕ) (n : ℕ) {e : RuleEntry} → entryAt h table n ≡ some e → Formed (length h) e
 unfolding entryAt
-entry-inside h table n {w} {x} e = elim (test (ltb (2 * n + 1) (length table) && wellFormed (length h) (getD table (2 * n) 0) (getD table (2 * n + 1) 0))) [
-  | pass f ↦
-      let p = some-is (rw (entryAt, f) at e) in
-      let a : getD table (2 * n) 0 ≡ w = ap (λ (y : ℕ × ℕ). y .0) p in
-      let b : getD table (2 * n + 1) 0 ≡ x = ap (λ (y : ℕ × ℕ). y .1) p in
-      rw (← a, ← b) (formed-inside (length h) (getD table (2 * n) 0) (getD table (2 * n + 1) 0) (and-r (ltb (2 * n + 1) (length table)) _ f))
-  | fail f ↦ none-not (rw (entryAt, f) at e)
+entry-inside h table n {e} a = elim (test (wordsClear table n && wellFormed (length h) (entryIn table n))) [
+  | pass f ↦ rw (← some-is (rw (entryAt, f) at a)) (formed (length h) (entryIn table n) (and-r (wordsClear table n) _ f))
+  | fail f ↦ none-not (rw (entryAt, f) at a)
 ]
 
 pub refused-inside : (size : ℕ) → Inside size Refused
 refused-inside size = tt
 
-module _ (h : Bytes) (table : List ℕ) (n : ℕ) {r : EntryRead} (a : r ≡ entryAs (entryAt h table n)) where
-  pub entry-unshown : r ≡ Missing → Refused ≡ shownAs (shownEntry h table n)
-  entry-unshown e = rw (entry-none (entryAt h table n) (sym e ∙ a))
+module _ (h : Bytes) (table : List ℕ) (n : ℕ) {r : EntryRead} (a : entryMeant r ≡ entryAt h table n) where
+  missing : r ≡ read.Missing → entryAt h table n ≡ none
+  missing e = sym a ∙ ap entryMeant e
 
-  pub id-unshown : r ≡ Missing → Refused ≡ shownAs (shownId h table n)
-  id-unshown e = rw (entry-none (entryAt h table n) (sym e ∙ a))
+  pub entry-unshown : r ≡ read.Missing → Refused ≡ shownAs (shownEntry h table n)
+  entry-unshown e = rw (missing e)
 
-  module _ {w x : ℕ} (b : r ≡ Entry w x) where
-    found : entryAt h table n ≡ some (w, x)
-    found = entry-is (entryAt h table n) (sym b ∙ a)
+  pub id-unshown : r ≡ read.Missing → Refused ≡ shownAs (shownId h table n)
+  id-unshown e = rw (missing e)
 
-    pub entry-shown : {s l : ℕ} → s ≡ startIn w → l ≡ lengthIn w → Part s (s + l) ≡ shownAs (shownEntry h table n)
-    entry-shown c d = rw (found, c, d)
+  module _ {x : Entry} (b : r ≡ read.Entry x) where
+    pub found : entryAt h table n ≡ some (entryOf x)
+    found = sym a ∙ ap entryMeant b
 
-    pub entry-part-inside : {s l : ℕ} → s ≡ startIn w → l ≡ lengthIn w → Inside (length h) (Part s (s + l))
-    entry-part-inside c d = let i = entry-inside h table n found in (omega arith, omega arith)
+    pub found-inside : Formed (length h) (entryOf x)
+    found-inside = entry-inside h table n found
 
-    pub id-part-inside : {s o l : ℕ} → s ≡ startIn w → o ≡ offsetIn x → l ≡ idLengthIn x → Inside (length h) (Part (s + o) (s + o + l))
-    id-part-inside c d e = let i = entry-inside h table n found in (omega arith, omega arith)
+    pub entry-shown : Part (x .start) (x .start + x .length) ≡ shownAs (shownEntry h table n)
+    entry-shown = rw found
 
-    module _ {k : ℕ} (c : k ≡ kindIn w) {q : Bool} (d : q ≡ hasId k) where
+    pub entry-part-inside : Inside (length h) (Part (x .start) (x .start + x .length))
+    entry-part-inside = let i = found-inside in (omega arith, omega arith)
+
+    pub id-part-inside : Inside (length h) (Part (x .start + x .offset) (x .start + x .offset + x .«id_length»))
+    id-part-inside = let i = found-inside in (omega arith, omega arith)
+
+    module _ {q : Bool} (d : q ≡ hasId (x .kind)) where
       pub id-not-due : not q ≡ true → Refused ≡ shownAs (shownId h table n)
-      id-not-due e = rw (found, idPart, ← c, ← d, not-true q e)
+      id-not-due e = rw (found, idPart, ← d, not-true q e)
 
-      pub id-shown : not q ≡ false → {s o l : ℕ} → s ≡ startIn w → o ≡ offsetIn x → l ≡ idLengthIn x → Part (s + o) (s + o + l) ≡ shownAs (shownId h table n)
-      id-shown e f g i = rw (found, idPart, ← c, ← d, not-false q e, f, g, i)
+      pub id-shown : not q ≡ false → Part (x .start + x .offset) (x .start + x .offset + x .«id_length») ≡ shownAs (shownId h table n)
+      id-shown e = rw (found, idPart, ← d, not-false q e)
 
-pub ruleset shown-entries = (entry-unshown, entry-shown, entry-part-inside, refused-inside)
+pub ruleset shown-entries = (entry-unshown, entry-shown, entry-part-inside, refused-inside, found-inside)
 
-pub ruleset shown-ids = (id-unshown, id-not-due, id-shown, id-part-inside, refused-inside)
+pub ruleset shown-ids = (id-unshown, id-not-due, id-shown, id-part-inside, refused-inside, found-inside)
 
 -- The answer
 

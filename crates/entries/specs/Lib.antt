@@ -1,2 +1,5 @@
-pub mod Shown
+pub mod Values
+pub mod Words
 pub mod Tables
+pub mod Shown
+pub mod Examples

@@ -7,7 +7,9 @@ use lib.ListN.{length, drop, take}
 use Rattle.values.specs.Bytes.{Bytes}
 use Rattle.values.specs.Field.{Field}
 use Rattle.rules.specs.Map.{scan}
+use Rattle.rules.specs.Entry.{Entry as RuleEntry}
 use Rattle.rules.specs.Shown.{Part as RulePart}
+use Rattle.entries.specs.Values.{entryOf}
 use Rattle.entries.specs.declared.shown.Shown.{Shown}
 use Rattle.entries.specs.declared.shown.Shown.the-variants.{Part, Refused}
 use Rattle.entries.specs.declared.shown.EntryRead.{EntryRead}
@@ -18,9 +20,10 @@ abbrev pub shownAs : Option RulePart → Shown
 shownAs none = Refused
 shownAs (some p) = Part (p .0) (p .1)
 
-abbrev pub entryAs : Option (ℕ × ℕ) → EntryRead
-entryAs none = Missing
-entryAs (some e) = Entry (e .0) (e .1)
+-- an entry that was asked for
+abbrev pub entryMeant : EntryRead → Option RuleEntry
+entryMeant (Entry e) = some (entryOf e)
+entryMeant Missing = none
 
 -- the bytes of what is shown
 abbrev pub bytesOf : Bytes → Shown → Bytes

@@ -1,4 +1,8 @@
-// Entries of a table: their words, and what they show of the header.
+// Entries of a table: what they say, how they are stored, and what they show of the header.
+pub mod entry;
+pub mod kind;
+pub mod limits;
+pub mod part;
 pub mod shown;
 pub mod table;
-pub mod word;
+mod word;

@@ -1,5 +1,7 @@
 // What the calls on an entry number show: parts of the header. The table may be any words, so each entry is tested first.
-use crate::word;
+use crate::entry::Entry;
+use crate::kind;
+use crate::table;
 use values::bytes;
 use values::cursor::Cursor;
 use values::field::FieldRead;
@@ -9,8 +11,10 @@ ghost use mathlib.Core.Bool.{_&&_, _||_};
 ghost use lib.Dec.{eqb, leb};
 ghost use lib.ListN.{length};
 ghost use Prim.Native.Nat.{_+_};
-ghost use Rattle.rules.specs.Shown.{bits, kindIn, startIn, lengthIn, offsetIn, idLengthIn, tagIn, hasId, wellFormed, entryAt, shownEntry, shownId, fieldPart};
-ghost use Rattle.entries.specs.Shown.{shownAs, entryAs, bytesOf, fieldsAt, Inside};
+ghost use Rattle.rules.specs.Shown.{saysNoId, hasId, wellFormed, fieldPart};
+ghost use Rattle.entries.specs.Values.{entryOf};
+ghost use Rattle.entries.specs.Tables.{entryAt, shownEntry, shownId};
+ghost use Rattle.entries.specs.Shown.{shownAs, entryMeant, bytesOf, fieldsAt, Inside};
 
 // A part of the header, or refusal 29: no such entry, no such field, or an entry that is not well formed.
 pub enum Shown {
@@ -18,107 +22,98 @@ pub enum Shown {
     Refused,
 }
 
-// The two words of an entry.
 pub enum EntryRead {
-    Entry(u64, u64),
+    Entry(Entry),
     Missing,
 }
 
-// Kinds 2 to 7 have an ID.
-pub fn has_id(kind: u64) -> bool
-    ensures { λ r. ⌜ r ≡ hasId kind ⌝ }
+fn has_known_kind(kind: u8) -> bool
+    ensures { λ r. ⌜ r ≡ (leb 1 kind && leb kind 10) ⌝ }
 {
-    if kind < 2 {
+    if kind < kind::FILE_FORMAT {
         return false;
     }
-    kind <= 7
+    kind <= kind::SAMPLE
 }
 
-fn has_known_kind(w: u64) -> bool
-    ensures { λ r. ⌜ r ≡ (leb 1 (kindIn w) && leb (kindIn w) 10) ⌝ }
+// Only an ID of an other map has a tag, Child or Derived.
+fn has_known_tag(kind: u8, tag: u8) -> bool
+    ensures { λ r. ⌜ r ≡ (eqb tag 0 || (eqb kind 7 && leb tag 2)) ⌝ }
 {
-    let kind = word::kind_in(w);
-    if kind < 1 {
-        return false;
-    }
-    kind <= 10
-}
-
-fn has_zero_bits(w: u64, x: u64) -> bool
-    ensures { λ r. ⌜ r ≡ (eqb (bits 0 24 w) 0 && eqb (bits 0 29 x) 0) ⌝ }
-{
-    if w % 0x100_0000 != 0 {
-        return false;
-    }
-    x % 0x2000_0000 == 0
-}
-
-// Only an ID of kind 7 has a tag, Child or Derived.
-fn has_known_tag(w: u64, x: u64) -> bool
-    ensures { λ r. ⌜ r ≡ (eqb (tagIn x) 0 || (eqb (kindIn w) 7 && leb (tagIn x) 2)) ⌝ }
-{
-    let tag = word::tag_in(x);
     if tag == 0 {
         return true;
     }
-    if word::kind_in(w) != 7 {
+    if kind != kind::OTHER_MAP {
         return false;
     }
     tag <= 2
 }
 
-// Word two is zero where the kind has no ID.
-fn has_due_id(w: u64, x: u64) -> bool
-    ensures { λ r. ⌜ r ≡ (hasId (kindIn w) || eqb x 0) ⌝ }
+fn says_no_id(e: Entry) -> bool
+    ensures { λ r. ⌜ r ≡ saysNoId (entryOf e) ⌝ }
 {
-    if has_id(word::kind_in(w)) {
-        return true;
-    }
-    x == 0
-}
-
-// The line lies in the header, and the ID in the line.
-fn lies_inside(size: usize, w: u64, x: u64) -> bool
-    ensures { λ r. ⌜ r ≡ (leb (startIn w + lengthIn w) size && leb (offsetIn x + idLengthIn x) (lengthIn w)) ⌝ }
-{
-    let length = word::length_in(w);
-    if size < word::start_in(w) + length {
+    if e.offset != 0 {
         return false;
     }
-    word::offset_in(x) + word::id_length_in(x) <= length
+    if e.id_length != 0 {
+        return false;
+    }
+    let quoted = e.quoted;
+    if quoted {
+        return false;
+    }
+    e.tag == 0
+}
+
+// Nothing is said of an ID where the kind has none.
+fn has_due_id(e: Entry) -> bool
+    ensures { λ r. ⌜ r ≡ (hasId (e .kind) || saysNoId (entryOf e)) ⌝ }
+{
+    if kind::has_id(e.kind) {
+        return true;
+    }
+    says_no_id(e)
+}
+
+// Whether `length` bytes from `start` on are among `size`.
+fn lies_inside(size: usize, start: usize, length: usize) -> bool
+    ensures { λ r. ⌜ r ≡ leb (start + length) size ⌝ }
+{
+    if size < start {
+        return false;
+    }
+    length <= size - start
 }
 
 // `size`: the header's length.
-fn is_well_formed(size: usize, w: u64, x: u64) -> bool
-    ensures { λ r. ⌜ r ≡ wellFormed size w x ⌝ }
+fn is_well_formed(size: usize, e: Entry) -> bool
+    ensures { λ r. ⌜ r ≡ wellFormed size (entryOf e) ⌝ }
 {
-    if !has_known_kind(w) {
+    if !has_known_kind(e.kind) {
         return false;
     }
-    if !has_zero_bits(w, x) {
+    if !has_known_tag(e.kind, e.tag) {
         return false;
     }
-    if !has_known_tag(w, x) {
+    if !has_due_id(e) {
         return false;
     }
-    if !has_due_id(w, x) {
+    if !lies_inside(size, e.start, e.length) {
         return false;
     }
-    lies_inside(size, w, x)
+    lies_inside(e.length, e.offset, e.id_length)
 }
 
-// Entry n, from 0, if its words lie in the table and are well formed.
+// Entry n, from 0, if it lies in the table and is well formed.
 pub fn entry_at(h: &[u8], table: &[u64], n: usize) -> EntryRead
-    ensures { λ r. ⌜ r ≡ entryAs (entryAt (now (h .entry)) (now (table .entry)) n) ⌝ }
+    ensures { λ r. ⌜ entryMeant r ≡ entryAt (now (h .entry)) (now (table .entry)) n ⌝ }
 {
-    if table.len() / 2 <= n {
+    if !table::is_clear(table, n) {
         return EntryRead::Missing;
     }
-    let at = 2 * n;
-    let w = table[at];
-    let x = table[at + 1];
-    if is_well_formed(h.len(), w, x) {
-        return EntryRead::Entry(w, x);
+    let e = table::get(table, n);
+    if is_well_formed(h.len(), e) {
+        return EntryRead::Entry(e);
     }
     EntryRead::Missing
 }
@@ -128,11 +123,11 @@ pub fn entry(h: &[u8], table: &[u64], n: usize) -> Shown
     ensures shown { λ r. ⌜ r ≡ shownAs (shownEntry (now (h .entry)) (now (table .entry)) n) ⌝ }
     ensures inside { λ r. ⌜ Inside (length (now (h .entry))) r ⌝ }
 {
-    let EntryRead::Entry(w, _) = entry_at(h, table, n) else {
+    let EntryRead::Entry(e) = entry_at(h, table, n) else {
         return Shown::Refused;
     };
-    let start = word::start_in(w);
-    let end = start + word::length_in(w);
+    let start = e.start;
+    let end = start + e.length;
     Shown::Part { start, end }
 }
 
@@ -141,14 +136,14 @@ pub fn id(h: &[u8], table: &[u64], n: usize) -> Shown
     ensures shown { λ r. ⌜ r ≡ shownAs (shownId (now (h .entry)) (now (table .entry)) n) ⌝ }
     ensures inside { λ r. ⌜ Inside (length (now (h .entry))) r ⌝ }
 {
-    let EntryRead::Entry(w, x) = entry_at(h, table, n) else {
+    let EntryRead::Entry(e) = entry_at(h, table, n) else {
         return Shown::Refused;
     };
-    if !has_id(word::kind_in(w)) {
+    if !kind::has_id(e.kind) {
         return Shown::Refused;
     }
-    let start = word::start_in(w) + word::offset_in(x);
-    let end = start + word::id_length_in(x);
+    let start = e.start + e.offset;
+    let end = start + e.id_length;
     Shown::Part { start, end }
 }
 

@@ -4,7 +4,6 @@ use mathlib.Core.Path.{_≡_, sym, ap, ap₂}
 use Rattle.values.proofs.Lists.{some-is, none-not}
 use Rattle.rules.specs.Version.{Version}
 use Rattle.records.specs.Formats.{formatOf}
-use Rattle.records.specs.Refusals.{number}
 use Rattle.records.proofs.Refusals.{number-injective}
 use Rattle.header.specs.Parsers.{Told, outcomeNumber, outcomeSays, told}
 use Rattle.header.specs.declared.parser.Outcome.{Outcome}

@@ -6,7 +6,7 @@ use mathlib.Core.Bool.{Bool, true, false, not, _&&_}
 use mathlib.Core.List.{List}
 use mathlib.Core.Option.{Option, none, some}
 use lib.Dec.{eqb}
-use lib.ListN.{length, take, drop, length-append, length-take, length-drop}
+use lib.ListN.{length, drop, length-append, length-take, length-drop}
 use borrow.Author.Tests.{eq-eqb, ne-eqb}
 use mir.Syntax.{w64}
 use mir.Val.{Fits}
@@ -22,8 +22,8 @@ use Rattle.rules.specs.Version.{Version, v4-3, since}
 use Rattle.rules.specs.Known.{kindOf, alwaysMap}
 use Rattle.rules.specs.Map.{isMeta, readFields}
 use Rattle.rules.specs.Record.{Record, fileformat, fields, text, readRecord}
-use Rattle.rules.specs.Entry.{kindNumber, fieldsStart}
-use Rattle.rules.specs.Shown.{kindIn, startIn, lengthIn, hasId, fieldPart, fieldsPart, linePart, entryAt, shownField}
+use Rattle.rules.specs.Entry.{Entry as RuleEntry, mapKind, fieldsStart}
+use Rattle.rules.specs.Shown.{hasId, lineIn, fieldPart, fieldsPart, linePart}
 use Rattle.rules.proofs.Firsts.{on-ok}
 use Rattle.rules.proofs.Texts.{Scanned, record-scanned}
 use Rattle.records.specs.Keys.{bytesOf, keyKind}
@@ -38,8 +38,11 @@ use Rattle.entries.specs.declared.shown.Shown.{Shown}
 use Rattle.entries.specs.declared.shown.Shown.the-variants.{Part, Refused}
 use Rattle.entries.specs.declared.shown.EntryRead.{EntryRead}
 use Rattle.entries.specs.declared.shown.EntryRead.the-variants.{Entry, Missing}
-use Rattle.entries.specs.Shown.{shownAs, entryAs, fieldsAt, Inside, movedBy}
-use Rattle.entries.proofs.Calls.{entry-is, entry-none, entry-inside, refused-inside}
+use Rattle.entries.specs.declared.entry.Entry.{Entry as CodeEntry}
+use Rattle.entries.specs.Values.{entryOf}
+use Rattle.entries.specs.Tables.{entryAt, shownField}
+use Rattle.entries.specs.Shown.{shownAs, entryMeant, fieldsAt, Inside, movedBy}
+use Rattle.entries.proofs.Calls.{found-inside, refused-inside}
 use Rattle.entries.proofs.Fields.{moved-part, nth-read}
 use Rattle.header.specs.Fields.{fieldIn, FieldAt}
 
@@ -56,7 +59,7 @@ module _ (v : Version) (l : Bytes) (kind i : ℕ) {u : Bool} (a : u ≡ isUtf8 l
     read-as : {r : Answer Record} → readRecord v l ≡ r → fieldIn v l kind i ≡ fieldsPart 0 kind r i
     read-as e = line-by (sym a ∙ not-false u on) ∙ ap (λ (r : Answer Record). fieldsPart 0 kind r i) e
 
-    map-as : {k : Bytes} {fs : List Field} → readRecord v l ≡ ok (fields k fs) → {q : Bool} → eqb (kindNumber (kindOf k)) kind ≡ q
+    map-as : {k : Bytes} {fs : List Field} → readRecord v l ≡ ok (fields k fs) → {q : Bool} → eqb (mapKind (kindOf k)) kind ≡ q
         → fieldIn v l kind i ≡ elim q [ true ↦ fieldPart (0 + fieldsStart k) fs i | false ↦ none ]
     map-as {k} {fs} e f = read-as e ∙ ap (λ (q : Bool). elim q [ true ↦ fieldPart (0 + fieldsStart k) fs i | false ↦ none ]) f
 
@@ -82,8 +85,8 @@ module _ (v : Version) (l : Bytes) (kind i : ℕ) {u : Bool} (a : u ≡ isUtf8 l
           record { fits = omega arith }
 
       module _ {k : ℕ} (c : k ≡ keyKind key) where
-        kind-is : kindNumber (kindOf (keyIn l)) ≡ k
-        kind-is = ap kindNumber (told .1 .kind) ∙ key-kind key ∙ sym c
+        kind-is : mapKind (kindOf (keyIn l)) ≡ k
+        kind-is = ap mapKind (told .1 .kind) ∙ key-kind key ∙ sym c
 
         pub line-other-kind : (k ≡ kind → ⊥) → Refused ≡ shownAs (fieldIn v l kind i)
         line-other-kind n = sym (ap shownAs (map-as (told .3) {q = false} (rw kind-is (ne-eqb k kind n))))
@@ -142,7 +145,7 @@ fields-moved : (start kind : ℕ) (a : Answer Record) (i : ℕ) → shownAs (fie
 fields-moved start kind (refuse n) i = refl
 fields-moved start kind (ok (fileformat v)) i = refl
 fields-moved start kind (ok (text k t)) i = refl
-fields-moved start kind (ok (fields k fs)) i = by-kind (eqb (kindNumber (kindOf k)) kind)
+fields-moved start kind (ok (fields k fs)) i = by-kind (eqb (mapKind (kindOf k)) kind)
   where
     by-kind : (q : Bool) → shownAs (elim q [ true ↦ fieldPart (start + fieldsStart k) fs i | false ↦ none ])
         ≡ movedBy start (shownAs (elim q [ true ↦ fieldPart (0 + fieldsStart k) fs i | false ↦ none ]))
@@ -150,47 +153,43 @@ fields-moved start kind (ok (fields k fs)) i = by-kind (eqb (kindNumber (kindOf 
     by-kind false = refl
 
 -- the line of an entry, where it may have fields
-module _ (h : Bytes) (v : Version) (i w x : ℕ) where
+module _ (h : Bytes) (v : Version) (i : ℕ) (e : RuleEntry) where
   abbrev l : Bytes
-  l = take (lengthIn w) (drop (startIn w) h)
+  l = lineIn h e
 
-  line-by-kind : {q : Bool} → hasId (kindIn w) ≡ q → linePart h v i (some (w, x)) ≡ elim (q && isUtf8 l) [ true ↦ fieldsPart (startIn w) (kindIn w) (readRecord v l) i | false ↦ none ]
-  line-by-kind e = ap (λ (q : Bool). elim (q && isUtf8 l) [ true ↦ fieldsPart (startIn w) (kindIn w) (readRecord v l) i | false ↦ none ]) e
+  line-by-kind : {q : Bool} → hasId (e .kind) ≡ q → linePart h v i (some e) ≡ elim (q && isUtf8 l) [ true ↦ fieldsPart (e .start) (e .kind) (readRecord v l) i | false ↦ none ]
+  line-by-kind f = ap (λ (q : Bool). elim (q && isUtf8 l) [ true ↦ fieldsPart (e .start) (e .kind) (readRecord v l) i | false ↦ none ]) f
 
-  line-unfit : hasId (kindIn w) ≡ false → Refused ≡ shownAs (linePart h v i (some (w, x)))
-  line-unfit e = sym (ap shownAs (line-by-kind e))
+  line-unfit : hasId (e .kind) ≡ false → Refused ≡ shownAs (linePart h v i (some e))
+  line-unfit f = sym (ap shownAs (line-by-kind f))
 
-  line-moved : hasId (kindIn w) ≡ true → shownAs (linePart h v i (some (w, x))) ≡ movedBy (startIn w) (shownAs (fieldIn v l (kindIn w) i))
-  line-moved e = ap shownAs (line-by-kind e) ∙ by-text (isUtf8 l)
+  line-moved : hasId (e .kind) ≡ true → shownAs (linePart h v i (some e)) ≡ movedBy (e .start) (shownAs (fieldIn v l (e .kind) i))
+  line-moved f = ap shownAs (line-by-kind f) ∙ by-text (isUtf8 l)
     where
-      by-text : (q : Bool) → shownAs (elim q [ true ↦ fieldsPart (startIn w) (kindIn w) (readRecord v l) i | false ↦ none ])
-          ≡ movedBy (startIn w) (shownAs (elim q [ true ↦ fieldsPart 0 (kindIn w) (readRecord v l) i | false ↦ none ]))
-      by-text true = fields-moved (startIn w) (kindIn w) (readRecord v l) i
+      by-text : (q : Bool) → shownAs (elim q [ true ↦ fieldsPart (e .start) (e .kind) (readRecord v l) i | false ↦ none ])
+          ≡ movedBy (e .start) (shownAs (elim q [ true ↦ fieldsPart 0 (e .kind) (readRecord v l) i | false ↦ none ]))
+      by-text true = fields-moved (e .start) (e .kind) (readRecord v l) i
       by-text false = refl
 
-module _ (h : Bytes) (table : List ℕ) (n : ℕ) (v : Version) (i : ℕ) {r : EntryRead} (a : r ≡ entryAs (entryAt h table n)) where
+module _ (h : Bytes) (table : List ℕ) (n : ℕ) (v : Version) (i : ℕ) {r : EntryRead} (a : entryMeant r ≡ entryAt h table n) where
   pub field-unshown : r ≡ Missing → Refused ≡ shownAs (shownField h table n v i)
-  field-unshown e = rw (entry-none (entryAt h table n) (sym e ∙ a))
+  field-unshown e = ap (λ (x : Option RuleEntry). shownAs (linePart h v i x)) (sym (ap entryMeant e) ∙ a)
 
-  module _ {w x : ℕ} (b : r ≡ Entry w x) where
-    found : entryAt h table n ≡ some (w, x)
-    found = entry-is (entryAt h table n) (sym b ∙ a)
+  module _ {x : CodeEntry} (b : r ≡ Entry x) {q : Bool} (d : q ≡ hasId (x .kind)) where
+    shown-is : shownAs (linePart h v i (some (entryOf x))) ≡ shownAs (shownField h table n v i)
+    shown-is = ap (λ (y : Option RuleEntry). shownAs (linePart h v i y)) (sym (ap entryMeant b) ∙ a)
 
-    module _ {k : ℕ} (c : k ≡ kindIn w) {q : Bool} (d : q ≡ hasId k) where
-      pub field-not-due : not q ≡ true → Refused ≡ shownAs (shownField h table n v i)
-      field-not-due e =
-          let o : hasId (kindIn w) ≡ false = ap hasId (sym c) ∙ sym d ∙ not-true q e in
-          line-unfit h v i w x o ∙ sym (ap (λ (e : Option (ℕ × ℕ)). shownAs (linePart h v i e)) found)
+    pub field-not-due : not q ≡ true → Refused ≡ shownAs (shownField h table n v i)
+    field-not-due e = line-unfit h v i (entryOf x) (sym d ∙ not-true q e) ∙ shown-is
 
-      module _ (on : not q ≡ false) {s m : ℕ} (e : s ≡ startIn w) (f : m ≡ lengthIn w) {y : Shown} (o : FieldAt v h s (s + m) k i y) where
-        pub field-shown : y ≡ shownAs (shownField h table n v i)
-        field-shown =
-            let z : s + m - s ≡ lengthIn w = omega arith in
-            let p : take (s + m - s) (drop s h) ≡ take (lengthIn w) (drop (startIn w) h) = rw (z, e) in
-            let j : hasId (kindIn w) ≡ true = ap hasId (sym c) ∙ sym d ∙ not-false q on in
-            o .shown ∙ rw (p, c, e) (sym (ap (λ (e : Option (ℕ × ℕ)). shownAs (linePart h v i e)) found ∙ line-moved h v i w x j))
+    module _ (on : not q ≡ false) {y : Shown} (o : FieldAt v h (x .start) (x .start + x .length) (x .kind) i y) where
+      pub field-shown : y ≡ shownAs (shownField h table n v i)
+      unfolding lineIn
+      field-shown =
+          let z : x .start + x .length - x .start ≡ x .length = omega arith in
+          o .shown ∙ rw z (sym (line-moved h v i (entryOf x) (sym d ∙ not-false q on)) ∙ shown-is)
 
-        pub field-inside : Inside (length h) y
-        field-inside = let z = entry-inside h table n found in o .inside (omega arith)
+      pub field-inside : Inside (length h) y
+      field-inside = let z = found-inside h table n a b in o .inside (omega arith)
 
-pub ruleset all-fields = (field-unshown, field-not-due, field-shown, field-inside, refused-inside)
+pub ruleset all-fields = (field-unshown, field-not-due, field-shown, field-inside, found-inside, refused-inside)

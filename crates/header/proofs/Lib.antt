@@ -2,3 +2,4 @@ pub mod Verdicts
 pub mod Parsers
 pub mod Fields
 pub mod Answers
+pub mod Demands

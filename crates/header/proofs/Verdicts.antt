@@ -1,42 +1,40 @@
 -- What a line is, beside the lines before it. Assumes nothing.
-use Prim.Native.Nat.{ℕ, suc, _+_, _-_, _%_, _≤_, _<_}
+use Prim.Native.Nat.{ℕ, suc, _+_, _-_, _≤_, _<_}
 use native.Mathlib.Omega.{arith}
-use native.Mathlib.Nat.{mod-eq-of-lt}
-use mathlib.Core.Path.{_≡_, refl, sym, ap, ap₂, subst, _∙_}
-use mathlib.Core.Bool.{Bool, true, false, not, _||_}
+use mathlib.Core.Path.{_≡_, refl, sym, ap, subst, _∙_}
+use mathlib.Core.Bool.{Bool, true, false, not}
 use mathlib.Core.List.{List, [], _∷_, _++_}
 use mathlib.Core.Option.{Option, none, some}
 use lib.ListN.{length, take, drop, length-take, length-drop}
 use lib.Seq.{take-append-add}
 use borrow.Author.Tests.{le-leb, lt-leb}
-use Rattle.values.specs.Bytes.{Bytes, ascii, is, starts}
+use Rattle.values.specs.Bytes.{Bytes, LF, ascii, is, any, starts}
 use Rattle.values.specs.Utf8.{isUtf8}
-use Rattle.values.specs.Value.{meaning}
 use Rattle.values.specs.Field.{Field}
 use Rattle.values.specs.declared.string.Text.{Text}
-use Rattle.values.proofs.Tests.{or-l, not-true, not-false}
-use Rattle.values.proofs.Lists.{some-is, before-none}
+use Rattle.values.proofs.Tests.{not-true, not-false}
+use Rattle.values.proofs.Lists.{some-is}
+use Rattle.values.proofs.Fields.{part}
 use Rattle.rules.specs.Answer.{Answer, ok, refuse, _>>=_, judged}
-use Rattle.rules.specs.Sizes.{limits}
+use Rattle.rules.specs.Sizes.{Limits}
 use Rattle.rules.specs.Version.{Version, v4-5, inForce}
-use Rattle.rules.specs.Known.{kindOf, isTyped, alwaysMap, tagOf}
-use Rattle.rules.specs.Map.{fieldNamed, valueNamed}
-use Rattle.rules.specs.Record.{Record, fileformat, fields, text, looksMap, readRecord}
+use Rattle.rules.specs.Known.{kindOf, tagOf}
+use Rattle.rules.specs.Map.{fieldNamed}
+use Rattle.rules.specs.Record.{Record, fileformat, fields, text, readRecord}
 use Rattle.rules.specs.Columns.{Columns, readColumns}
-use Rattle.rules.specs.Entry.{Entry, place, identity, kindNumber, fieldsStart, textNamed, identityOf, recordEntry, words}
-use Rattle.rules.specs.Reading.{clash, State, empty, ready, done, begin, enter, finish, isDone, stepText, step}
+use Rattle.rules.specs.Entry.{Entry, mapKind, textKind, plainEntry, mapEntry, fieldsStart, textNamed, recordEntry}
+use Rattle.rules.specs.Reading.{keyOf, clash, State, empty, ready, done, begin, enter, finish, isDone, stepText, step}
 use Rattle.rules.specs.House.{writeRecord}
 use Rattle.rules.proofs.Firsts.{on-ok, judged-zero}
-use Rattle.rules.proofs.Pure.{Pure}
 use Rattle.rules.proofs.Versions.{Sized}
 use Rattle.rules.proofs.Records.{GoodRecord, Entered, record-good}
 use Rattle.rules.proofs.Texts.{LineOf, record-in}
-use Rattle.rules.proofs.Shows.{Packed, Both, AnyAt, named-text, line-fields, tag-small}
+use Rattle.rules.proofs.Shows.{Both, AnyAt, named-text, line-fields}
 use Rattle.records.specs.Formats.{versionOf}
 use Rattle.records.specs.Refusals.{number}
-use Rattle.records.specs.Keys.{keyKind}
-use Rattle.records.specs.Maps.{slotted, textIn, meaningIn}
-use Rattle.records.specs.Records.{keyIn, RecordIs, RecordAre}
+use Rattle.records.specs.Keys.{keyKind, Named}
+use Rattle.records.specs.Maps.{slotted, textIn}
+use Rattle.records.specs.Records.{keyIn, valueStart, RecordIs, RecordAre}
 use Rattle.records.specs.declared.file_format.FileFormat.{FileFormat}
 use Rattle.records.specs.declared.key.Key.{Key}
 use Rattle.records.specs.declared.refusal.Refusal.{Refusal}
@@ -46,19 +44,20 @@ use Rattle.records.specs.declared.record.RecordRead.{RecordRead}
 use Rattle.records.specs.declared.record.RecordRead.the-variants as read
 use Rattle.records.proofs.Determined.{filled-one}
 use Rattle.records.proofs.Keys.{key-kind}
-use Rattle.records.proofs.Typed.{text-means}
 use Rattle.columns.specs.HeaderLines.{HeaderRead}
 use Rattle.columns.specs.declared.header_line.ColumnsRead.{ColumnsRead}
 use Rattle.columns.specs.declared.header_line.ColumnsRead.the-variants as columns
 use Rattle.columns.proofs.Answers.{columns-read, column-wrong, sample-twice}
-use Rattle.ids.specs.Clashes.{clashNumber, prefixOf, Describes}
-use Rattle.ids.specs.Marks.{clashFound}
+use Rattle.entries.specs.declared.entry.Entry.{Entry as CodeEntry}
+use Rattle.entries.specs.Values.{entryOf}
+use Rattle.ids.specs.Clashes.{clashNumber, prefixOf}
+use Rattle.ids.specs.Marks.{markEntry, Marked, clashFound}
 use Rattle.ids.specs.declared.scan.Clash.{Clash}
 use Rattle.ids.specs.declared.scan.Clash.the-variants as clashes
 use Rattle.ids.proofs.KeyKinds.{number-small}
 use Rattle.ids.proofs.Clashes.{found-clash}
-use Rattle.ids.proofs.Markings.{clash-sure}
-use Rattle.header.specs.Verdicts.{imposedOf, PhaseIs, isDonePhase, Says, Scene, FirstJudged, IdJudged, MapJudged, RecordJudged, ColumnsJudged, TextJudged, Utf8Told, LineJudged}
+use Rattle.ids.proofs.Markings.{entry-length, entry-own, all-kept, clash-sure}
+use Rattle.header.specs.Verdicts.{imposedOf, PhaseIs, isDonePhase, Says, MarksKept, Scene, Unchecked, FirstSays, FirstJudged, IdJudged, MapJudged, RecordJudged, ColumnsSay, ColumnsJudged, TextJudged, Utf8Told, LineJudged}
 use Rattle.header.specs.declared.file_format_option.FileFormatOption.{FileFormatOption}
 use Rattle.header.specs.declared.file_format_option.FileFormatOption.the-variants as option
 use Rattle.header.specs.declared.verdict.Phase.{Phase}
@@ -104,63 +103,74 @@ pub ruleset firsts = (first-format, first-map, first-text, first-refused)
 
 -- A record beside those before it
 
-packed : Packed limits
-packed = record { header = omega arith; line = omega arith }
+marks-same : (h ms : Bytes) → MarksKept h ms ms
+marks-same h ms = record { long = refl; all = λ es a. a }
+
+marks-more : (h ms : Bytes) (e : Entry) {ms′ : Bytes} → ms′ ≡ markEntry h e ms → MarksKept h ms ms′
+marks-more h ms e a = rw a (record { long = entry-length h e ms; all = λ es b. all-kept h e ms es b })
 
 judged-by : {n m : ℕ} (x : State × List Entry) → m ≡ n → {k : ℕ} → m ≡ suc k → judged n x ≡ refuse (suc k)
 judged-by x e f = rw (← e, f)
 
-enter-judged : (v : Version) (rs : List Record) (start : ℕ) (l : Bytes) (x : Record) (prefix : Bytes) (kind : ℕ) (id : Bytes) (q : Bool) → Describes v x prefix kind id q
+enter-judged : (v : Version) (rs : List Record) (start : ℕ) (l : Bytes) (x : Record) → Entered v x
     → enter v rs start l x ≡ judged (clash v x rs) (ready v (rs ++ x ∷ []), recordEntry v start l x ∷ [])
-enter-judged v rs start l (fileformat w) prefix kind id q d = absurd d
-enter-judged v rs start l (fields k fs) prefix kind id q d = refl
-enter-judged v rs start l (text k t) prefix kind id q d = refl
+enter-judged v rs start l (fileformat w) g = absurd g
+enter-judged v rs start l (fields k fs) g = refl
+enter-judged v rs start l (text k t) g = refl
 
-described-good : (v : Version) (x : Record) (prefix : Bytes) (kind : ℕ) (id : Bytes) (q : Bool) → Describes v x prefix kind id q → GoodRecord v x → Entered v x
-described-good v (fileformat w) prefix kind id q d g = absurd d
-described-good v (fields k fs) prefix kind id q d g = g
-described-good v (text k t) prefix kind id q d g = g
+map-entry-kind : (kind start len : ℕ) (o : Option (Bytes × Text)) → mapEntry kind start len o .kind ≡ kind
+map-entry-kind kind start len none = refl
+map-entry-kind kind start len (some p) = refl
 
-described-small : (v : Version) (x : Record) (prefix : Bytes) (kind : ℕ) (id : Bytes) (q : Bool) → Describes v x prefix kind id q → kind < 16
-described-small v (fileformat w) prefix kind id q d = absurd d
-described-small v (fields k fs) prefix kind id q d = omega (arith, d .number, number-small (kindOf k) .1)
-described-small v (text k t) prefix kind id q d = omega (arith, d .number)
+-- a record's entry is of kind 2 or more
+kind-two : (v : Version) (start : ℕ) (l : Bytes) (x : Record) → Entered v x → 2 ≤ recordEntry v start l x .kind
+unfolding recordEntry
+kind-two v start l (fileformat w) g = absurd g
+kind-two v start l (fields k fs) g = omega (arith, map-entry-kind (mapKind (kindOf k)) start (length l) (textNamed v k (ascii "ID") (fieldsStart k) fs), number-small (kindOf k) .0)
+kind-two v start l (text k t) g = omega arith
 
-module _ (h ws ms prefix : Bytes) (kind : ℕ) (id : Bytes) (quoted : Bool) (w : ℕ) {a : Clash} (e : a ≡ clashFound h ws ms prefix kind (meaning quoted id)) where
-  found : (l : Bytes) (v : Version) (rs : List Record) (x : Record) → Scene h ws ms l (ready v rs) → Describes v x prefix kind id quoted → clashNumber a ≡ clash v x rs
-  found l v rs x s d =
+module _ (h : Bytes) (es : List Entry) (ms prefix : Bytes) (e : CodeEntry) {a : Clash} (ea : a ≡ clashFound h es ms prefix (entryOf e)) {ms′ : Bytes} (em : ms′ ≡ markEntry h (entryOf e) ms) where
+  found : {lim : Limits} {l : Bytes} {start : ℕ} {v : Version} {rs : List Record} (x : Record) → Scene lim h ms es start l (ready v rs) → readRecord v l ≡ ok x → Entered v x
+      → prefix ≡ prefixOf (keyOf x) → entryOf e ≡ recordEntry v start l x → clashNumber a ≡ clash v x rs
+  found {lim} {l} {start} {v} {rs} x s r g p q =
       let t = s .tabled in
-      found-clash limits packed h (s .small) v (t .own) (t .kind) (t .rows) rs (t .all) (t .good) x prefix kind id quoted d {vs = ws} (s .stored ∙ ap words (t .is)) {a = a} (e ∙ clash-sure h ws ms prefix kind (meaning quoted id) (s .marked))
+      let two : 2 ≤ entryOf e .kind = subst (λ (y : Entry). 2 ≤ y .kind) (sym q) (kind-two v start l x g) in
+      ap clashNumber (ea ∙ clash-sure h es ms prefix (entryOf e) two (t .marked))
+      ∙ rw (p, t .is) (found-clash lim h v (t .own) (t .kind) (t .rows) rs (t .all) (t .good) (entryOf e) x (record { start = start; line = l; there = s .there; read = r; entry = q }) g)
 
-  pub id-free : a ≡ clashes.Free → IdJudged h ws ms prefix kind id quoted w (verdict.Entry kind w)
+  pub id-free : a ≡ clashes.Free → IdJudged h es ms prefix (entryOf e) (verdict.Entry e) ms′
   id-free f = record {
-    is = λ l start v rs x s g d q. record {
-      v = v;
-      rs = rs;
-      r = x;
-      state = refl;
-      read = g;
-      fresh = sym (found l v rs x s d) ∙ ap clashNumber f;
-      entered = described-good v x prefix kind id quoted d (on-ok (GoodRecord v) (record-good v l (s .pure)) g);
-      small = described-small v x prefix kind id quoted d;
-      enters = enter-judged v rs start l x prefix kind id quoted d ∙ judged-zero (ready v (rs ++ x ∷ []), recordEntry v start l x ∷ []) (sym (found l v rs x s d) ∙ ap clashNumber f);
-      entry = q;
-    };
+    marks = marks-more h ms (entryOf e) em;
+    is = λ lim l start v rs x s r g p q.
+        let z = sym (found x s r g p q) ∙ ap clashNumber f in
+        record {
+          v = v;
+          rs = rs;
+          r = x;
+          state = refl;
+          read = r;
+          fresh = z;
+          entered = g;
+          entry = q;
+          enters = enter-judged v rs start l x g ∙ judged-zero (ready v (rs ++ x ∷ []), recordEntry v start l x ∷ []) z ∙ ap (λ (y : Entry). ok (ready v (rs ++ x ∷ []), y ∷ [])) (sym q);
+          marked = subst (λ (y : Bytes). Marked h y (entryOf e)) (sym em) (entry-own h (entryOf e) ms);
+        };
   }
 
-  pub id-clash : (y : Refusal) {b : Clash} → a ≡ b → {n : ℕ} → clashNumber b ≡ suc n → number y ≡ suc n → IdJudged h ws ms prefix kind id quoted w (verdict.Refused y)
+  id-clash : (y : Refusal) {b : Clash} → a ≡ b → {n : ℕ} → clashNumber b ≡ suc n → number y ≡ suc n → IdJudged h es ms prefix (entryOf e) (verdict.Refused y) ms′
   id-clash y f g i = record {
-    is = λ l start v rs x s r d q.
-        enter-judged v rs start l x prefix kind id quoted d ∙ judged-by (ready v (rs ++ x ∷ []), recordEntry v start l x ∷ []) (found l v rs x s d) (ap clashNumber f ∙ g) ∙ ap refuse (sym i);
+    marks = marks-more h ms (entryOf e) em;
+    is = λ lim l start v rs x s r d p q.
+        enter-judged v rs start l x d ∙ judged-by (ready v (rs ++ x ∷ []), recordEntry v start l x ∷ []) (found x s r d p q) (ap clashNumber f ∙ g) ∙ ap refuse (sym i);
   }
 
-  pub id-twice : a ≡ clashes.TypedId → IdJudged h ws ms prefix kind id quoted w (verdict.Refused DuplicateId)
+  pub id-twice : a ≡ clashes.TypedId → IdJudged h es ms prefix (entryOf e) (verdict.Refused DuplicateId) ms′
   id-twice f = id-clash DuplicateId f refl refl
 
-  pub id-mixed : a ≡ clashes.Mixed → IdJudged h ws ms prefix kind id quoted w (verdict.Refused MixedValues)
+  pub id-mixed : a ≡ clashes.Mixed → IdJudged h es ms prefix (entryOf e) (verdict.Refused MixedValues) ms′
   id-mixed f = id-clash MixedValues f refl refl
 
-  pub id-other : a ≡ clashes.OtherId → IdJudged h ws ms prefix kind id quoted w (verdict.Refused DuplicateOtherId)
+  pub id-other : a ≡ clashes.OtherId → IdJudged h es ms prefix (entryOf e) (verdict.Refused DuplicateOtherId) ms′
   id-other f = id-clash DuplicateOtherId f refl refl
 
 pub ruleset ids = (id-free, id-twice, id-mixed, id-other)
@@ -170,17 +180,16 @@ pub ruleset ids = (id-free, id-twice, id-mixed, id-other)
 prefix-here : (k r : Bytes) → take (2 + length k + 1) (ascii "##" ++ (k ++ 61 ∷ r)) ≡ prefixOf k
 prefix-here k r = let e : 2 + length k ≡ suc (suc (length k)) = omega arith in rw e (take-append-add (ascii "##" ++ k) (61 ∷ r) 1)
 
-module _ (v : Version) (l : Bytes) (pure : Pure l) where
-  map-prefix : {k : Bytes} {fs : List Field} → readRecord v l ≡ ok (fields k fs) → take (2 + length k + 1) l ≡ prefixOf k
+-- the record x was read from the line l
+module _ (v : Version) (l : Bytes) where
+  line-prefix : (x : Record) → readRecord v l ≡ ok x → Entered v x → take (2 + length (keyOf x) + 1) l ≡ prefixOf (keyOf x)
   unfolding writeRecord
-  map-prefix {k} {fs} e = ap (take (2 + length k + 1)) (on-ok (LineOf l) (record-in v l) e) ∙ prefix-here k _
+  line-prefix (fileformat w) e g = absurd g
+  line-prefix (fields k fs) e g = ap (take (2 + length k + 1)) (on-ok (LineOf l) (record-in v l) e) ∙ prefix-here k _
+  line-prefix (text k t) e g = ap (take (2 + length k + 1)) (on-ok (LineOf l) (record-in v l) e) ∙ prefix-here k t
 
-  text-prefix : {k t : Bytes} → readRecord v l ≡ ok (text k t) → take (2 + length k + 1) l ≡ prefixOf k
-  unfolding writeRecord
-  text-prefix {k} {t} e = ap (take (2 + length k + 1)) (on-ok (LineOf l) (record-in v l) e) ∙ prefix-here k t
-
-  text-untyped : {k t : Bytes} → readRecord v l ≡ ok (text k t) → isTyped k ≡ false
-  text-untyped {k} {t} e = or-l (isTyped k) (alwaysMap k || looksMap v t) (on-ok (GoodRecord v) (record-good v l pure) e .noMap)
+  line-good : (x : Record) → readRecord v l ≡ ok x → isUtf8 l ≡ true → any (is LF) l ≡ false → GoodRecord v x
+  line-good x e u f = on-ok (GoodRecord v) (record-good v l (record { utf8 = u; line = f })) e
 
 -- The ID of a map
 
@@ -202,92 +211,96 @@ text-inside l (some f) (some p) u {k} {id} e =
     let t : p .1 ≡ id = ap (λ (x : Bytes × Text). x .1) (some-is e) in
     subst (λ (x : Text). (x .start ≤ x .end) × (x .end ≤ length l)) t (u .ordered, u .inside)
 
+-- the entry that the code makes of a map
+abbrev madeEntry : ℕ → ℕ → ℕ → Text → ℕ → ℕ → Entry
+madeEntry kind start len id n tag = record { kind = kind; start = start; length = len; offset = id .start; idLength = n; quoted = id .quoted; tag = tag }
+
 module _ (v : Version) (l k : Bytes) (fs : List Field) (line : l ≡ writeRecord (fields k fs)) (id : Text) (tag : ℕ) (e : slotted (textNamed v k (ascii "ID") (fieldsStart k) fs) ≡ slot.Filled id tag) where
   id-both : Both l (fieldNamed v k (ascii "ID") fs) (textNamed v k (ascii "ID") (fieldsStart k) fs)
   id-both = named-text v k (ascii "ID") l (fieldsStart k) fs (subst (λ (x : Bytes). AnyAt x (fieldsStart k) fs) (sym line) (line-fields k fs))
 
-  id-means : meaningIn l id ≡ valueNamed v k (ascii "ID") fs
-  id-means = sym (text-means l id tag (fieldNamed v k (ascii "ID") fs) (textNamed v k (ascii "ID") (fieldsStart k) fs) id-both e)
-
-  id-word : length l ≤ 65535 → {name : Bytes} → name ≡ textIn l id
-      → identity (id .start % 65536) (length name % 65536) (id .quoted) (tag % 4) ≡ identityOf (textNamed v k (ascii "ID") (fieldsStart k) fs)
-  id-word short {name} n =
+  made-is : {kind : ℕ} → kind ≡ mapKind (kindOf k) → (start : ℕ) {name : Bytes} → name ≡ textIn l id → madeEntry kind start (length l) id (length name) tag ≡ recordEntry v start l (fields k fs)
+  unfolding recordEntry
+  made-is {kind} ek start {name} n =
       let x = kept-is (textNamed v k (ascii "ID") (fieldsStart k) fs) e in
       let i = text-inside l (fieldNamed v k (ascii "ID") fs) (textNamed v k (ascii "ID") (fieldsStart k) fs) id-both (x .is) in
       let d = length-drop (id .start) l in
       let m : length name ≡ id .end - id .start = ap length n ∙ length-take (id .end - id .start) (drop (id .start) l) ∙ omega (arith, i .0, i .1) in
-      let a : id .start % 65536 ≡ id .start = mod-eq-of-lt (omega (arith, i .0, i .1)) in
-      let b : length name % 65536 ≡ id .end - id .start = ap (_% 65536) m ∙ mod-eq-of-lt (omega (arith, i .0, i .1)) in
-      let c : tag % 4 ≡ tagOf (x .key) = mod-eq-of-lt (omega (arith, x .tagged, tag-small (x .key))) ∙ sym (x .tagged) in
-      rw (x .is, a, b, c)
+      rw (x .is, ek, m) (ap (madeEntry (mapKind (kindOf k)) start (length l) id (id .end - id .start)) (sym (x .tagged)))
 
-module _ (h ws ms l : Bytes) (key : Key) (value : ℕ) (id : Text) (tag : ℕ) {prefix : Bytes} (a : prefix ≡ take (value - 0) (drop 0 l)) {name : Bytes} (b : name ≡ textIn l id)
-    {w : ℕ} (c : w ≡ identity (id .start % 65536) (length name % 65536) (id .quoted) (tag % 4)) {kind : ℕ} (d : kind ≡ keyKind key) where
-  pub map-judged : (r : Verdict) → IdJudged h ws ms prefix kind name (id .quoted) w r → MapJudged h ws ms l key value id tag r
-  unfolding recordEntry
-  map-judged r j = record {
-    is = λ start v rs fs s named at read held.
-        let k = keyIn l in
-        let line = on-ok (LineOf l) (record-in v l) read in
-        let n : kind ≡ kindNumber (kindOf k) = d ∙ sym (key-kind key) ∙ ap kindNumber (sym (named .kind)) in
-        j .is l start v rs (fields k fs) s read
-        (record {
-          begins = a ∙ ap (λ (i : ℕ). take i l) (let i : value - 0 ≡ 2 + length k + 1 = omega (arith, at) in i) ∙ map-prefix v l (s .pure) read;
-          plain = before-none (is 61) (drop 2 l);
-          number = n;
-          means = ap (meaning (id .quoted)) b ∙ id-means v l k fs line id tag held;
-        })
-        (ap₂ (λ (i j : ℕ). (place i start (length l), j)) (sym n) (sym (id-word v l k fs line id tag held (s .short) b) ∙ sym c));
+module _ (h : Bytes) (es : List Entry) (ms : Bytes) (start end : ℕ) (key : Key) (value : ℕ) (id : Text) (tag : ℕ) {l : Bytes} (el : l ≡ part h start end)
+    {prefix : Bytes} (a : prefix ≡ take (value - 0) (drop 0 l)) {name : Bytes} (b : name ≡ textIn l id) {kind : ℕ} (d : kind ≡ keyKind key) where
+  pub map-judged : (r : Verdict) {ms′ : Bytes} → IdJudged h es ms prefix (madeEntry kind start (length l) id (length name) tag) r ms′ → MapJudged h es ms start end key value id tag r ms′
+  map-judged r {ms′} j = record {
+    marks = j .marks;
+    is = λ lim l′ el′ v rs fs s named at read held.
+        subst (λ (y : Bytes). Says h ms′ (enter v rs start y (fields (keyIn y) fs)) start (ready v rs) y r) (el ∙ sym el′)
+        (go lim v rs fs (subst (λ (y : Bytes). Scene lim h ms es start y (ready v rs)) (el′ ∙ sym el) s) (subst (λ (y : Bytes). Named (keyIn y) key) (el′ ∙ sym el) named)
+        (at ∙ ap valueStart (el′ ∙ sym el)) (subst (λ (y : Bytes). readRecord v y ≡ ok (fields (keyIn y) fs)) (el′ ∙ sym el) read)
+        (subst (λ (y : Bytes). slotted (textNamed v (keyIn y) (ascii "ID") (fieldsStart (keyIn y)) fs) ≡ slot.Filled id tag) (el′ ∙ sym el) held));
   }
+    where
+      go : (lim : Limits) (v : Version) (rs : List Record) (fs : List Field) → Scene lim h ms es start l (ready v rs) → Named (keyIn l) key → value ≡ valueStart l
+          → readRecord v l ≡ ok (fields (keyIn l) fs) → slotted (textNamed v (keyIn l) (ascii "ID") (fieldsStart (keyIn l)) fs) ≡ slot.Filled id tag
+          → Says h ms′ (enter v rs start l (fields (keyIn l) fs)) start (ready v rs) l r
+      go lim v rs fs s named at read held =
+          let k = keyIn l in
+          let g : Entered v (fields k fs) = line-good v l (fields k fs) read (s .there .utf8) (s .line) in
+          let i : value - 0 ≡ 2 + length k + 1 = omega (arith, at) in
+          j .is lim l start v rs (fields k fs) s read g
+          (a ∙ ap (λ (n : ℕ). take n l) i ∙ line-prefix v l (fields k fs) read g)
+          (made-is v l k fs (on-ok (LineOf l) (record-in v l) read) id tag held (d ∙ sym (key-kind key) ∙ ap mapKind (sym (named .kind))) start b)
 
 -- A record
 
-module _ (h ws ms l : Bytes) (v : Version) (x : RecordRead) (a : RecordAre v l x) where
-  record-is : {y : Record} → readRecord v l ≡ ok y → (start : ℕ) (rs : List Record) → (readRecord v l >>= enter v rs start l) ≡ enter v rs start l y
-  record-is e start rs = rw e
-
-  pub record-format : {w : FileFormat} → x ≡ read.FileFormat w → RecordJudged h ws ms v l (verdict.Refused UnexpectedFileFormat)
-  record-format e = record { is = λ start rs s. record-is (subst (RecordIs v l) e (a .is)) start rs }
-
-  pub record-refused : {y : Refusal} → x ≡ read.Refused y → RecordJudged h ws ms v l (verdict.Refused y)
-  record-refused e = record { is = λ start rs s. ap (λ (y : Answer Record). y >>= enter v rs start l) (subst (RecordIs v l) e (a .is)) }
-
-  pub record-map : {key : Key} {at : ℕ} {id : Text} {tag : ℕ} → x ≡ read.Map key at id tag → (r : Verdict) → MapJudged h ws ms l key at id tag r → RecordJudged h ws ms v l r
-  record-map e r j = record {
-    is = λ start rs s.
-        let m = subst (RecordIs v l) e (a .is) in
-        subst (λ (y : Answer (State × List Entry)). Says y start (ready v rs) l r) (sym (record-is (m .3) start rs)) (j .is start v rs (m .0) s (m .1) (m .2) (m .3) (m .4));
+module _ (h : Bytes) (es : List Entry) (ms : Bytes) (start end : ℕ) {l : Bytes} (el : l ≡ part h start end) (v : Version) (x : RecordRead) (a : RecordAre v l x) where
+  -- the line is the one that the code read
+  placed : (r : Verdict) {ms′ : Bytes} → ((lim : Limits) (rs : List Record) → Scene lim h ms es start l (ready v rs) → Says h ms′ (readRecord v l >>= enter v rs start l) start (ready v rs) l r)
+      → MarksKept h ms ms′ → RecordJudged h es ms v start end r ms′
+  placed r {ms′} f m = record {
+    marks = m;
+    is = λ lim l′ el′ rs s.
+        subst (λ (y : Bytes). Says h ms′ (readRecord v y >>= enter v rs start y) start (ready v rs) y r) (el ∙ sym el′) (f lim rs (subst (λ (y : Bytes). Scene lim h ms es start y (ready v rs)) (el′ ∙ sym el) s));
   }
 
-  pub record-text : {at : ℕ} → x ≡ read.Text at → {prefix : Bytes} → prefix ≡ take (at - 0) (drop 0 l) → {id : Bytes} (r : Verdict) → IdJudged h ws ms prefix 8 id false 0 r → RecordJudged h ws ms v l r
+  record-is : {y : Record} → readRecord v l ≡ ok y → (rs : List Record) → (readRecord v l >>= enter v rs start l) ≡ enter v rs start l y
+  record-is e rs = rw e
+
+  pub record-format : {w : FileFormat} → x ≡ read.FileFormat w → RecordJudged h es ms v start end (verdict.Refused UnexpectedFileFormat) ms
+  record-format e = placed (verdict.Refused UnexpectedFileFormat) (λ lim rs s. record-is (subst (RecordIs v l) e (a .is)) rs) (marks-same h ms)
+
+  pub record-refused : {y : Refusal} → x ≡ read.Refused y → RecordJudged h es ms v start end (verdict.Refused y) ms
+  record-refused {y} e = placed (verdict.Refused y) (λ lim rs s. ap (λ (z : Answer Record). z >>= enter v rs start l) (subst (RecordIs v l) e (a .is))) (marks-same h ms)
+
+  pub record-map : {key : Key} {at : ℕ} {id : Text} {tag : ℕ} → x ≡ read.Map key at id tag → (r : Verdict) {ms′ : Bytes} → MapJudged h es ms start end key at id tag r ms′ → RecordJudged h es ms v start end r ms′
+  record-map e r {ms′} j = placed r (λ lim rs s.
+      let m = subst (RecordIs v l) e (a .is) in
+      subst (λ (y : Answer (State × List Entry)). Says h ms′ y start (ready v rs) l r) (sym (record-is (m .3) rs)) (j .is lim l el v rs (m .0) s (m .1) (m .2) (m .3) (m .4)))
+      (j .marks)
+
+  pub record-text : {at : ℕ} → x ≡ read.Text at → {prefix : Bytes} → prefix ≡ take (at - 0) (drop 0 l) → {e : Entry} → e ≡ plainEntry textKind start (length l) → (r : Verdict) {ms′ : Bytes}
+      → IdJudged h es ms prefix e r ms′ → RecordJudged h es ms v start end r ms′
   unfolding recordEntry
-  record-text {at} e p r j = record {
-    is = λ start rs s.
-        let m = subst (RecordIs v l) e (a .is) in
-        subst (λ (y : Answer (State × List Entry)). Says y start (ready v rs) l r) (sym (record-is (m .1) start rs))
-        (j .is l start v rs (text (keyIn l) (drop at l)) s (m .1)
-        (record {
-          begins = p ∙ ap (λ (i : ℕ). take i l) (let i : at - 0 ≡ 2 + length (keyIn l) + 1 = omega (arith, m .0) in i) ∙ text-prefix v l (s .pure) (m .1);
-          plain = before-none (is 61) (drop 2 l);
-          number = refl;
-          untyped = text-untyped v l (s .pure) (m .1);
-        })
-        refl);
-  }
+  record-text {at} e p q r {ms′} j = placed r (λ lim rs s.
+      let m = subst (RecordIs v l) e (a .is) in
+      let t = text (keyIn l) (drop at l) in
+      let g : Entered v t = line-good v l t (m .1) (s .there .utf8) (s .line) in
+      let i : at - 0 ≡ 2 + length (keyIn l) + 1 = omega (arith, m .0) in
+      subst (λ (y : Answer (State × List Entry)). Says h ms′ y start (ready v rs) l r) (sym (record-is (m .1) rs))
+      (j .is lim l start v rs t s (m .1) g (p ∙ ap (λ (n : ℕ). take n l) i ∙ line-prefix v l t (m .1) g) q))
+      (j .marks)
 
 pub ruleset records = (record-format, record-refused, record-map, record-text)
 
 -- The column line
 
 module _ (l : Bytes) (f : FileFormat) (x : ColumnsRead) (a : HeaderRead l x) where
-  columns-is : {c : Columns} → readColumns l ≡ ok c → (start : ℕ) (rs : List Record) → (readColumns l >>= finish (versionOf f) rs start l) ≡ finish (versionOf f) rs start l c
-  columns-is e start rs = rw e
-
   pub columns-good : {b : Bool} {n : ℕ} → x ≡ columns.Columns b n → ColumnsJudged l f (verdict.Columns f n)
   columns-good e = record {
     is = λ start rs.
         let c = columns-read l a e in
-        record { rs = rs; c = c .0; state = refl; read = c .1; count = c .3; ends = columns-is (c .1) start rs };
+        let d = c .1 in
+        record { rs = rs; c = c .0; state = refl; read = d; count = c .3; ends = rw d };
   }
 
   pub columns-wrong : x ≡ columns.WrongColumn → ColumnsJudged l f (verdict.Refused InvalidHeader)
@@ -300,47 +313,71 @@ pub ruleset all-columns = (columns-good, columns-wrong, columns-twice)
 
 -- A line, by its phase
 
-module _ (h ws ms l : Bytes) (imposed : Option Version) (p : Phase) where
-  pub text-first : p ≡ phase.Empty → (r : Verdict) → FirstJudged imposed l r → TextJudged h ws ms l p imposed r
-  text-first e r j = record { is = λ start s q c. go start s (subst (λ (x : Phase). PhaseIs x s) e q) }
-    where
-      go : (start : ℕ) (s : State) → PhaseIs phase.Empty s → Says (stepText imposed start s l) start s l r
-      go start empty q = j .is start
-      go start (ready v rs) q = absurd q
-      go start (done v rs c) q = absurd q
+first-says : (imposed : Option Version) (h ms l : Bytes) (start : ℕ) (r : Verdict) → FirstSays imposed l r → Says h ms (stepText imposed start empty l) start empty l r
+first-says imposed h ms l start (verdict.Begin f) j = j start
+first-says imposed h ms l start (verdict.Entry e) j = absurd j
+first-says imposed h ms l start (verdict.Columns f n) j = absurd j
+first-says imposed h ms l start (verdict.Refused x) j = j start
 
-  pub text-done : {f : FileFormat} {n : ℕ} → p ≡ phase.Done f n → TextJudged h ws ms l p imposed (verdict.Refused ExpectedEof)
-  unfolding stepText
-  text-done {f} {n} e = record { is = λ start s q c. go start s (subst (λ (x : Phase). PhaseIs x s) e q) }
+columns-say : (h ms l : Bytes) (f : FileFormat) (start : ℕ) (rs : List Record) (r : Verdict) → ColumnsSay l f r
+    → Says h ms (readColumns l >>= finish (versionOf f) rs start l) start (ready (versionOf f) rs) l r
+columns-say h ms l f start rs (verdict.Begin g) j = absurd j
+columns-say h ms l f start rs (verdict.Entry e) j = absurd j
+columns-say h ms l f start rs (verdict.Columns g n) j = j start rs
+columns-say h ms l f start rs (verdict.Refused x) j = j start rs
+
+module _ (h : Bytes) (es : List Entry) (ms : Bytes) (start end : ℕ) {l : Bytes} (el : l ≡ part h start end) (imposed : Option Version) (p : Phase) where
+  here : (r : Verdict) {ms′ : Bytes} → ((lim : Limits) (s : State) → PhaseIs p s → Scene lim h ms es start l s → Says h ms′ (stepText imposed start s l) start s l r)
+      → MarksKept h ms ms′ → TextJudged h es ms start end p imposed r ms′
+  here r {ms′} f m = record {
+    marks = m;
+    is = λ lim l′ el′ s q c.
+        subst (λ (y : Bytes). Says h ms′ (stepText imposed start s y) start s y r) (el ∙ sym el′) (f lim s q (subst (λ (y : Bytes). Scene lim h ms es start y s) (el′ ∙ sym el) c));
+  }
+
+  pub text-first : p ≡ phase.Empty → (r : Verdict) → FirstJudged imposed l r → TextJudged h es ms start end p imposed r ms
+  text-first e r j = here r (λ lim s q c. go s (subst (λ (x : Phase). PhaseIs x s) e q)) (marks-same h ms)
     where
-      go : (start : ℕ) (s : State) → PhaseIs (phase.Done f n) s → stepText imposed start s l ≡ refuse 1
-      go start empty q = absurd q
-      go start (ready v rs) q = absurd q
-      go start (done v rs c) q = refl
+      go : (s : State) → PhaseIs phase.Empty s → Says h ms (stepText imposed start s l) start s l r
+      go empty q = first-says imposed h ms l start r (j .is)
+      go (ready v rs) q = absurd q
+      go (done v rs c) q = absurd q
+
+  pub text-done : {f : FileFormat} {n : ℕ} → p ≡ phase.Done f n → TextJudged h es ms start end p imposed (verdict.Refused ExpectedEof) ms
+  unfolding stepText
+  text-done {f} {n} e = here (verdict.Refused ExpectedEof) (λ lim s q c. go s (subst (λ (x : Phase). PhaseIs x s) e q)) (marks-same h ms)
+    where
+      go : (s : State) → PhaseIs (phase.Done f n) s → stepText imposed start s l ≡ refuse 1
+      go empty q = absurd q
+      go (ready v rs) q = absurd q
+      go (done v rs c) q = refl
 
   module _ {f : FileFormat} (e : p ≡ phase.Ready f) {q : Bool} (a : q ≡ starts (ascii "#CHROM") l) where
-    in-ready : (r : Verdict) → ((start : ℕ) (rs : List Record) → Scene h ws ms l (ready (versionOf f) rs) → Says (stepText imposed start (ready (versionOf f) rs) l) start (ready (versionOf f) rs) l r)
-        → TextJudged h ws ms l p imposed r
-    in-ready r j = record { is = λ start s x c. go start s (subst (λ (y : Phase). PhaseIs y s) e x) c }
+    in-ready : (r : Verdict) {ms′ : Bytes}
+        → ((lim : Limits) (rs : List Record) → Scene lim h ms es start l (ready (versionOf f) rs) → Says h ms′ (stepText imposed start (ready (versionOf f) rs) l) start (ready (versionOf f) rs) l r)
+        → MarksKept h ms ms′ → TextJudged h es ms start end p imposed r ms′
+    in-ready r {ms′} j m = here r (λ lim s x c. go lim s (subst (λ (y : Phase). PhaseIs y s) e x) c) m
       where
-        go : (start : ℕ) (s : State) → PhaseIs (phase.Ready f) s → Scene h ws ms l s → Says (stepText imposed start s l) start s l r
-        go start empty x c = absurd x
-        go start (ready v rs) x c = subst (λ (w : Version). Scene h ws ms l (ready w rs) → Says (stepText imposed start (ready w rs) l) start (ready w rs) l r) (sym x) (j start rs) c
-        go start (done v rs k) x c = absurd x
+        go : (lim : Limits) (s : State) → PhaseIs (phase.Ready f) s → Scene lim h ms es start l s → Says h ms′ (stepText imposed start s l) start s l r
+        go lim empty x c = absurd x
+        go lim (ready v rs) x c =
+            subst (λ (w : Version). Scene lim h ms es start l (ready w rs) → Says h ms′ (stepText imposed start (ready w rs) l) start (ready w rs) l r) (sym x) (j lim rs) c
+        go lim (done v rs k) x c = absurd x
 
-    ready-columns : q ≡ true → (start : ℕ) (rs : List Record) → stepText imposed start (ready (versionOf f) rs) l ≡ (readColumns l >>= finish (versionOf f) rs start l)
+    ready-columns : q ≡ true → (rs : List Record) → stepText imposed start (ready (versionOf f) rs) l ≡ (readColumns l >>= finish (versionOf f) rs start l)
     unfolding stepText
-    ready-columns b start rs = rw (stepText, sym a ∙ b)
+    ready-columns b rs = rw (stepText, sym a ∙ b)
 
-    ready-record : q ≡ false → (start : ℕ) (rs : List Record) → stepText imposed start (ready (versionOf f) rs) l ≡ (readRecord (versionOf f) l >>= enter (versionOf f) rs start l)
+    ready-record : q ≡ false → (rs : List Record) → stepText imposed start (ready (versionOf f) rs) l ≡ (readRecord (versionOf f) l >>= enter (versionOf f) rs start l)
     unfolding stepText
-    ready-record b start rs = rw (stepText, sym a ∙ b)
+    ready-record b rs = rw (stepText, sym a ∙ b)
 
-    pub text-columns : q ≡ true → (r : Verdict) → ColumnsJudged l f r → TextJudged h ws ms l p imposed r
-    text-columns b r j = in-ready r (λ start rs c. subst (λ (y : Answer (State × List Entry)). Says y start (ready (versionOf f) rs) l r) (sym (ready-columns b start rs)) (j .is start rs))
+    pub text-columns : q ≡ true → (r : Verdict) → ColumnsJudged l f r → TextJudged h es ms start end p imposed r ms
+    text-columns b r j = in-ready r (λ lim rs c. subst (λ (y : Answer (State × List Entry)). Says h ms y start (ready (versionOf f) rs) l r) (sym (ready-columns b rs)) (columns-say h ms l f start rs r (j .is)))
+        (marks-same h ms)
 
-    pub text-record : q ≡ false → (r : Verdict) → RecordJudged h ws ms (versionOf f) l r → TextJudged h ws ms l p imposed r
-    text-record b r j = in-ready r (λ start rs c. subst (λ (y : Answer (State × List Entry)). Says y start (ready (versionOf f) rs) l r) (sym (ready-record b start rs)) (j .is start rs c))
+    pub text-record : q ≡ false → (r : Verdict) {ms′ : Bytes} → RecordJudged h es ms (versionOf f) start end r ms′ → TextJudged h es ms start end p imposed r ms′
+    text-record b r {ms′} j = in-ready r (λ lim rs c. subst (λ (y : Answer (State × List Entry)). Says h ms′ y start (ready (versionOf f) rs) l r) (sym (ready-record b rs)) (j .is lim l el rs c)) (j .marks)
 
 pub ruleset texts = (text-first, text-done, text-columns, text-record)
 
@@ -364,38 +401,40 @@ utf8-looked plain l e = record { is = λ f. e }
 
 pub ruleset utf8s = (utf8-known, utf8-looked)
 
-module _ (h ws ms : Bytes) (plain : Bool) (l : Bytes) (imposed : Option Version) (p : Phase) {d : Bool} (a : d ≡ isDonePhase p) where
-  pub line-done : d ≡ true → LineJudged h ws ms plain l p imposed (verdict.Refused ExpectedEof)
+module _ (lim : Limits) (h : Bytes) (es : List Entry) (ms : Bytes) (plain : Bool) (start end : ℕ) (imposed : Option Version) (p : Phase) {d : Bool} (a : d ≡ isDonePhase p) where
+  pub line-done : d ≡ true → LineJudged lim h es ms plain start end p imposed (verdict.Refused ExpectedEof) ms
   unfolding step
-  line-done e = record { is = λ start s x u. rw (step, phase-done p s x ∙ sym a ∙ e) }
+  line-done e = record { marks = marks-same h ms; is = λ l el s x u. rw (step, phase-done p s x ∙ sym a ∙ e) }
 
-  module _ (e : d ≡ false) where
-    pub line-long : 65535 < length l → LineJudged h ws ms plain l p imposed (verdict.Refused LineTooLong)
+  module _ (e : d ≡ false) {l : Bytes} (el : l ≡ part h start end) where
+    pub line-long : lim .line < length l → LineJudged lim h es ms plain start end p imposed (verdict.Refused LineTooLong) ms
     unfolding step
-    line-long n = record { is = λ start s x u. rw (step, phase-done p s x ∙ sym a ∙ e, lt-leb (length l) 65535 n) }
+    line-long n = record { marks = marks-same h ms; is = λ l′ el′ s x u. rw (step, phase-done p s x ∙ sym a ∙ e, lt-leb (length l′) (lim .line) (subst (λ (y : Bytes). lim .line < length y) (el ∙ sym el′) n)) }
 
-    module _ (n : length l ≤ 65535) {q : Bool} (b : Utf8Told plain l q) where
-      pub line-bytes : not q ≡ true → LineJudged h ws ms plain l p imposed (verdict.Refused InvalidUtf8)
+    module _ (n : length l ≤ lim .line) {q : Bool} (b : Utf8Told plain l q) where
+      stepped : (s : State) → PhaseIs p s → step lim imposed start s l ≡ elim (isUtf8 l) [ true ↦ stepText imposed start s l | false ↦ refuse 3 ]
       unfolding step
-      line-bytes f = record { is = λ start s x u. rw (step, phase-done p s x ∙ sym a ∙ e, le-leb (length l) 65535 n, sym (b .is (u .utf8)) ∙ not-true q f) }
+      stepped s x = rw (step, phase-done p s x ∙ sym a ∙ e, le-leb (length l) (lim .line) n)
 
-      pub line-text : not q ≡ false → (r : Verdict) → TextJudged h ws ms l p imposed r → LineJudged h ws ms plain l p imposed r
-      unfolding step
-      line-text f r j = record {
-        is = λ start s x u.
-            subst (λ (y : Answer (State × List Entry)). Says y start s l r) (sym (stepped start s x (sym (b .is (u .utf8)) ∙ not-false q f)))
-            (j .is start s x (record {
-              es = u .es;
-              stored = u .stored;
-              marked = u .marked;
-              tabled = u .tabled;
-              small = u .small;
-              short = n;
-              pure = record { utf8 = sym (b .is (u .utf8)) ∙ not-false q f; line = u .line };
-            }));
+      pub line-bytes : not q ≡ true → LineJudged lim h es ms plain start end p imposed (verdict.Refused InvalidUtf8) ms
+      line-bytes f = record {
+        marks = marks-same h ms;
+        is = λ l′ el′ s x u.
+            let w = subst (λ (y : Bytes). Unchecked lim h ms plain es start y s) (el′ ∙ sym el) u in
+            let z : isUtf8 l ≡ false = sym (b .is (w .utf8)) ∙ not-true q f in
+            subst (λ (y : Bytes). step lim imposed start s y ≡ refuse 3) (el ∙ sym el′) (stepped s x ∙ rw z);
       }
-        where
-          stepped : (start : ℕ) (s : State) → PhaseIs p s → isUtf8 l ≡ true → step limits imposed start s l ≡ stepText imposed start s l
-          stepped start s x t = rw (step, phase-done p s x ∙ sym a ∙ e, le-leb (length l) 65535 n, t)
+
+      pub line-text : not q ≡ false → (r : Verdict) {ms′ : Bytes} → TextJudged h es ms start end p imposed r ms′ → LineJudged lim h es ms plain start end p imposed r ms′
+      line-text f r {ms′} j = record {
+        marks = j .marks;
+        is = λ l′ el′ s x u.
+            let w = subst (λ (y : Bytes). Unchecked lim h ms plain es start y s) (el′ ∙ sym el) u in
+            let z : isUtf8 l ≡ true = sym (b .is (w .utf8)) ∙ not-false q f in
+            let c : step lim imposed start s l ≡ stepText imposed start s l = stepped s x ∙ rw z in
+            subst (λ (y : Bytes). Says h ms′ (step lim imposed start s y) start s y r) (el ∙ sym el′)
+            (subst (λ (y : Answer (State × List Entry)). Says h ms′ y start s l r) (sym c)
+            (j .is lim l el s x (record { there = record { here = w .here; inside = w .inside; short = n; utf8 = z }; line = w .line; tabled = w .tabled })));
+      }
 
 pub ruleset all-lines = (line-done, line-long, line-bytes, line-text)

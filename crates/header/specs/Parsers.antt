@@ -1,23 +1,24 @@
 -- The line machine beside the rules' run over a header's pieces, and what a reading answers. Assumes nothing.
-use Prim.Native.Nat.{ℕ, zero, suc, _+_, _*_, _≤_, _<_}
+use Prim.Native.Nat.{ℕ, zero, suc, _+_, _≤_, _<_}
 use mathlib.Core.Path.{_≡_}
 use mathlib.Core.Bool.{Bool, true}
 use mathlib.Core.List.{List, _∷_}
 use mathlib.Core.Option.{Option, none, some}
-use lib.ListN.{length, take, drop}
-use lib.Seq.{sets}
+use lib.ListN.{length, drop}
 use Rattle.values.specs.Bytes.{Bytes}
 use Rattle.values.specs.Utf8.{isAscii}
-use Rattle.rules.specs.Sizes.{limits}
+use Rattle.values.proofs.Fields.{part}
+use Rattle.rules.specs.Sizes.{Limits}
 use Rattle.rules.specs.Version.{Version}
 use Rattle.rules.specs.Lines.{pieces, lineOf}
-use Rattle.rules.specs.Entry.{Entry, words}
+use Rattle.rules.specs.Entry.{Entry}
 use Rattle.rules.specs.Reading.{State, empty, ready, done, step, Reading, stop, following, run, reading}
 use Rattle.records.specs.Formats.{versionOf}
 use Rattle.records.specs.Refusals.{number}
 use Rattle.records.specs.declared.refusal.Refusal.{Refusal}
-use Rattle.ids.specs.Marks.{AllMarked}
-use Rattle.header.specs.Verdicts.{PhaseIs, Tabled, Says}
+use Rattle.entries.specs.Tables.{room, stored}
+use Rattle.entries.proofs.Stored.{Packed}
+use Rattle.header.specs.Verdicts.{PhaseIs, Tabled, Says, MarksKept}
 use Rattle.header.specs.declared.verdict.Verdict.{Verdict}
 use Rattle.header.specs.declared.parser.Outcome.{Outcome}
 use Rattle.header.specs.declared.parser.Outcome.the-variants as outcome
@@ -58,24 +59,28 @@ tells r = record { number = r .number; line = r .line; start = r .start; entries
 abbrev pub refusedAs : Refusal → ℕ → ℕ → ℕ → ReadAnswer
 refusedAs x line start entries = record { outcome = outcome.Refused x; line = line; start = start; entries = entries }
 
--- what a reading answers, and the table after it
-pub record ReadIs (imposed : Option Version) (h t : List ℕ) (r : ReadAnswer) (t′ : List ℕ) : Type 0 where
-  pub answer : told r ≡ tells (reading limits imposed (length t) h)
-  pub table : t′ ≡ sets t 0 (words (reading limits imposed (length t) h .entries))
+-- a header read into a table
+abbrev pub readInto : Limits → Option Version → List ℕ → Bytes → Reading
+readInto lim imposed t h = reading lim imposed (room t) h
 
--- the rest of the header, read from here, gives the whole reading; the table holds the entries kept so far
-pub record Kept (imposed : Option Version) (h t₀ t : List ℕ) (p : Parser) : Type 0 where
+-- what `read` promises of a call: the version imposed, the header and the table; the answer, and the table after it
+pub record ReadCall (lim : Limits) (imposed : Option Version) (h t : List ℕ) (r : ReadAnswer) (t′ : List ℕ) : Type 0 where
+  pub answer : told r ≡ tells (readInto lim imposed t h)
+  pub table : t′ ≡ stored t 0 (readInto lim imposed t h .entries)
+
+-- the rest of the header, read from here, gives the whole reading; the table holds the entries kept so far, and they are marked
+pub record Kept (lim : Limits) (imposed : Option Version) (h t₀ ms t : List ℕ) (p : Parser) : Type 0 where
   pub state : State
   pub es : List Entry
   pub phase-is : PhaseIs (p .phase) state
-  pub tabled : Tabled h state es
-  pub stored : t ≡ sets t₀ 0 (words es)
+  pub tabled : Tabled lim h ms state es
+  pub stored-are : t ≡ stored t₀ 0 es
   pub counted : length es ≡ p .count
-  pub room : 2 * p .count ≤ length t₀
+  pub roomy : p .count ≤ room t₀
   pub lines : p .line ≤ p .at
   pub inside : p .at ≤ length h
-  pub small : length h ≤ limits .header
-  pub rest : reading limits imposed (length t₀) h ≡ following es (run limits imposed (length t₀) (p .line) (p .at) (p .count) state (pieces (drop (p .at) h)))
+  pub small : length h ≤ lim .header
+  pub rest : readInto lim imposed t₀ h ≡ following es (run lim imposed (room t₀) (p .line) (p .at) (p .count) state (pieces (drop (p .at) h)))
 
 -- a line that stands at a place of the header, and where the next one begins
 pub record LineHere (h : Bytes) (at : ℕ) (l : Bytes) (next : ℕ) : Type 0 where
@@ -89,36 +94,29 @@ pub record LineHere (h : Bytes) (at : ℕ) (l : Bytes) (next : ℕ) : Type 0 whe
   pub inside : next ≤ length h
 
 -- nothing is stored, and the reading ends here
-pub record Stops (imposed : Option Version) (h t₀ t : List ℕ) (p : Parser) (x : Refusal) : Type 0 where
+pub record Stops (lim : Limits) (imposed : Option Version) (h t₀ t : List ℕ) (p : Parser) (x : Refusal) : Type 0 where
   pub state : State
   pub es : List Entry
-  pub stored : t ≡ sets t₀ 0 (words es)
+  pub stored-are : t ≡ stored t₀ 0 es
   pub counted : length es ≡ p .count
-  pub whole : reading limits imposed (length t₀) h ≡ following es (stop (number x) (suc (p .line)) (p .at) state)
+  pub whole : readInto lim imposed t₀ h ≡ following es (stop (number x) (suc (p .line)) (p .at) state)
 
--- a line further, where the words of the entries before it stay as they are
-pub record Further (p : Parser) (t : List ℕ) (q : Parser) (t′ : List ℕ) : Type 0 where
-  pub at : p .at < q .at
-  pub count : p .count ≤ q .count
-  pub words : take (2 * p .count) t′ ≡ take (2 * p .count) t
+-- a line further, or refused; ms and t are the marks and the table after it
+abbrev pub PartialIs : Limits → Option Version → Bytes → List ℕ → Parser → Partial → Bytes → List ℕ → Type 0
+PartialIs lim imposed h t₀ p (partial.Next q) ms t = Kept lim imposed h t₀ ms t q × (p .at < q .at)
+PartialIs lim imposed h t₀ p (partial.Refused x) ms t = Stops lim imposed h t₀ t p x
 
--- t is the table before, t′ the one after
-abbrev pub PartialIs : Option Version → Bytes → List ℕ → Parser → List ℕ → Partial → List ℕ → Type 0
-PartialIs imposed h t₀ p t (partial.Next q) t′ = Kept imposed h t₀ t′ q × Further p t q t′
-PartialIs imposed h t₀ p t (partial.Refused x) t′ = Stops imposed h t₀ t′ p x
+pub record Bounds (h t : List ℕ) (p : Parser) : Type 0 where
+  pub count : p .count ≤ room t
+  pub line : p .line < length h
 
-pub record Bounds (n : ℕ) (p : Parser) : Type 0 where
-  pub count : 2 * p .count ≤ n
-  pub line : p .line ≤ limits .header
+pub record Keeps (p : Parser) (h : Bytes) (end next : ℕ) (v : Verdict) (t : List ℕ) (r : Partial) (t′ : List ℕ) : Type 0 where
+  pub is : (lim : Limits) → Packed lim → (imposed : Option Version) (t₀ ms ms′ : List ℕ) (k : Kept lim imposed h t₀ ms t p) → LineHere h (p .at) (part h (p .at) end) next → MarksKept h ms ms′
+      → Says h ms′ (step lim imposed (p .at) (k .state) (part h (p .at) end)) (p .at) (k .state) (part h (p .at) end) v → PartialIs lim imposed h t₀ p r ms′ t′
 
-pub record Keeps (p : Parser) (l : Bytes) (next : ℕ) (v : Verdict) (t : List ℕ) (r : Partial) (t′ : List ℕ) : Type 0 where
-  pub is : (imposed : Option Version) (h t₀ : List ℕ) (k : Kept imposed h t₀ t p) → LineHere h (p .at) l next
-      → Says (step limits imposed (p .at) (k .state) l) (p .at) (k .state) l v → PartialIs imposed h t₀ p t r t′
-
--- plain: the header is known to be ASCII; ms: the marks of the entries kept so far
-pub record Parses (imposed : Option Version) (plain : Bool) (p : Parser) (h ms t : List ℕ) (r : Partial) (t′ : List ℕ) : Type 0 where
-  pub is : (t₀ : List ℕ) → Kept imposed h t₀ t p → (plain ≡ true → isAscii h ≡ true) → AllMarked h (take (2 * p .count) t) ms → p .at < length h
-      → PartialIs imposed h t₀ p t r t′
+-- plain: the header is known to be ASCII
+pub record Parses (lim : Limits) (imposed : Option Version) (plain : Bool) (p : Parser) (h ms t : List ℕ) (r : Partial) (ms′ t′ : List ℕ) : Type 0 where
+  pub is : Packed lim → (t₀ : List ℕ) → Kept lim imposed h t₀ ms t p → (plain ≡ true → isAscii h ≡ true) → p .at < length h → PartialIs lim imposed h t₀ p r ms′ t′
 
 pub record Finishes (p : Parser) (r : ReadAnswer) : Type 0 where
-  pub is : (imposed : Option Version) (h t₀ t : List ℕ) → Kept imposed h t₀ t p → length h ≤ p .at → told r ≡ tells (reading limits imposed (length t₀) h)
+  pub is : (lim : Limits) (imposed : Option Version) (h t₀ ms t : List ℕ) → Kept lim imposed h t₀ ms t p → length h ≤ p .at → told r ≡ tells (readInto lim imposed t₀ h)

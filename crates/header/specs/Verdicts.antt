@@ -1,5 +1,5 @@
 -- What a verdict says of a line, in the terms of the rules. Assumes nothing.
-use Prim.Native.Nat.{ℕ, _≤_, _<_}
+use Prim.Native.Nat.{ℕ, _+_, _≤_}
 use mathlib.Core.Path.{_≡_}
 use mathlib.Core.Bool.{Bool, true, false}
 use mathlib.Core.List.{List, [], _∷_, _++_}
@@ -9,19 +9,19 @@ use Rattle.values.specs.Bytes.{Bytes, LF, ascii, is, any}
 use Rattle.values.specs.Utf8.{isUtf8}
 use Rattle.values.specs.Field.{Field}
 use Rattle.values.specs.declared.string.Text.{Text}
+use Rattle.values.proofs.Fields.{part}
 use Rattle.rules.specs.Answer.{Answer, ok, refuse, _>>=_}
-use Rattle.rules.specs.Sizes.{limits}
+use Rattle.rules.specs.Sizes.{Limits}
 use Rattle.rules.specs.Version.{Version}
 use Rattle.rules.specs.Record.{Record, fields, readRecord}
 use Rattle.rules.specs.Columns.{Columns, readColumns}
-use Rattle.rules.specs.Entry.{Entry, place, fieldsStart, textNamed, recordEntry, columnEntries, words}
-use Rattle.rules.specs.Shown.{kindIn}
-use Rattle.rules.specs.Reading.{clash, State, empty, ready, done, enter, finish, stepText, step}
-use Rattle.rules.proofs.Pure.{Pure}
+use Rattle.rules.specs.Entry.{Entry, formatKind, plainEntry, fieldsStart, textNamed, recordEntry, columnEntries}
+use Rattle.rules.specs.Reading.{keyOf, clash, State, empty, ready, done, enter, finish, stepText, step}
+use Rattle.rules.proofs.Alls.{All}
 use Rattle.rules.proofs.Versions.{Sized}
 use Rattle.rules.proofs.Records.{Entered}
 use Rattle.rules.proofs.Sound.{Good}
-use Rattle.rules.proofs.Trace.{Rows}
+use Rattle.rules.proofs.Trace.{LineAt, Rows}
 use Rattle.records.specs.Formats.{versionOf}
 use Rattle.records.specs.Refusals.{number}
 use Rattle.records.specs.Keys.{Named}
@@ -30,8 +30,9 @@ use Rattle.records.specs.Records.{keyIn, valueStart}
 use Rattle.records.specs.declared.key.Key.{Key}
 use Rattle.records.specs.declared.file_format.FileFormat.{FileFormat}
 use Rattle.records.specs.declared.map.Slot.the-variants as slot
-use Rattle.ids.specs.Clashes.{Describes}
-use Rattle.ids.specs.Marks.{AllMarked}
+use Rattle.entries.specs.Values.{entryOf}
+use Rattle.ids.specs.Clashes.{prefixOf}
+use Rattle.ids.specs.Marks.{Marked}
 use Rattle.header.specs.declared.file_format_option.FileFormatOption.{FileFormatOption}
 use Rattle.header.specs.declared.file_format_option.FileFormatOption.the-variants as option
 use Rattle.header.specs.declared.verdict.Phase.{Phase}
@@ -60,22 +61,30 @@ isDonePhase phase.Empty = false
 isDonePhase (phase.Ready f) = false
 isDonePhase (phase.Done f n) = true
 
--- the entries kept so far: the fileformat line's, and one for each record
-pub record ReadyRows (h : Bytes) (v : Version) (rs : List Record) (es : List Entry) : Type 0 where
+-- the entries kept so far: the fileformat line's, and one for each record; all are marked
+pub record ReadyRows (lim : Limits) (h ms : Bytes) (v : Version) (rs : List Record) (es : List Entry) : Type 0 where
   pub own : Entry
   pub rows : List Entry
   pub is : es ≡ own ∷ rows
-  pub kind : kindIn (own .0) ≡ 1
-  pub all : Rows limits h v rows rs
+  pub kind : own .kind ≡ formatKind
+  pub all : Rows lim h v rows rs
   pub good : Good v rs
+  pub marked : All (Marked h ms) es
 
-abbrev pub Tabled : Bytes → State → List Entry → Type 0
-Tabled h empty es = es ≡ []
-Tabled h (ready v rs) es = ReadyRows h v rs es
-Tabled h (done v rs c) es = Unit {0}
+abbrev pub Tabled : Limits → Bytes → Bytes → State → List Entry → Type 0
+Tabled lim h ms empty es = es ≡ []
+Tabled lim h ms (ready v rs) es = ReadyRows lim h ms v rs es
+Tabled lim h ms (done v rs c) es = Unit {0}
+
+-- What a verdict says: a is what the rules answer of the line l, which stands at start, in the state s; ms are the marks after it
+
+pub record Begun (a : Answer (State × List Entry)) (start : ℕ) (s : State) (l : Bytes) (f : FileFormat) : Type 0 where
+  pub state : s ≡ empty
+  pub sized : Sized (versionOf f)
+  pub begins : a ≡ ok (ready (versionOf f) [], plainEntry formatKind start (length l) ∷ [])
 
 -- a record that goes with those before it
-pub record New (a : Answer (State × List Entry)) (start : ℕ) (s : State) (l : Bytes) (kind w : ℕ) : Type 0 where
+pub record New (h ms : Bytes) (a : Answer (State × List Entry)) (start : ℕ) (s : State) (l : Bytes) (e : Entry) : Type 0 where
   pub v : Version
   pub rs : List Record
   pub r : Record
@@ -83,9 +92,9 @@ pub record New (a : Answer (State × List Entry)) (start : ℕ) (s : State) (l :
   pub read : readRecord v l ≡ ok r
   pub fresh : clash v r rs ≡ 0
   pub entered : Entered v r
-  pub small : kind < 16
-  pub enters : a ≡ ok (ready v (rs ++ r ∷ []), recordEntry v start l r ∷ [])
-  pub entry : recordEntry v start l r ≡ (place kind start (length l), w)
+  pub entry : e ≡ recordEntry v start l r
+  pub enters : a ≡ ok (ready v (rs ++ r ∷ []), e ∷ [])
+  pub marked : Marked h ms e
 
 pub record Ended (a : Answer (State × List Entry)) (start : ℕ) (s : State) (l : Bytes) (f : FileFormat) (n : ℕ) : Type 0 where
   pub rs : List Record
@@ -95,63 +104,80 @@ pub record Ended (a : Answer (State × List Entry)) (start : ℕ) (s : State) (l
   pub count : length (c .samples) ≡ n
   pub ends : a ≡ ok (done (versionOf f) rs c, columnEntries start l c)
 
-pub record Begun (a : Answer (State × List Entry)) (start : ℕ) (s : State) (l : Bytes) (f : FileFormat) : Type 0 where
-  pub state : s ≡ empty
-  pub sized : Sized (versionOf f)
-  pub begins : a ≡ ok (ready (versionOf f) [], (place 1 start (length l), 0) ∷ [])
+abbrev pub Says : Bytes → Bytes → Answer (State × List Entry) → ℕ → State → Bytes → Verdict → Type 0
+Says h ms a start s l (verdict.Begin f) = Begun a start s l f
+Says h ms a start s l (verdict.Entry e) = New h ms a start s l (entryOf e)
+Says h ms a start s l (verdict.Columns f n) = Ended a start s l f n
+Says h ms a start s l (verdict.Refused x) = a ≡ refuse (number x)
 
--- a is what the rules answer of the line l, which stands at start, in the state s
-abbrev pub Says : Answer (State × List Entry) → ℕ → State → Bytes → Verdict → Type 0
-Says a start s l (verdict.Begin f) = Begun a start s l f
-Says a start s l (verdict.Entry kind w) = New a start s l kind w
-Says a start s l (verdict.Columns f n) = Ended a start s l f n
-Says a start s l (verdict.Refused x) = a ≡ refuse (number x)
+-- what was marked stays so
+pub record MarksKept (h ms ms′ : Bytes) : Type 0 where
+  pub long : length ms′ ≡ length ms
+  pub all : (es : List Entry) → All (Marked h ms) es → All (Marked h ms′) es
+
+-- The parts of a verdict
 
 -- a line in its header, with the entries kept so far
-pub record Scene (h ws ms l : Bytes) (s : State) : Type 0 where
-  pub es : List Entry
-  pub stored : ws ≡ words es
-  pub marked : AllMarked h ws ms
-  pub tabled : Tabled h s es
-  pub small : length h ≤ limits .header
-  pub short : length l ≤ limits .line
-  pub pure : Pure l
+pub record Scene (lim : Limits) (h ms : Bytes) (es : List Entry) (start : ℕ) (l : Bytes) (s : State) : Type 0 where
+  pub there : LineAt lim h start l
+  pub line : any (is LF) l ≡ false
+  pub tabled : Tabled lim h ms s es
 
 -- the same before the line's length and bytes are looked at; plain: the header is known to be ASCII
-pub record Unchecked (h ws ms : Bytes) (plain : Bool) (l : Bytes) (s : State) : Type 0 where
-  pub es : List Entry
-  pub stored : ws ≡ words es
-  pub marked : AllMarked h ws ms
-  pub utf8 : plain ≡ true → isUtf8 l ≡ true
-  pub tabled : Tabled h s es
-  pub small : length h ≤ limits .header
+pub record Unchecked (lim : Limits) (h ms : Bytes) (plain : Bool) (es : List Entry) (start : ℕ) (l : Bytes) (s : State) : Type 0 where
+  pub here : part h start (start + length l) ≡ l
+  pub inside : start + length l ≤ length h
   pub line : any (is LF) l ≡ false
+  pub utf8 : plain ≡ true → isUtf8 l ≡ true
+  pub tabled : Tabled lim h ms s es
+
+-- the first line: no record, and no column line
+abbrev pub FirstSays : Option Version → Bytes → Verdict → Type 0
+FirstSays imposed l (verdict.Begin f) = (start : ℕ) → Begun (stepText imposed start empty l) start empty l f
+FirstSays imposed l (verdict.Entry e) = ⊥
+FirstSays imposed l (verdict.Columns f n) = ⊥
+FirstSays imposed l (verdict.Refused x) = (start : ℕ) → stepText imposed start empty l ≡ refuse (number x)
 
 pub record FirstJudged (imposed : Option Version) (l : Bytes) (r : Verdict) : Type 0 where
-  pub is : (start : ℕ) → Says (stepText imposed start empty l) start empty l r
+  pub is : FirstSays imposed l r
 
--- a new record that is described so
-pub record IdJudged (h ws ms prefix : Bytes) (kind : ℕ) (id : Bytes) (quoted : Bool) (w : ℕ) (r : Verdict) : Type 0 where
-  pub is : (l : Bytes) (start : ℕ) (v : Version) (rs : List Record) (x : Record) → Scene h ws ms l (ready v rs) → readRecord v l ≡ ok x → Describes v x prefix kind id quoted
-      → recordEntry v start l x ≡ (place kind start (length l), w) → Says (enter v rs start l x) start (ready v rs) l r
+-- a new record, whose entry is e and whose line begins with the prefix
+pub record IdJudged (h : Bytes) (es : List Entry) (ms prefix : Bytes) (e : Entry) (r : Verdict) (ms′ : Bytes) : Type 0 where
+  pub marks : MarksKept h ms ms′
+  pub is : (lim : Limits) (l : Bytes) (start : ℕ) (v : Version) (rs : List Record) (x : Record) → Scene lim h ms es start l (ready v rs) → readRecord v l ≡ ok x → Entered v x
+      → prefix ≡ prefixOf (keyOf x) → e ≡ recordEntry v start l x → Says h ms′ (enter v rs start l x) start (ready v rs) l r
 
-pub record MapJudged (h ws ms l : Bytes) (key : Key) (value : ℕ) (id : Text) (tag : ℕ) (r : Verdict) : Type 0 where
-  pub is : (start : ℕ) (v : Version) (rs : List Record) (fs : List Field) → Scene h ws ms l (ready v rs) → Named (keyIn l) key → value ≡ valueStart l → readRecord v l ≡ ok (fields (keyIn l) fs)
-      → slotted (textNamed v (keyIn l) (ascii "ID") (fieldsStart (keyIn l)) fs) ≡ slot.Filled id tag → Says (enter v rs start l (fields (keyIn l) fs)) start (ready v rs) l r
+-- a map: the case of its key, the place of its value, its ID's text and tag
+pub record MapJudged (h : Bytes) (es : List Entry) (ms : Bytes) (start end : ℕ) (key : Key) (value : ℕ) (id : Text) (tag : ℕ) (r : Verdict) (ms′ : Bytes) : Type 0 where
+  pub marks : MarksKept h ms ms′
+  pub is : (lim : Limits) (l : Bytes) → l ≡ part h start end → (v : Version) (rs : List Record) (fs : List Field) → Scene lim h ms es start l (ready v rs) → Named (keyIn l) key → value ≡ valueStart l
+      → readRecord v l ≡ ok (fields (keyIn l) fs) → slotted (textNamed v (keyIn l) (ascii "ID") (fieldsStart (keyIn l)) fs) ≡ slot.Filled id tag
+      → Says h ms′ (enter v rs start l (fields (keyIn l) fs)) start (ready v rs) l r
 
-pub record RecordJudged (h ws ms : Bytes) (v : Version) (l : Bytes) (r : Verdict) : Type 0 where
-  pub is : (start : ℕ) (rs : List Record) → Scene h ws ms l (ready v rs) → Says (readRecord v l >>= enter v rs start l) start (ready v rs) l r
+pub record RecordJudged (h : Bytes) (es : List Entry) (ms : Bytes) (v : Version) (start end : ℕ) (r : Verdict) (ms′ : Bytes) : Type 0 where
+  pub marks : MarksKept h ms ms′
+  pub is : (lim : Limits) (l : Bytes) → l ≡ part h start end → (rs : List Record) → Scene lim h ms es start l (ready v rs)
+      → Says h ms′ (readRecord v l >>= enter v rs start l) start (ready v rs) l r
+
+-- the column line
+abbrev pub ColumnsSay : Bytes → FileFormat → Verdict → Type 0
+ColumnsSay l f (verdict.Begin g) = ⊥
+ColumnsSay l f (verdict.Entry e) = ⊥
+ColumnsSay l f (verdict.Columns g n) = (start : ℕ) (rs : List Record) → Ended (readColumns l >>= finish (versionOf f) rs start l) start (ready (versionOf f) rs) l g n
+ColumnsSay l f (verdict.Refused x) = (start : ℕ) (rs : List Record) → (readColumns l >>= finish (versionOf f) rs start l) ≡ refuse (number x)
 
 pub record ColumnsJudged (l : Bytes) (f : FileFormat) (r : Verdict) : Type 0 where
-  pub is : (start : ℕ) (rs : List Record) → Says (readColumns l >>= finish (versionOf f) rs start l) start (ready (versionOf f) rs) l r
+  pub is : ColumnsSay l f r
 
-pub record TextJudged (h ws ms l : Bytes) (p : Phase) (imposed : Option Version) (r : Verdict) : Type 0 where
-  pub is : (start : ℕ) (s : State) → PhaseIs p s → Scene h ws ms l s → Says (stepText imposed start s l) start s l r
+pub record TextJudged (h : Bytes) (es : List Entry) (ms : Bytes) (start end : ℕ) (p : Phase) (imposed : Option Version) (r : Verdict) (ms′ : Bytes) : Type 0 where
+  pub marks : MarksKept h ms ms′
+  pub is : (lim : Limits) (l : Bytes) → l ≡ part h start end → (s : State) → PhaseIs p s → Scene lim h ms es start l s → Says h ms′ (stepText imposed start s l) start s l r
 
 -- whether the line is UTF-8, where it is so in an ASCII header
 pub record Utf8Told (plain : Bool) (l : Bytes) (r : Bool) : Type 0 where
   pub is : (plain ≡ true → isUtf8 l ≡ true) → r ≡ isUtf8 l
 
 -- 1, 2 and 3 come first
-pub record LineJudged (h ws ms : Bytes) (plain : Bool) (l : Bytes) (p : Phase) (imposed : Option Version) (r : Verdict) : Type 0 where
-  pub is : (start : ℕ) (s : State) → PhaseIs p s → Unchecked h ws ms plain l s → Says (step limits imposed start s l) start s l r
+pub record LineJudged (lim : Limits) (h : Bytes) (es : List Entry) (ms : Bytes) (plain : Bool) (start end : ℕ) (p : Phase) (imposed : Option Version) (r : Verdict) (ms′ : Bytes) : Type 0 where
+  pub marks : MarksKept h ms ms′
+  pub is : (l : Bytes) → l ≡ part h start end → (s : State) → PhaseIs p s → Unchecked lim h ms plain es start l s → Says h ms′ (step lim imposed start s l) start s l r

@@ -1,25 +1,26 @@
 // The line machine, and the reading of a whole header.
 use crate::file_format_option::FileFormatOption;
 use crate::verdict;
+use crate::verdict::Given;
 use crate::verdict::Phase;
+use crate::verdict::Place;
 use crate::verdict::Verdict;
 use columns::header_line;
+use entries::entry::Entry;
+use entries::kind;
+use entries::limits::Limits;
 use entries::table;
-use entries::word;
-use ids::marks;
 use lines::line;
 use records::file_format::FileFormat;
 use records::refusal::Refusal;
 use values::bytes;
 use values::utf8;
 ghost use mathlib.Core.Path.{_≡_};
-ghost use lib.ListN.{length};
-ghost use lib.Seq.{sets};
 ghost use Rattle.rules.specs.Sizes.{limits};
-ghost use Rattle.rules.specs.Entry.{words};
-ghost use Rattle.rules.specs.Reading.{reading};
+ghost use Rattle.entries.specs.Values.{limitsOf};
+ghost use Rattle.entries.proofs.Stored.{Packed};
 ghost use Rattle.header.specs.Verdicts.{imposedOf};
-ghost use Rattle.header.specs.Parsers.{told, tells, refusedAs, Bounds, Keeps, Parses, Finishes, ReadIs};
+ghost use Rattle.header.specs.Parsers.{refusedAs, Bounds, Keeps, Parses, Finishes, ReadCall};
 
 // What a header is found to be: accepted, with the version in force and the number of samples, or refused.
 pub enum Outcome {
@@ -43,16 +44,24 @@ struct Parser {
     count: usize,
 }
 
+// The version imposed, the limits, and whether the header is known to be ASCII.
+struct Options {
+    imposed: FileFormatOption,
+    limits: Limits,
+    ascii: bool,
+}
+
 enum Partial {
     Next(Parser),
     Refused(Refusal),
 }
 
 impl Parser {
-    // The state after the line l, whose successor begins at `next`; its entries are stored if there is room for all of them.
-    fn keep(self, l: &[u8], next: usize, verdict: Verdict, table: &mut [u64]) -> Partial
-        requires { ⌜ Bounds (length (now table)) self ⌝ }
-        ensures { λ r. ⌜ Keeps self (now (l .entry)) next verdict (now (table .entry)) r (now (table .exit)) ⌝ }
+    // The state after the line that stands from `at` to `end` and whose successor begins at `next`; its entries are stored if there is
+    // room for all of them.
+    fn keep(self, h: &[u8], end: usize, next: usize, verdict: Verdict, table: &mut [u64]) -> Partial
+        requires { ⌜ Bounds (now h) (now table) self ⌝ }
+        ensures { λ r. ⌜ Keeps self (now (h .entry)) end next verdict (now (table .entry)) r (now (table .exit)) ⌝ }
     {
         let start = self.at;
         let count = self.count;
@@ -61,7 +70,12 @@ impl Parser {
         match verdict {
             Verdict::Refused(x) => Partial::Refused(x),
             Verdict::Begin(v) => {
-                if !table::put_entry(table, 2 * count, word::place(1, start, l.len()), 0) {
+                let l = bytes::part(h, start, end);
+                if !table::put(
+                    table,
+                    count,
+                    Entry::plain(kind::FILE_FORMAT, start, l.len()),
+                ) {
                     return Partial::Refused(Refusal::TableFull);
                 }
                 Partial::Next(Parser {
@@ -71,13 +85,8 @@ impl Parser {
                     count: count + 1,
                 })
             }
-            Verdict::Entry(kind, identity) => {
-                if !table::put_entry(
-                    table,
-                    2 * count,
-                    word::place(kind, start, l.len()),
-                    identity,
-                ) {
+            Verdict::Entry(e) => {
+                if !table::put(table, count, e) {
                     return Partial::Refused(Refusal::TableFull);
                 }
                 Partial::Next(Parser {
@@ -88,10 +97,10 @@ impl Parser {
                 })
             }
             Verdict::Columns(v, samples) => {
-                if table.len() / 2 - count <= samples {
+                if table::count(table) - count <= samples {
                     return Partial::Refused(Refusal::TableFull);
                 }
-                header_line::write_columns(l, start, 2 * count, table);
+                header_line::write_columns(h, start, end, count, table);
                 Partial::Next(Parser {
                     phase: Phase::Done(v, samples),
                     line,
@@ -102,25 +111,36 @@ impl Parser {
         }
     }
 
-    // One line: found, judged, then kept. `marks` are those of the entries kept so far; `ascii`: the header is known to be ASCII.
+    // One line: found, judged, then kept. `marks` are those of the entries kept so far.
     fn parse_partial(
         self,
         h: &[u8],
-        imposed: FileFormatOption,
-        ascii: bool,
-        marks: &[u8],
+        options: Options,
+        marks: &mut [u8],
         table: &mut [u64],
     ) -> Partial
-        requires { ⌜ Bounds (length (now table)) self ⌝ }
-        ensures { λ r. ⌜ Parses (imposedOf imposed) ascii self (now (h .entry)) (now (marks .entry)) (now (table .entry)) r (now (table .exit)) ⌝ }
+        requires { ⌜ Bounds (now h) (now table) self ⌝ }
+        ensures { λ r.
+            ⌜ Parses (limitsOf (options .limits)) (imposedOf (options .imposed)) (options .ascii) self (now (h .entry)) (now (marks .entry)) (now (table .entry)) r (now (marks .exit)) (now (table .exit)) ⌝ }
     {
         let start = self.at;
         let count = self.count;
         let phase = self.phase;
+        let imposed = options.imposed;
+        let limits = options.limits;
         let found = line::next_line(h, start);
-        let l = bytes::part(h, start, found.end);
-        let verdict = verdict::judge_line(h, &table[..2 * count], marks, l, phase, imposed, ascii);
-        self.keep(l, found.next, verdict, table)
+        let at = Place {
+            start,
+            end: found.end,
+        };
+        let given = Given {
+            phase,
+            imposed,
+            limits,
+            ascii: options.ascii,
+        };
+        let verdict = verdict::judge_line(h, table::kept(table, count), marks, at, given);
+        self.keep(h, found.end, found.next, verdict, table)
     }
 
     fn finish(self) -> ReadAnswer
@@ -165,16 +185,21 @@ fn refuse(x: Refusal, line: usize, start: usize, entries: usize) -> ReadAnswer
 fn read_lines(
     header: &[u8],
     imposed: FileFormatOption,
+    limits: Limits,
     table: &mut [u64],
     marks: &mut [u8],
 ) -> ReadAnswer
-    ensures { λ r. ⌜ ReadIs (imposedOf imposed) (now (header .entry)) (now (table .entry)) r (now (table .exit)) ⌝ }
+    requires { ⌜ Packed (limitsOf limits) ⌝ }
+    ensures { λ r. ⌜ ReadCall (limitsOf limits) (imposedOf imposed) (now (header .entry)) (now (table .entry)) r (now (table .exit)) ⌝ }
 {
-    if 1048575 < header.len() {
+    if limits.header < header.len() {
         return refuse(Refusal::HeaderTooLong, 0, 0, 0);
     }
-    let ascii = utf8::is_ascii(header);
-    let mut marked = 0;
+    let options = Options {
+        imposed,
+        limits,
+        ascii: utf8::is_ascii(header),
+    };
     let mut parser = Parser {
         phase: Phase::Empty,
         line: 0,
@@ -182,27 +207,23 @@ fn read_lines(
         count: 0,
     };
     while parser.at < header.len() {
-        let count = parser.count;
-        marks::mark_entries(header, &table[..2 * count], marked, marks);
-        marked = count;
-        match parser.parse_partial(header, imposed, ascii, marks, table) {
+        match parser.parse_partial(header, options, marks, table) {
             Partial::Next(next) => parser = next,
-            Partial::Refused(x) => return refuse(x, parser.line + 1, parser.at, count),
+            Partial::Refused(x) => return refuse(x, parser.line + 1, parser.at, parser.count),
         }
     }
     parser.finish()
 }
 
-// Reads a header into the table: two words for each entry, from the first word on.
+// Reads a header into the table, from its first entry on.
 pub fn read(header: &[u8], imposed: FileFormatOption, table: &mut [u64]) -> ReadAnswer
-    ensures answer { λ r. ⌜ told r ≡ tells (reading limits (imposedOf imposed) (length (now (table .entry))) (now (header .entry))) ⌝ }
-    ensures table { λ _. ⌜ now (table .exit) ≡ sets (now (table .entry)) 0 (words (reading limits (imposedOf imposed) (length (now (table .entry))) (now (header .entry)) .entries)) ⌝ }
+    ensures { λ r. ⌜ ReadCall limits (imposedOf imposed) (now (header .entry)) (now (table .entry)) r (now (table .exit)) ⌝ }
 {
     // A short header has few entries, and clearing more marks than they need costs more than it spares.
     if header.len() < 65536 {
         let mut marks = [0u8; 4096];
-        return read_lines(header, imposed, table, &mut marks);
+        return read_lines(header, imposed, Limits::FIRST, table, &mut marks);
     }
     let mut marks = [0u8; 65536];
-    read_lines(header, imposed, table, &mut marks)
+    read_lines(header, imposed, Limits::FIRST, table, &mut marks)
 }

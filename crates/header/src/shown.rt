@@ -1,11 +1,11 @@
 // The calls on an entry number: parts of the header, for any table words and any numbers. Refused is refusal 29.
+use entries::kind;
 use entries::shown;
 use entries::shown::EntryRead;
 pub use entries::shown::Shown;
 pub use entries::shown::bytes_of;
 pub use entries::shown::entry;
 pub use entries::shown::id;
-use entries::word;
 use records::file_format::FileFormat;
 use records::record;
 use records::record::RecordRead;
@@ -13,13 +13,13 @@ use values::bytes;
 use values::utf8;
 ghost use mathlib.Core.Path.{_≡_};
 ghost use lib.ListN.{length};
-ghost use Rattle.rules.specs.Shown.{shownField};
 ghost use Rattle.records.specs.Formats.{versionOf};
+ghost use Rattle.entries.specs.Tables.{shownField};
 ghost use Rattle.entries.specs.Shown.{shownAs, Inside};
 ghost use Rattle.header.specs.Fields.{fieldIn, FieldAt};
 
 // Field i of a line, read alone, if it is a record of this kind.
-fn line_field(l: &[u8], kind: u64, version: FileFormat, i: usize) -> Shown
+fn line_field(l: &[u8], kind: u8, version: FileFormat, i: usize) -> Shown
     ensures shown { λ r. ⌜ r ≡ shownAs (fieldIn (versionOf version) (now (l .entry)) kind i) ⌝ }
     ensures inside { λ r. ⌜ Inside (length (now (l .entry))) r ⌝ }
 {
@@ -40,7 +40,7 @@ fn line_field(l: &[u8], kind: u64, version: FileFormat, i: usize) -> Shown
 }
 
 // Field i of the line that stands at `at` and ends before `end`, if it is a record of this kind.
-fn field_at(h: &[u8], at: usize, end: usize, kind: u64, version: FileFormat, i: usize) -> Shown
+fn field_at(h: &[u8], at: usize, end: usize, kind: u8, version: FileFormat, i: usize) -> Shown
     ensures { λ r. ⌜ FieldAt (versionOf version) (now (h .entry)) at end kind i r ⌝ }
 {
     let l = bytes::part(h, at, end);
@@ -58,13 +58,11 @@ pub fn field(h: &[u8], table: &[u64], n: usize, version: FileFormat, i: usize) -
     ensures shown { λ r. ⌜ r ≡ shownAs (shownField (now (h .entry)) (now (table .entry)) n (versionOf version) i) ⌝ }
     ensures inside { λ r. ⌜ Inside (length (now (h .entry))) r ⌝ }
 {
-    let EntryRead::Entry(w, _) = shown::entry_at(h, table, n) else {
+    let EntryRead::Entry(e) = shown::entry_at(h, table, n) else {
         return Shown::Refused;
     };
-    let kind = word::kind_in(w);
-    if !shown::has_id(kind) {
+    if !kind::has_id(e.kind) {
         return Shown::Refused;
     }
-    let start = word::start_in(w);
-    field_at(h, start, start + word::length_in(w), kind, version, i)
+    field_at(h, e.start, e.start + e.length, e.kind, version, i)
 }

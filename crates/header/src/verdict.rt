@@ -2,7 +2,9 @@
 use crate::file_format_option::FileFormatOption;
 use columns::header_line;
 use columns::header_line::ColumnsRead;
-use entries::word;
+use entries::entry::Entry;
+use entries::kind;
+use entries::limits::Limits;
 use ids::scan;
 use ids::scan::Clash;
 use records::file_format::FileFormat;
@@ -17,6 +19,8 @@ ghost use mathlib.Core.Path.{_≡_};
 ghost use Rattle.rules.specs.Version.{inForce};
 ghost use Rattle.rules.proofs.Versions.{Sized};
 ghost use Rattle.records.specs.Formats.{versionOf};
+ghost use Rattle.entries.specs.Values.{entryOf, limitsOf};
+ghost use Rattle.entries.specs.Tables.{entriesIn};
 ghost use Rattle.header.specs.Verdicts.{imposedOf, isDonePhase, IdJudged, FirstJudged, MapJudged, RecordJudged, ColumnsJudged, TextJudged, Utf8Told, LineJudged};
 
 // Before the fileformat line; after it, with the version in force; after the column line, with the number of samples too.
@@ -26,10 +30,24 @@ pub enum Phase {
     Done(FileFormat, usize),
 }
 
-// A fileformat line, with the version in force; a record, with its kind and its ID's word; a column line, with the number of its samples.
+// Where a line stands, and where it ends, without its ending.
+pub struct Place {
+    pub start: usize,
+    pub end: usize,
+}
+
+// What a line is judged by: the phase, the version imposed, the limits, and whether the header is known to be ASCII.
+pub struct Given {
+    pub phase: Phase,
+    pub imposed: FileFormatOption,
+    pub limits: Limits,
+    pub ascii: bool,
+}
+
+// A fileformat line, with the version in force; a record, with its entry; a column line, with the number of its samples.
 pub enum Verdict {
     Begin(FileFormat),
-    Entry(u64, u64),
+    Entry(Entry),
     Columns(FileFormat, usize),
     Refused(Refusal),
 }
@@ -56,21 +74,12 @@ fn judge_first(l: &[u8], imposed: FileFormatOption) -> Verdict
     }
 }
 
-// A record of this kind whose key and ID go with those before it.
-fn judge_id(
-    h: &[u8],
-    words: &[u64],
-    marks: &[u8],
-    prefix: &[u8],
-    kind: u64,
-    id: &[u8],
-    quoted: bool,
-    identity: u64,
-) -> Verdict
-    ensures { λ r. ⌜ IdJudged (now (h .entry)) (now (words .entry)) (now (marks .entry)) (now (prefix .entry)) kind (now (id .entry)) quoted identity r ⌝ }
+// A record whose key and ID go with those before it; `new` is its entry, `prefix` its `##key=`.
+fn judge_id(h: &[u8], kept: &[u64], marks: &mut [u8], prefix: &[u8], new: Entry) -> Verdict
+    ensures { λ r. ⌜ IdJudged (now (h .entry)) (entriesIn (now (kept .entry))) (now (marks .entry)) (now (prefix .entry)) (entryOf new) r (now (marks .exit)) ⌝ }
 {
-    match scan::find_clash(h, words, marks, prefix, kind, id, quoted) {
-        Clash::Free => Verdict::Entry(kind, identity),
+    match scan::find_clash(h, kept, marks, prefix, new) {
+        Clash::Free => Verdict::Entry(new),
         Clash::TypedId => Verdict::Refused(Refusal::DuplicateId),
         Clash::Mixed => Verdict::Refused(Refusal::MixedValues),
         Clash::OtherId => Verdict::Refused(Refusal::DuplicateOtherId),
@@ -79,48 +88,42 @@ fn judge_id(
 
 fn judge_map(
     h: &[u8],
-    words: &[u64],
-    marks: &[u8],
-    l: &[u8],
+    kept: &[u64],
+    marks: &mut [u8],
+    at: Place,
     key: Key,
     value: usize,
     id: Text,
     tag: u8,
 ) -> Verdict
-    ensures { λ r. ⌜ MapJudged (now (h .entry)) (now (words .entry)) (now (marks .entry)) (now (l .entry)) key value id tag r ⌝ }
+    ensures { λ r. ⌜ MapJudged (now (h .entry)) (entriesIn (now (kept .entry))) (now (marks .entry)) (at .start) (at .end) key value id tag r (now (marks .exit)) ⌝ }
 {
+    let l = bytes::part(h, at.start, at.end);
     let prefix = bytes::part(l, 0, value);
     let name = bytes::part(l, id.start, id.end);
-    let length = name.len();
-    let identity = word::identity(id.start, length, id.quoted, tag);
-    judge_id(
-        h,
-        words,
-        marks,
-        prefix,
-        key.kind(),
-        name,
-        id.quoted,
-        identity,
-    )
+    let new = Entry {
+        kind: key.kind(),
+        start: at.start,
+        length: l.len(),
+        offset: id.start,
+        id_length: name.len(),
+        quoted: id.quoted,
+        tag,
+    };
+    judge_id(h, kept, marks, prefix, new)
 }
 
-fn judge_record(h: &[u8], words: &[u64], marks: &[u8], l: &[u8], version: FileFormat) -> Verdict
-    ensures { λ r. ⌜ RecordJudged (now (h .entry)) (now (words .entry)) (now (marks .entry)) (versionOf version) (now (l .entry)) r ⌝ }
+fn judge_record(h: &[u8], kept: &[u64], marks: &mut [u8], at: Place, version: FileFormat) -> Verdict
+    ensures { λ r. ⌜ RecordJudged (now (h .entry)) (entriesIn (now (kept .entry))) (now (marks .entry)) (versionOf version) (at .start) (at .end) r (now (marks .exit)) ⌝ }
 {
+    let l = bytes::part(h, at.start, at.end);
     match record::parse_record(l, version) {
         RecordRead::FileFormat(_) => Verdict::Refused(Refusal::UnexpectedFileFormat),
-        RecordRead::Map(key, value, id, tag) => judge_map(h, words, marks, l, key, value, id, tag),
-        RecordRead::Text(value) => judge_id(
-            h,
-            words,
-            marks,
-            bytes::part(l, 0, value),
-            8,
-            b"",
-            false,
-            0,
-        ),
+        RecordRead::Map(key, value, id, tag) => judge_map(h, kept, marks, at, key, value, id, tag),
+        RecordRead::Text(value) => {
+            let new = Entry::plain(kind::OTHER_TEXT, at.start, l.len());
+            judge_id(h, kept, marks, bytes::part(l, 0, value), new)
+        }
         RecordRead::Refused(x) => Verdict::Refused(x),
     }
 }
@@ -143,21 +146,22 @@ fn judge_columns(l: &[u8], version: FileFormat) -> Verdict
 // A line of UTF-8, by its phase.
 fn judge_text(
     h: &[u8],
-    words: &[u64],
-    marks: &[u8],
-    l: &[u8],
+    kept: &[u64],
+    marks: &mut [u8],
+    at: Place,
     phase: Phase,
     imposed: FileFormatOption,
 ) -> Verdict
-    ensures { λ r. ⌜ TextJudged (now (h .entry)) (now (words .entry)) (now (marks .entry)) (now (l .entry)) phase (imposedOf imposed) r ⌝ }
+    ensures { λ r. ⌜ TextJudged (now (h .entry)) (entriesIn (now (kept .entry))) (now (marks .entry)) (at .start) (at .end) phase (imposedOf imposed) r (now (marks .exit)) ⌝ }
 {
+    let l = bytes::part(h, at.start, at.end);
     match phase {
         Phase::Empty => judge_first(l, imposed),
         Phase::Ready(version) => {
             if bytes::starts_with(l, b"#CHROM") {
                 return judge_columns(l, version);
             }
-            judge_record(h, words, marks, l, version)
+            judge_record(h, kept, marks, at, version)
         }
         Phase::Done(_, _) => Verdict::Refused(Refusal::ExpectedEof),
     }
@@ -185,26 +189,22 @@ fn is_utf8(l: &[u8], ascii: bool) -> bool
     utf8::utf8(l)
 }
 
-// A line, by 1, 2, 3, then its grammar; `words` are those of the entries before it, which are marked.
-pub fn judge_line(
-    h: &[u8],
-    words: &[u64],
-    marks: &[u8],
-    l: &[u8],
-    phase: Phase,
-    imposed: FileFormatOption,
-    ascii: bool,
-) -> Verdict
-    ensures { λ r. ⌜ LineJudged (now (h .entry)) (now (words .entry)) (now (marks .entry)) ascii (now (l .entry)) phase (imposedOf imposed) r ⌝ }
+// A line, by 1, 2, 3, then its grammar; `kept` are the entries before it, which are marked, and so is it if it is kept.
+pub fn judge_line(h: &[u8], kept: &[u64], marks: &mut [u8], at: Place, given: Given) -> Verdict
+    ensures { λ r. ⌜ LineJudged (limitsOf (given .limits)) (now (h .entry)) (entriesIn (now (kept .entry))) (now (marks .entry)) (given .ascii) (at .start) (at .end) (given .phase) (imposedOf (given .imposed)) r (now (marks .exit)) ⌝ }
 {
+    let phase = given.phase;
+    let imposed = given.imposed;
+    let limits = given.limits;
     if phase.is_done() {
         return Verdict::Refused(Refusal::ExpectedEof);
     }
-    if 65535 < l.len() {
+    let l = bytes::part(h, at.start, at.end);
+    if limits.line < l.len() {
         return Verdict::Refused(Refusal::LineTooLong);
     }
-    if !is_utf8(l, ascii) {
+    if !is_utf8(l, given.ascii) {
         return Verdict::Refused(Refusal::InvalidUtf8);
     }
-    judge_text(h, words, marks, l, phase, imposed)
+    judge_text(h, kept, marks, at, phase, imposed)
 }

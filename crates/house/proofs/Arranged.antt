@@ -1,6 +1,4 @@
--- The form's lines, as the words of an accepted header's entries tell them, are those of the rules. Assumes nothing.
-use Prim.Native.Nat.{ℕ, _≤_}
-use native.Mathlib.Omega.{arith}
+-- The form's lines, as an accepted header's entries tell them, are those of the rules. Assumes nothing.
 use mathlib.Core.Path.{_≡_, refl, sym, ap, ap₂, _∙_}
 use mathlib.Core.Bool.{Bool, true, false, not, _||_, false≢true, or-false, or-assoc, or-comm}
 use mathlib.Core.List.{List, [], _∷_, _++_, map, append-assoc, map-append, map-map}
@@ -9,13 +7,12 @@ use lib.ListN.{length}
 use Rattle.values.specs.Bytes.{Bytes, is, any, same}
 use Rattle.values.proofs.Tests.{pass, fail, test, or-l, or-r, both}
 use Rattle.values.proofs.Sames.{same-sound, same-sym}
-use Rattle.rules.specs.Sizes.{limits}
+use Rattle.rules.specs.Sizes.{Limits}
 use Rattle.rules.specs.Version.{Version}
 use Rattle.rules.specs.Known.{isIn, isTyped, typedKeys}
 use Rattle.rules.specs.Record.{Record, fileformat}
 use Rattle.rules.specs.Columns.{Columns}
-use Rattle.rules.specs.Entry.{Entry, place, recordEntry, columnEntries, words}
-use Rattle.rules.specs.Shown.{kindIn}
+use Rattle.rules.specs.Entry.{Entry, formatKind, columnsKind, plainEntry, recordEntry, columnEntries}
 use Rattle.rules.specs.Reading.{keyOf}
 use Rattle.rules.specs.Meaning.{under, without, otherKeys, meaning}
 use Rattle.rules.specs.House.{writeRecord, writeColumns, houseLines}
@@ -24,40 +21,38 @@ use Rattle.rules.proofs.Alls.{All}
 use Rattle.rules.proofs.Records.{Entered}
 use Rattle.rules.proofs.Groups.{arrange, under-yes, under-no, without-yes, without-no, keys-typed, keys-other, allKeys}
 use Rattle.rules.proofs.House.{house-lines}
-use Rattle.rules.proofs.Samples.{GoodColumns, columns-in}
+use Rattle.rules.proofs.Samples.{columns-in}
 use Rattle.rules.proofs.Tidy.{tidied}
 use Rattle.rules.proofs.Trace.{TracedHeader}
-use Rattle.ids.specs.Clashes.{lineIn, prefixOf}
+use Rattle.ids.specs.Clashes.{prefixOf}
 use Rattle.forms.specs.Lines.{lineOf}
 use Rattle.house.specs.Keys.{isUnder, picked, AllReadable, linesUnder, prefixIn, seenUnder, isFirst, given, otherLines}
-use Rattle.house.specs.Forms.{columnWord, recordLines, formLines}
+use Rattle.house.specs.Forms.{columnLine, recordLines, formLines}
 use Rattle.house.proofs.Picks.{picked-yes, picked-no}
-use Rattle.house.proofs.Entries.{placed, Aside, RowIs, Are, rows-are, format-aside, columns-aside}
+use Rattle.house.proofs.Entries.{line-of, Aside, RowIs, Are, rows-are, format-aside, columns-aside}
 
 abbrev Plain : Bytes → Type 0
 Plain k = any (is 61) k ≡ false
 
 abbrev Asides : List Entry → Type 0
-Asides = All (λ (e : Entry). Aside (e .0))
+Asides = All Aside
 
 module _ (v : Version) (h : Bytes) where
-  not-under : (prefix : Bytes) (w : ℕ) → Aside w → isUnder h prefix w ≡ false
+  not-under : (prefix : Bytes) (e : Entry) → Aside e → isUnder h prefix e ≡ false
   unfolding isUnder
-  not-under prefix w a = rw (a .unrecorded)
+  not-under prefix e a = rw (a .unrecorded)
 
-  not-first : (ahead : List ℕ) (w : ℕ) → Aside w → isFirst h ahead w ≡ false
+  not-first : (ahead : List Entry) (e : Entry) → Aside e → isFirst h ahead e ≡ false
   unfolding isFirst
-  not-first ahead w a = rw (a .not-other)
+  not-first ahead e a = rw (a .not-other)
 
   -- Every line can be read
 
-  aside-readable : (es : List Entry) → Asides es → AllReadable v h (words es)
-  unfolding words
+  aside-readable : (es : List Entry) → Asides es → AllReadable v h es
   aside-readable [] a = tt
   aside-readable (e ∷ es) a = (λ q. both q (a .0 .unrecorded), aside-readable es (a .1))
 
-  rows-readable : (es : List Entry) (rs : List Record) (rest : List Entry) → Are v h es rs → Asides rest → AllReadable v h (words (es ++ rest))
-  unfolding words
+  rows-readable : (es : List Entry) (rs : List Record) (rest : List Entry) → Are v h es rs → Asides rest → AllReadable v h (es ++ rest)
   rows-readable [] [] rest a b = aside-readable rest b
   rows-readable [] (r ∷ rs) rest a b = absurd a
   rows-readable (e ∷ es) [] rest a b = absurd a
@@ -65,32 +60,27 @@ module _ (v : Version) (h : Bytes) where
 
   -- The entries of a key are the records under it
 
-  picked-aside : (prefix : Bytes) (es : List Entry) → Asides es → picked v h prefix (words es) ≡ []
-  unfolding words picked
+  picked-aside : (prefix : Bytes) (es : List Entry) → Asides es → picked v h prefix es ≡ []
+  unfolding picked
   picked-aside prefix [] a = refl
-  picked-aside prefix (e ∷ es) a = picked-no v h prefix (e .0) (e .1) (words es) (not-under prefix (e .0) (a .0)) ∙ picked-aside prefix es (a .1)
+  picked-aside prefix (e ∷ es) a = picked-no v h prefix e es (not-under prefix e (a .0)) ∙ picked-aside prefix es (a .1)
 
-  picked-rows : (k : Bytes) → Plain k → (es : List Entry) (rs : List Record) (rest : List Entry) → Are v h es rs → Asides rest → picked v h (prefixOf k) (words (es ++ rest)) ≡ map (lineOf v) (under k rs)
-  unfolding words under
+  picked-rows : (k : Bytes) → Plain k → (es : List Entry) (rs : List Record) (rest : List Entry) → Are v h es rs → Asides rest → picked v h (prefixOf k) (es ++ rest) ≡ map (lineOf v) (under k rs)
+  unfolding under
   picked-rows k p [] [] rest a b = picked-aside (prefixOf k) rest b
   picked-rows k p [] (r ∷ rs) rest a b = absurd a
   picked-rows k p (e ∷ es) [] rest a b = absurd a
   picked-rows k p (e ∷ es) (r ∷ rs) rest a b = elim (test (same (keyOf r) k)) [
-    | pass q ↦ picked-yes v h (prefixOf k) (e .0) (e .1) (words (es ++ rest)) (a .0 .under k p ∙ q)
+    | pass q ↦ picked-yes v h (prefixOf k) e (es ++ rest) (a .0 .under k p ∙ q)
         ∙ ap₂ _∷_ (a .0 .written) (picked-rows k p es rs rest (a .1) b) ∙ sym (ap (map (lineOf v)) (under-yes k r rs q))
-    | fail q ↦ picked-no v h (prefixOf k) (e .0) (e .1) (words (es ++ rest)) (a .0 .under k p ∙ q)
+    | fail q ↦ picked-no v h (prefixOf k) e (es ++ rest) (a .0 .under k p ∙ q)
         ∙ picked-rows k p es rs rest (a .1) b ∙ sym (ap (map (lineOf v)) (under-no k r rs q))
   ]
 
-  seen-snoc : (prefix : Bytes) (es : List Entry) (e : Entry) → seenUnder h prefix (words (es ++ e ∷ [])) ≡ (seenUnder h prefix (words es) || isUnder h prefix (e .0))
-  unfolding words seenUnder
-  seen-snoc prefix [] e = or-false (isUnder h prefix (e .0))
-  seen-snoc prefix (f ∷ es) e = rw (seen-snoc prefix es e) (sym (or-assoc (isUnder h prefix (f .0)) (seenUnder h prefix (words es)) (isUnder h prefix (e .0))))
-
-words-snoc : (es : List Entry) (e : Entry) → words es ++ e .0 ∷ e .1 ∷ [] ≡ words (es ++ e ∷ [])
-unfolding words
-words-snoc [] e = refl
-words-snoc (f ∷ es) e = ap (λ (ws : List ℕ). f .0 ∷ f .1 ∷ ws) (words-snoc es e)
+  seen-snoc : (prefix : Bytes) (es : List Entry) (e : Entry) → seenUnder h prefix (es ++ e ∷ []) ≡ (seenUnder h prefix es || isUnder h prefix e)
+  unfolding seenUnder
+  seen-snoc prefix [] e = or-false (isUnder h prefix e)
+  seen-snoc prefix (f ∷ es) e = rw (seen-snoc prefix es e) (sym (or-assoc (isUnder h prefix f) (seenUnder h prefix es) (isUnder h prefix e)))
 
 -- The keys that are not typed, each where it first appears and if it is none of ks
 
@@ -154,7 +144,7 @@ fresh-lacking ks (r ∷ rs) = elim (test (isTyped (keyOf r))) [
 typed-not : (j k : Bytes) → isTyped j ≡ true → isTyped k ≡ false → same j k ≡ false
 typed-not j k a b = elim (test (same j k)) [ pass e ↦ both (rw (same-sound j k e) at a) b | fail e ↦ e ]
 
-module _ (v : Version) (h : Bytes) (all : List ℕ) (ts : List Record) (pick : (k : Bytes) → Plain k → picked v h (prefixOf k) all ≡ map (lineOf v) (under k ts)) where
+module _ (v : Version) (h : Bytes) (all : List Entry) (ts : List Record) (pick : (k : Bytes) → Plain k → picked v h (prefixOf k) all ≡ map (lineOf v) (under k ts)) where
   -- the lines of these keys, then more
   lines-arranged : (js ks : List Bytes) {ls : List Bytes} → All Plain js → ls ≡ map (lineOf v) (arrange ks ts) → linesUnder v h all js ++ ls ≡ map (lineOf v) (arrange (js ++ ks) ts)
   unfolding linesUnder arrange
@@ -164,14 +154,14 @@ module _ (v : Version) (h : Bytes) (all : List ℕ) (ts : List Record) (pick : (
       ∙ ap₂ _++_ (pick j (p .0)) (lines-arranged js ks (p .1) e)
       ∙ sym (map-append (lineOf v) (under j ts) (arrange (js ++ ks) ts))
 
-  others-aside : (ahead : List ℕ) (es : List Entry) → Asides es → otherLines v h all ahead (words es) ≡ []
-  unfolding words otherLines
+  others-aside : (ahead : List Entry) (es : List Entry) → Asides es → otherLines v h all ahead es ≡ []
+  unfolding otherLines
   others-aside ahead [] a = refl
-  others-aside ahead (e ∷ es) a = rw (not-first v h ahead (e .0) (a .0)) (others-aside (ahead ++ e .0 ∷ e .1 ∷ []) es (a .1))
+  others-aside ahead (e ∷ es) a = rw (not-first v h ahead e (a .0)) (others-aside (ahead ++ e ∷ []) es (a .1))
 
   -- ks are the other keys that were seen in the entries before
   abbrev Seen : List Entry → List Bytes → Type 0
-  Seen es ks = (k : Bytes) → Plain k → isTyped k ≡ false → seenUnder h (prefixOf k) (words es) ≡ isIn k ks
+  Seen es ks = (k : Bytes) → Plain k → isTyped k ≡ false → seenUnder h (prefixOf k) es ≡ isIn k ks
 
   seen-typed : (ahead : List Entry) (ks : List Bytes) (e : Entry) (r : Record) → RowIs v h e r → isTyped (keyOf r) ≡ true → Seen ahead ks → Seen (ahead ++ e ∷ []) ks
   seen-typed ahead ks e r a t s k p u = seen-snoc v h (prefixOf k) ahead e ∙ rw (s k p u, a .under k p, typed-not (keyOf r) k t u) (or-comm (isIn k ks) false)
@@ -180,24 +170,24 @@ module _ (v : Version) (h : Bytes) (all : List ℕ) (ts : List Record) (pick : (
   unfolding isIn
   seen-other ahead ks e r a s k p u = seen-snoc v h (prefixOf k) ahead e ∙ rw (s k p u, a .under k p) (or-comm (isIn k ks) (same (keyOf r) k))
 
-  typed-first : (ahead : List Entry) (e : Entry) (r : Record) → RowIs v h e r → isTyped (keyOf r) ≡ true → isFirst h (words ahead) (e .0) ≡ false
+  typed-first : (ahead : List Entry) (e : Entry) (r : Record) → RowIs v h e r → isTyped (keyOf r) ≡ true → isFirst h ahead e ≡ false
   unfolding isFirst
   typed-first ahead e r a t = rw (a .other, t)
 
-  other-first : (ahead : List Entry) (ks : List Bytes) (e : Entry) (r : Record) → RowIs v h e r → isTyped (keyOf r) ≡ false → Seen ahead ks → isFirst h (words ahead) (e .0) ≡ not (isIn (keyOf r) ks)
+  other-first : (ahead : List Entry) (ks : List Bytes) (e : Entry) (r : Record) → RowIs v h e r → isTyped (keyOf r) ≡ false → Seen ahead ks → isFirst h ahead e ≡ not (isIn (keyOf r) ks)
   unfolding isFirst
   other-first ahead ks e r a t s = rw (a .other, t, a .prefix, s (keyOf r) (a .plain) t)
 
   -- one entry off the front
-  others-turn : (ahead : List Entry) (e : Entry) (es : List Entry) {b : Bool} → isFirst h (words ahead) (e .0) ≡ b
-      → otherLines v h all (words ahead) (words (e ∷ es)) ≡ given b (picked v h (prefixIn h (e .0)) all) ++ otherLines v h all (words (ahead ++ e ∷ [])) (words es)
-  unfolding words otherLines
-  others-turn ahead e es q = rw (q, words-snoc ahead e)
+  others-turn : (ahead : List Entry) (e : Entry) (es : List Entry) {b : Bool} → isFirst h ahead e ≡ b
+      → otherLines v h all ahead (e ∷ es) ≡ given b (picked v h (prefixIn h e) all) ++ otherLines v h all (ahead ++ e ∷ []) es
+  unfolding otherLines
+  others-turn ahead e es q = rw q
 
   others-arranged : (es : List Entry) (rs : List Record) (rest : List Entry) → Are v h es rs → Asides rest → (ahead : List Entry) (ks : List Bytes) → Seen ahead ks
-      → otherLines v h all (words ahead) (words (es ++ rest)) ≡ map (lineOf v) (arrange (freshKeys ks rs) ts)
+      → otherLines v h all ahead (es ++ rest) ≡ map (lineOf v) (arrange (freshKeys ks rs) ts)
   unfolding freshKeys arrange
-  others-arranged [] [] rest a b ahead ks s = others-aside (words ahead) rest b
+  others-arranged [] [] rest a b ahead ks s = others-aside ahead rest b
   others-arranged [] (r ∷ rs) rest a b ahead ks s = absurd a
   others-arranged (e ∷ es) [] rest a b ahead ks s = absurd a
   others-arranged (e ∷ es) (r ∷ rs) rest a b ahead ks s = elim (test (isTyped (keyOf r))) [
@@ -218,59 +208,57 @@ module _ (v : Version) (h : Bytes) (all : List ℕ) (ts : List Record) (pick : (
 
 -- A header's entries: its version's line, its records, its column line and samples
 
-module _ (v : Version) (h : Bytes) (own : Entry) (es : List Entry) (rs : List Record) (rest : List Entry) (aside : Aside (own .0)) (are : Are v h es rs) (asides : Asides rest) where
-  abbrev ws : List ℕ
-  ws = words (own ∷ (es ++ rest))
+module _ (v : Version) (h : Bytes) (own : Entry) (es : List Entry) (rs : List Record) (rest : List Entry) (aside : Aside own) (are : Are v h es rs) (asides : Asides rest) where
+  abbrev all : List Entry
+  all = own ∷ (es ++ rest)
 
-  all-readable : AllReadable v h ws
-  unfolding words
+  all-readable : AllReadable v h all
   all-readable = (λ q. both q (aside .unrecorded), rows-readable v h es rs rest are asides)
 
-  pick-under : (k : Bytes) → Plain k → picked v h (prefixOf k) ws ≡ map (lineOf v) (under k rs)
-  unfolding words
-  pick-under k p = picked-no v h (prefixOf k) (own .0) (own .1) (words (es ++ rest)) (not-under v h (prefixOf k) (own .0) aside) ∙ picked-rows v h k p es rs rest are asides
+  pick-under : (k : Bytes) → Plain k → picked v h (prefixOf k) all ≡ map (lineOf v) (under k rs)
+  pick-under k p = picked-no v h (prefixOf k) own (es ++ rest) (not-under v h (prefixOf k) own aside) ∙ picked-rows v h k p es rs rest are asides
 
-  none-seen : Seen v h ws rs pick-under (own ∷ []) []
-  unfolding words seenUnder isIn
-  none-seen k p u = rw (not-under v h (prefixOf k) (own .0) aside)
+  none-seen : Seen v h all rs pick-under (own ∷ []) []
+  unfolding seenUnder isIn
+  none-seen k p u = rw (not-under v h (prefixOf k) own aside)
 
-  others-are : otherLines v h ws [] ws ≡ map (lineOf v) (arrange (otherKeys rs) rs)
-  unfolding words otherLines lacking
+  others-are : otherLines v h all [] all ≡ map (lineOf v) (arrange (otherKeys rs) rs)
+  unfolding otherLines lacking
   others-are =
-      rw (not-first v h [] (own .0) aside)
-      (others-arranged v h ws rs pick-under es rs rest are asides (own ∷ []) [] none-seen ∙ ap (λ (ks : List Bytes). map (lineOf v) (arrange ks rs)) (fresh-lacking [] rs))
+      rw (not-first v h [] own aside)
+      (others-arranged v h all rs pick-under es rs rest are asides (own ∷ []) [] none-seen ∙ ap (λ (ks : List Bytes). map (lineOf v) (arrange ks rs)) (fresh-lacking [] rs))
 
   typed-plain : All Plain typedKeys
   unfolding any
   typed-plain = (refl, (refl, (refl, (refl, (refl, tt)))))
 
-  records-are : recordLines v h ws ≡ map (lineOf v) (arrange (allKeys rs) rs)
+  records-are : recordLines v h all ≡ map (lineOf v) (arrange (allKeys rs) rs)
   unfolding recordLines
-  records-are = lines-arranged v h ws rs pick-under typedKeys (otherKeys rs) typed-plain others-are
+  records-are = lines-arranged v h all rs pick-under typedKeys (otherKeys rs) typed-plain others-are
 
-  rows-column : (fs : List Entry) (ss : List Record) → Are v h fs ss → columnWord (words (fs ++ rest)) ≡ columnWord (words rest)
-  unfolding words columnWord
+  rows-column : (fs : List Entry) (ss : List Record) → Are v h fs ss → columnLine h (fs ++ rest) ≡ columnLine h rest
+  unfolding columnLine
   rows-column [] [] a = refl
   rows-column [] (s ∷ ss) a = absurd a
   rows-column (f ∷ fs) [] a = absurd a
   rows-column (f ∷ fs) (s ∷ ss) a = rw (a .0 .no-columns) (rows-column fs ss (a .1))
 
-  column-is : kindIn (own .0) ≡ 1 → columnWord ws ≡ columnWord (words rest)
-  unfolding words columnWord
+  column-is : own .kind ≡ formatKind → columnLine h all ≡ columnLine h rest
+  unfolding columnLine
   column-is e = rw e (rows-column es rs are)
 
 -- an accepted header: every record's line can be read, and the lines are those of its meaning
 pub record FormIs (v : Version) (h : Bytes) (rs : List Record) (c : Columns) (es : List Entry) : Type 0 where
-  pub readable : AllReadable v h (words es)
-  pub lines : formLines v h (words es) ≡ houseLines (meaning v rs c)
+  pub readable : AllReadable v h es
+  pub lines : formLines v h es ≡ houseLines (meaning v rs c)
 
 form-lines : (v : Version) (rs : List Record) (c : Columns) → houseLines (meaning v rs c) ≡ writeRecord (fileformat v) ∷ (map (lineOf v) (arrange (allKeys rs) rs) ++ writeColumns (c .format) (c .samples) ∷ [])
 form-lines v rs c = house-lines v rs c ∙ ap (λ (ls : List Bytes). writeRecord (fileformat v) ∷ (ls ++ writeColumns (c .format) (c .samples) ∷ [])) (map-map writeRecord (tidied v) (arrange (allKeys rs) rs))
 
-module _ (imposed : Option Version) (h : Bytes) (within : length h ≤ 1048575) (v : Version) (rs : List Record) (c : Columns) (entries : List Entry)
-    (t : TracedHeader limits imposed h v rs c entries) (good : All (Entered v) rs) (columns : GoodColumns c) where
+module _ (lim : Limits) (imposed : Option Version) (h : Bytes) (v : Version) (rs : List Record) (c : Columns) (entries : List Entry)
+    (t : TracedHeader lim imposed h v rs c entries) (good : All (Entered v) rs) where
   abbrev own : Entry
-  own = recordEntry (t .own) 0 (t .format) (fileformat (t .own))
+  own = plainEntry formatKind 0 (length (t .format))
 
   abbrev rest : List Entry
   rest = columnEntries (t .start) (t .line) c
@@ -278,19 +266,18 @@ module _ (imposed : Option Version) (h : Bytes) (within : length h ≤ 1048575) 
   column-line : writeColumns (c .format) (c .samples) ≡ t .line
   column-line = on-ok (λ (x : Columns). writeColumns (x .format) (x .samples) ≡ t .line) (columns-in (t .line)) (t .readLast)
 
-  last-line : lineIn h (columnWord (words rest)) ≡ t .line
-  unfolding columnEntries words columnWord
-  last-line = let d = placed h within 9 (t .start) (t .line) (omega arith) (t .last) (place 9 (t .start) (length (t .line))) refl in rw (d .0) (d .1)
+  last-line : columnLine h rest ≡ t .line
+  unfolding columnEntries columnLine
+  last-line = line-of lim h (t .start) (t .line) (t .last) (plainEntry columnsKind (t .start) (length (t .line))) refl refl
 
   pub form-is : FormIs v h rs c entries
   unfolding formLines recordEntry
   form-is =
-      let aside = format-aside h within (t .own) (t .own) (t .format) (t .first) in
-      let are = rows-are v h within (t .rows) rs (t .all) good in
-      let asides = columns-aside h within (t .start) (t .line) c (t .last) column-line columns in
-      let kind = placed h within 1 0 (t .format) (omega arith) (t .first) (own .0) refl .0 in
-      let column : lineIn h (columnWord (words (own ∷ (t .rows ++ rest)))) ≡ writeColumns (c .format) (c .samples)
-      = ap (lineIn h) (column-is v h own (t .rows) rs rest aside are asides kind) ∙ last-line ∙ sym column-line in
+      let aside = format-aside 0 (length (t .format)) in
+      let are = rows-are lim v h (t .rows) rs (t .all) good in
+      let asides = columns-aside (t .start) (t .line) c in
+      let column : columnLine h (own ∷ (t .rows ++ rest)) ≡ writeColumns (c .format) (c .samples)
+      = column-is v h own (t .rows) rs rest aside are asides refl ∙ last-line ∙ sym column-line in
       rw (t .these) (record {
         readable = all-readable v h own (t .rows) rs rest aside are asides;
         lines = rw (records-are v h own (t .rows) rs rest aside are asides, column, form-lines v rs c);

@@ -5,16 +5,20 @@ use mathlib.Core.Path.{_≡_, refl, sym, ap, subst, _∙_}
 use mathlib.Core.Bool.{Bool, true, false}
 use mathlib.Core.List.{List, [], _∷_, _++_, append-assoc, append-nil}
 use lib.Dec.{ltb}
-use lib.ListN.{length, getD, drop}
+use lib.ListN.{length, drop}
 use borrow.Author.Tests.{lt-ltb, le-ltb}
 use Rattle.values.specs.Bytes.{Bytes, ascii, starts}
 use Rattle.values.specs.Written.{last}
 use Rattle.values.proofs.Tests.{and-l, and-off}
 use Rattle.rules.specs.Version.{Version}
 use Rattle.rules.specs.Known.{typedKeys}
-use Rattle.rules.specs.Shown.{kindIn}
-use Rattle.ids.specs.Clashes.{lineIn, prefixOf}
-use Rattle.ids.proofs.Seen.{pair, Short, none, one, short}
+use Rattle.rules.specs.Entry.{Entry}
+use Rattle.rules.specs.Shown.{lineIn}
+use Rattle.entries.specs.declared.entry.Entry.{Entry as CodeEntry}
+use Rattle.entries.specs.Values.{entryOf}
+use Rattle.entries.specs.Tables.{room, entriesIn, entryIn}
+use Rattle.entries.proofs.Stored.{entries-here, entries-past}
+use Rattle.ids.specs.Clashes.{prefixOf}
 use Rattle.house.specs.declared.progress.Progress.{Progress}
 use Rattle.forms.specs.Lines.{houseLine}
 use Rattle.house.specs.Writes.{WroteLines, Readable, PutsEntry}
@@ -22,122 +26,116 @@ use Rattle.house.specs.Keys.{isRecord, isUnder, picked, AllReadable, Put
 use Rattle.house.proofs.Writes.{wrote-no-lines, then-lines}
 
 -- what answers the needs of `is_under`
-module _ (h prefix : Bytes) (w : ℕ) {kind : ℕ} (e : kind ≡ kindIn w) where
-  pub under-low : kind < 2 → false ≡ isUnder h prefix w
+module _ (h prefix : Bytes) (e : CodeEntry) where
+  pub under-low : e .kind < 2 → false ≡ isUnder h prefix (entryOf e)
   unfolding isUnder
-  under-low l = rw (← e, le-ltb 1 kind (omega arith))
+  under-low l = rw (le-ltb 1 (e .kind) (omega arith))
 
-  pub under-high : 8 < kind → false ≡ isUnder h prefix w
+  pub under-high : 8 < e .kind → false ≡ isUnder h prefix (entryOf e)
   unfolding isUnder
-  under-high l = rw (← e, le-ltb kind 9 (omega arith), and-off (ltb 1 kind) refl)
+  under-high l = rw (le-ltb (e .kind) 9 (omega arith), and-off (ltb 1 (e .kind)) refl)
 
-  pub under-line : 2 ≤ kind → kind ≤ 8 → {p : Bytes} → p ≡ lineIn h w → {r : Bool} → r ≡ starts prefix p → r ≡ isUnder h prefix w
+  pub under-line : 2 ≤ e .kind → e .kind ≤ 8 → {p : Bytes} → p ≡ lineIn h (entryOf e) → {r : Bool} → r ≡ starts prefix p → r ≡ isUnder h prefix (entryOf e)
   unfolding isUnder
-  under-line a b q r = r ∙ rw (← e, lt-ltb 1 kind (omega arith), lt-ltb kind 9 (omega arith), q)
+  under-line a b q r = r ∙ rw (lt-ltb 1 (e .kind) (omega arith), lt-ltb (e .kind) 9 (omega arith), q)
 
 pub ruleset unders = (under-low, under-high, under-line)
 
-module _ (v : Version) (h prefix : Bytes) (w x : ℕ) (ws : List ℕ) where
-  pub picked-yes : isUnder h prefix w ≡ true → picked v h prefix (w ∷ x ∷ ws) ≡ houseLine v (lineIn h w) ∷ picked v h prefix ws
+module _ (v : Version) (h prefix : Bytes) (e : Entry) (es : List Entry) where
+  pub picked-yes : isUnder h prefix e ≡ true → picked v h prefix (e ∷ es) ≡ houseLine v (lineIn h e) ∷ picked v h prefix es
   unfolding picked
-  picked-yes e = rw e
+  picked-yes u = rw u
 
-  pub picked-no : isUnder h prefix w ≡ false → picked v h prefix (w ∷ x ∷ ws) ≡ picked v h prefix ws
+  pub picked-no : isUnder h prefix e ≡ false → picked v h prefix (e ∷ es) ≡ picked v h prefix es
   unfolding picked
-  picked-no e = rw e
+  picked-no u = rw u
 
--- The loop over the entries of a key: the lines before the word k are written
+-- The loop over the entries of a key: the lines of those before number k are written
 
-pub record Picks (v : Version) (h : Bytes) (ws : List ℕ) (prefix old : Bytes) (s₀ : Progress) (new : Bytes) (s : Progress) (k : ℕ) : Type 0 where
+pub record Picks (v : Version) (h : Bytes) (t : List ℕ) (prefix old : Bytes) (s₀ : Progress) (new : Bytes) (s : Progress) (k : ℕ) : Type 0 where
   pub before : List Bytes
-  pub whole : picked v h prefix ws ≡ before ++ picked v h prefix (drop k ws)
-  pub ready : AllReadable v h (drop k ws)
+  pub whole : picked v h prefix (entriesIn t) ≡ before ++ picked v h prefix (drop k (entriesIn t))
+  pub ready : AllReadable v h (drop k (entriesIn t))
   pub wrote : WroteLines old s₀ before s new
 
-pub record Picking (v : Version) (h : Bytes) (ws : List ℕ) (prefix old : Bytes) (s₀ : Progress) (new : Bytes) (s : Progress) (k : ℕ) : Type 0 where
-  pub inside : k ≤ length ws
+pub record Picking (v : Version) (h : Bytes) (t : List ℕ) (prefix old : Bytes) (s₀ : Progress) (new : Bytes) (s : Progress) (k : ℕ) : Type 0 where
   pub size : length new ≡ length old
-  pub is : AllReadable v h ws → Picks v h ws prefix old s₀ new s k
+  pub is : AllReadable v h (entriesIn t) → Picks v h t prefix old s₀ new s k
 
-pub pick-start : (v : Version) (h : Bytes) (ws : List ℕ) (prefix old : Bytes) (s : Progress) → s .next ≤ last → s .lines ≤ last → length old ≤ last → Picking v h ws prefix old s old s 0
-pick-start v h ws prefix old s a b d = record {
-  inside = omega arith;
+pub pick-start : (v : Version) (h : Bytes) (t : List ℕ) (prefix old : Bytes) (s : Progress) → s .next ≤ last → s .lines ≤ last → length old ≤ last → Picking v h t prefix old s old s 0
+pick-start v h t prefix old s a b d = record {
   size = refl;
   is = λ g. record { before = []; whole = refl; ready = g; wrote = wrote-no-lines old s a b d };
 }
 
-module _ {v : Version} {h : Bytes} {ws : List ℕ} {prefix old : Bytes} {s₀ : Progress} {new : Bytes} {s : Progress} {k : ℕ} (g : Picking v h ws prefix old s₀ new s k) where
-  module _ (l : k + 1 < length ws) where
-    abbrev w : ℕ
-    w = getD ws k 0
+module _ {v : Version} {h : Bytes} {t : List ℕ} {prefix old : Bytes} {s₀ : Progress} {new : Bytes} {s : Progress} {k : ℕ} (g : Picking v h t prefix old s₀ new s k) {n : ℕ} (en : n ≡ room t) where
+  -- e is the entry that the code got
+  module _ (l : k < n) {e : CodeEntry} (ee : entryOf e ≡ entryIn t k) {q : Bool} (u : q ≡ isUnder h prefix (entryOf e)) where
+    abbrev rest : List Entry
+    rest = drop (k + 1) (entriesIn t)
 
-    abbrev x : ℕ
-    x = getD ws (k + 1) 0
+    here : drop k (entriesIn t) ≡ entryOf e ∷ rest
+    here = entries-here t k (rw (← en) l) ∙ ap (_∷ rest) (sym ee)
 
-    here : AllReadable v h (drop k ws) → (isRecord w ≡ true → Readable v (lineIn h w)) × AllReadable v h (drop (k + 2) ws)
-    here a = subst (AllReadable v h) (pair ws k l) a
+    ready-here : AllReadable v h (drop k (entriesIn t)) → (isRecord (entryOf e) ≡ true → Readable v (lineIn h (entryOf e))) × AllReadable v h rest
+    ready-here a = subst (AllReadable v h) here a
 
-    pub pick-more : {t : Bool} → t ≡ isUnder h prefix w → t ≡ true → {r : Progress} {o : Bytes} → PutsEntry v (lineIn h w) new s r o → length o ≡ length new → Picking v h ws prefix old s₀ o r (k + 2)
+    pub pick-more : q ≡ true → {r : Progress} {o : Bytes} → PutsEntry v (lineIn h (entryOf e)) new s r o → length o ≡ length new → Picking v h t prefix old s₀ o r (k + 1)
     unfolding isUnder
-    pick-more {t} e q {r} {o} p n = record {
-      inside = omega arith;
-      size = n ∙ g .size;
+    pick-more f {r} {o} p m = record {
+      size = m ∙ g .size;
       is = λ a.
           let d = g .is a in
-          let u : isUnder h prefix w ≡ true = sym e ∙ q in
-          let y = here (d .ready) in
+          let w : isUnder h prefix (entryOf e) ≡ true = sym u ∙ f in
+          let line = houseLine v (lineIn h (entryOf e)) in
+          let y = ready-here (d .ready) in
           record {
-            before = d .before ++ houseLine v (lineIn h w) ∷ [];
-            whole = d .whole ∙ ap (d .before ++_) (ap (picked v h prefix) (pair ws k l) ∙ picked-yes v h prefix w x (drop (k + 2) ws) u) ∙ sym (append-assoc (d .before) (houseLine v (lineIn h w) ∷ []) (picked v h prefix (drop (k + 2) ws)));
+            before = d .before ++ line ∷ [];
+            whole = d .whole ∙ ap (d .before ++_) (ap (picked v h prefix) here ∙ picked-yes v h prefix (entryOf e) rest w) ∙ sym (append-assoc (d .before) (line ∷ []) (picked v h prefix rest));
             ready = y .1;
-            wrote = then-lines (d .wrote) (p .is (y .0 (and-l (isRecord w) (starts prefix (lineIn h w)) u)));
+            wrote = then-lines (d .wrote) (p .is (y .0 (and-l (isRecord (entryOf e)) (starts prefix (lineIn h (entryOf e))) w)));
           };
     }
 
-    pub pick-other : {t : Bool} → t ≡ isUnder h prefix w → t ≡ false → Picking v h ws prefix old s₀ new s (k + 2)
-    pick-other e q = record {
-      inside = omega arith;
+    pub pick-other : q ≡ false → Picking v h t prefix old s₀ new s (k + 1)
+    pick-other f = record {
       size = g .size;
       is = λ a.
           let d = g .is a in
           record {
             before = d .before;
-            whole = d .whole ∙ ap (d .before ++_) (ap (picked v h prefix) (pair ws k l) ∙ picked-no v h prefix w x (drop (k + 2) ws) (sym e ∙ q));
-            ready = here (d .ready) .1;
+            whole = d .whole ∙ ap (d .before ++_) (ap (picked v h prefix) here ∙ picked-no v h prefix (entryOf e) rest (sym u ∙ f));
+            ready = ready-here (d .ready) .1;
             wrote = d .wrote;
           };
     }
 
-  pub pick-end : length ws ≤ k + 1 → PutsKey v h ws prefix old s₀ s new
+  pub pick-end : n ≤ k → PutsKey v h (entriesIn t) prefix old s₀ s new
   unfolding picked
   pick-end l = record {
     is = λ a.
         let d = g .is a in
-        subst (λ (ls : List Bytes). WroteLines old s₀ ls s new) (sym (d .whole ∙ ap (d .before ++_) (no-more (short ws k l)) ∙ append-nil (d .before))) (d .wrote);
+        subst (λ (ls : List Bytes). WroteLines old s₀ ls s new) (sym (d .whole ∙ ap (d .before ++_) (rw (entries-past t k (rw (← en) l))) ∙ append-nil (d .before))) (d .wrote);
   }
-    where
-      no-more : {vs : List ℕ} → Short vs → picked v h prefix vs ≡ []
-      no-more none = refl
-      no-more (one w) = refl
 
 pub ruleset picks = (pick-more, pick-other, pick-end)
 
 -- what answers the needs of `put_later_typed` and `put_typed`
-module _ {v : Version} {h : Bytes} {ws : List ℕ} where
-  one-key : {k old : Bytes} {s : Progress} {ks : List Bytes} {r : Progress} {o : Bytes} {r′ : Progress} {o′ : Bytes} → PutsKey v h ws (prefixOf k) old s r o → PutsKeys v h ws ks o r r′ o′ → PutsKeys v h ws (k ∷ ks) old s r′ o′
+module _ {v : Version} {h : Bytes} {es : List Entry} where
+  one-key : {k old : Bytes} {s : Progress} {ks : List Bytes} {r : Progress} {o : Bytes} {r′ : Progress} {o′ : Bytes} → PutsKey v h es (prefixOf k) old s r o → PutsKeys v h es ks o r r′ o′ → PutsKeys v h es (k ∷ ks) old s r′ o′
   unfolding linesUnder
   one-key p q = record { is = λ a. then-lines (p .is a) (q .is a) }
 
-  last-key : {k old : Bytes} {s r : Progress} {o : Bytes} → PutsKey v h ws (prefixOf k) old s r o → PutsKeys v h ws (k ∷ []) old s r o
+  last-key : {k old : Bytes} {s r : Progress} {o : Bytes} → PutsKey v h es (prefixOf k) old s r o → PutsKeys v h es (k ∷ []) old s r o
   unfolding linesUnder
-  last-key {k} {old} {s} {r} {o} p = record { is = λ a. subst (λ (ls : List Bytes). WroteLines old s ls r o) (sym (append-nil (picked v h (prefixOf k) ws))) (p .is a) }
+  last-key {k} {old} {s} {r} {o} p = record { is = λ a. subst (λ (ls : List Bytes). WroteLines old s ls r o) (sym (append-nil (picked v h (prefixOf k) es))) (p .is a) }
 
-  pub later-keys : {old : Bytes} {s r₁ : Progress} {o₁ : Bytes} → PutsKey v h ws (prefixOf (ascii "FORMAT")) old s r₁ o₁
-      → {r₂ : Progress} {o₂ : Bytes} → PutsKey v h ws (prefixOf (ascii "ALT")) o₁ r₁ r₂ o₂
-      → {r₃ : Progress} {o₃ : Bytes} → PutsKey v h ws (prefixOf (ascii "contig")) o₂ r₂ r₃ o₃ → PutsKeys v h ws laterKeys old s r₃ o₃
+  pub later-keys : {old : Bytes} {s r₁ : Progress} {o₁ : Bytes} → PutsKey v h es (prefixOf (ascii "FORMAT")) old s r₁ o₁
+      → {r₂ : Progress} {o₂ : Bytes} → PutsKey v h es (prefixOf (ascii "ALT")) o₁ r₁ r₂ o₂
+      → {r₃ : Progress} {o₃ : Bytes} → PutsKey v h es (prefixOf (ascii "contig")) o₂ r₂ r₃ o₃ → PutsKeys v h es laterKeys old s r₃ o₃
   later-keys a b c = one-key a (one-key b (last-key c))
 
-  pub typed-keys : {old : Bytes} {s r₁ : Progress} {o₁ : Bytes} → PutsKey v h ws (prefixOf (ascii "INFO")) old s r₁ o₁
-      → {r₂ : Progress} {o₂ : Bytes} → PutsKey v h ws (prefixOf (ascii "FILTER")) o₁ r₁ r₂ o₂
-      → {r₃ : Progress} {o₃ : Bytes} → PutsKeys v h ws laterKeys o₂ r₂ r₃ o₃ → PutsKeys v h ws typedKeys old s r₃ o₃
+  pub typed-keys : {old : Bytes} {s r₁ : Progress} {o₁ : Bytes} → PutsKey v h es (prefixOf (ascii "INFO")) old s r₁ o₁
+      → {r₂ : Progress} {o₂ : Bytes} → PutsKey v h es (prefixOf (ascii "FILTER")) o₁ r₁ r₂ o₂
+      → {r₃ : Progress} {o₃ : Bytes} → PutsKeys v h es laterKeys o₂ r₂ r₃ o₃ → PutsKeys v h es typedKeys old s r₃ o₃
   typed-keys a b c = one-key a (one-key b c)

@@ -1,13 +1,13 @@
 -- Demand 3 for the calls: what they promise, with the rules' theorems, makes the form that they write the one form of a header. Assumes nothing.
-use Prim.Native.Nat.{ℕ, zero, suc, _≤_}
+use Prim.Native.Nat.{ℕ, zero, suc, _+_, _≤_}
 use native.Mathlib.Omega.{arith}
 use mathlib.Core.Path.{_≡_, refl, sym, ap, subst, _∙_}
 use mathlib.Core.List.{List}
 use mathlib.Core.Option.{Option, none, some}
 use mathlib.Core.Logic.{_↔_, _⊎_, ⊎-elim}
 use lib.Dec.{leb}
-use lib.ListN.{length, take}
-use lib.Seq.{sets}
+use lib.ListN.{length, take, drop}
+use lib.Seq.{sets, sets-eq, take-append-seam}
 use borrow.Author.Tests.{leb-true, le-leb}
 use Rattle.values.specs.Bytes.{Bytes}
 use Rattle.values.proofs.Tests.{pass, fail, test}
@@ -16,7 +16,6 @@ use Rattle.rules.specs.Sizes.{limits}
 use Rattle.rules.specs.Version.{Version}
 use Rattle.rules.specs.Record.{Record}
 use Rattle.rules.specs.Columns.{Columns}
-use Rattle.rules.specs.Entry.{words}
 use Rattle.rules.specs.Reading.{State, empty, ready, done, Reading, reading}
 use Rattle.rules.specs.Meaning.{Meaning, meaning}
 use Rattle.rules.specs.House.{houseLines, houseForm, HouseReading, tooLong, fitted, lined, formOf, houseOf, house}
@@ -30,15 +29,9 @@ use Rattle.records.proofs.Refusals.{number-suc}
 use Rattle.header.specs.declared.parser.Outcome.{Outcome}
 use Rattle.header.specs.declared.parser.Outcome.the-variants as outcome
 use Rattle.header.specs.Parsers.{outcomeNumber, outcomeSays, acceptedIn}
-use Rattle.header.proofs.Parsers.{take-sets}
+use Rattle.entries.specs.Tables.{room, stored}
 use Rattle.house.specs.declared.form.HouseAnswer.{HouseAnswer}
-use Rattle.house.specs.Answers.{ToldForm, toldForm, tellsForm}
-
--- what `house_form` promises of a call: the version imposed, the header, the table and the output; the answer, the table and the output after it
-pub record HouseCall (imposed : Option Version) (h : Bytes) (t : List ℕ) (out : Bytes) (r : HouseAnswer) (t′ : List ℕ) (out′ : Bytes) : Type 0 where
-  pub answer : toldForm r ≡ tellsForm (reading limits imposed (length t) h) (house limits imposed (length t) (length out) h)
-  pub table : t′ ≡ sets t 0 (words (reading limits imposed (length t) h .entries))
-  pub output : out′ ≡ sets out 0 (house limits imposed (length t) (length out) h .form)
+use Rattle.house.specs.Answers.{ToldForm, HouseCall}
 
 -- the call was accepted
 abbrev pub IsAccepted : HouseAnswer → Type 0
@@ -57,6 +50,9 @@ meant (suc n) s = none
 -- the meaning of a header, if it is accepted
 abbrev pub means : Option Version → ℕ → Bytes → Option Meaning
 means imposed room h = meant (reading limits imposed room h .number) (reading limits imposed room h .state)
+
+take-sets : (t₀ ws : List ℕ) (n : ℕ) → n ≡ length ws → length ws ≤ length t₀ → take n (sets t₀ 0 ws) ≡ ws
+take-sets t₀ ws n e l = rw (e, sets-eq ws t₀ 0 (omega arith)) (take-append-seam ws (drop (0 + length ws) t₀))
 
 -- A form that was accepted
 
@@ -100,18 +96,18 @@ record Wrote (imposed : Option Version) (h : Bytes) (t : List ℕ) (out : Bytes)
   version : Version
   records : List Record
   columns : Columns
-  accepted : Accepted version records columns (reading limits imposed (length t) h)
+  accepted : Accepted version records columns (reading limits imposed (room t) h)
   fits : Fits limits (meaning version records columns)
   size : r .length ≡ length (houseForm (meaning version records columns))
   form : written r out′ ≡ houseForm (meaning version records columns)
   inside : length (houseForm (meaning version records columns)) ≤ length out
 
-module _ {imposed : Option Version} {h : Bytes} {t : List ℕ} {out : Bytes} {r : HouseAnswer} {t′ : List ℕ} {out′ : Bytes} (call : HouseCall imposed h t out r t′ out′) where
+module _ {imposed : Option Version} {h : Bytes} {t : List ℕ} {out : Bytes} {r : HouseAnswer} {t′ : List ℕ} {out′ : Bytes} (call : HouseCall limits imposed h t out r t′ out′) where
   abbrev read : Reading
-  read = reading limits imposed (length t) h
+  read = reading limits imposed (room t) h
 
   abbrev answer : HouseReading
-  answer = house limits imposed (length t) (length out) h
+  answer = house limits imposed (room t) (length out) h
 
   -- the output, where the form is known
   wrote-form : {form : Bytes} → answer .form ≡ form → length form ≤ length out → (r .length ≡ length form) × (written r out′ ≡ form)
@@ -148,58 +144,83 @@ module _ {imposed : Option Version} {h : Bytes} {t : List ℕ} {out : Bytes} {r 
 means-is : (imposed : Option Version) (room : ℕ) (h : Bytes) {v : Version} {rs : List Record} {c : Columns} → Accepted v rs c (reading limits imposed room h) → means imposed room h ≡ some (meaning v rs c)
 means-is imposed room h a = rw (a .number, a .state)
 
+-- a header with a meaning was accepted
+record Meant (m : Meaning) (r : Reading) : Type 0 where
+  version : Version
+  records : List Record
+  columns : Columns
+  accepted : Accepted version records columns r
+  is : meaning version records columns ≡ m
+
+was-meant : (r : Reading) {m : Meaning} → meant (r .number) (r .state) ≡ some m → Meant m r
+was-meant r {m} e = go (r .number) refl (r .state) refl e
+  where
+    go : (n : ℕ) → r .number ≡ n → (s : State) → r .state ≡ s → meant n s ≡ some m → Meant m r
+    go zero z empty q e = none-not e
+    go zero z (ready v rs) q e = none-not e
+    go zero z (done v rs c) q e = record { version = v; records = rs; columns = c; accepted = record { number = z; state = q }; is = some-is e }
+    go (suc n) z s q e = none-not e
+
 is-accepted : (o : Outcome) → outcomeNumber o ≡ 0 → (f : FileFormat) × (n : ℕ) × (o ≡ outcome.Accepted f n)
 is-accepted (outcome.Accepted f n) e = (f, n, refl)
 is-accepted (outcome.Refused x) e = let n = number-suc x in absurd (omega (arith, n .1, e))
 
+house-meant : (size : ℕ) (g : Reading) {m : Meaning} → Meant m g → houseOf limits size g (g .state) ≡ formOf limits size g m
+house-meant size g a =
+    let d : houseOf limits size g (done (a .version) (a .records) (a .columns)) ≡ formOf limits size g (meaning (a .version) (a .records) (a .columns)) = rw (a .accepted .number) in
+    ap (houseOf limits size g) (a .accepted .state) ∙ d ∙ ap (formOf limits size g) (a .is)
+
+-- where a header means m, whose form fits the limits and the output, the call is accepted and writes that form
+pub form-written : {imposed : Option Version} {h : Bytes} {t : List ℕ} {out : Bytes} {r : HouseAnswer} {t′ : List ℕ} {out′ : Bytes} → HouseCall limits imposed h t out r t′ out′
+    → {m : Meaning} → means imposed (room t) h ≡ some m → Fits limits m → length (houseForm m) ≤ length out → IsAccepted r × (written r out′ ≡ houseForm m)
+unfolding house
+form-written {imposed} {h} {t} {out} {r} call {m} e f n =
+    let g = reading limits imposed (room t) h in
+    let a = was-meant g e in
+    let is : house limits imposed (room t) (length out) h ≡ formOf limits (length out) g m = house-meant (length out) g a in
+    let d = fitting (length out) g m f n in (
+      is-accepted (r .outcome) (ap (λ (y : ToldForm). y .number) (call .answer) ∙ ap (λ (y : HouseReading). y .number) is ∙ d .0),
+      wrote-form call (ap (λ (y : HouseReading). y .form) is ∙ d .1) n .1,
+    )
+
 -- two accepted calls, on two headers: the headers mean the same exactly when the forms that were written are equal
 pub one-form : {imposed imposed′ : Option Version} {h h′ : Bytes} {t t₁ u u₁ : List ℕ} {out out₁ o o₁ : Bytes} {r s : HouseAnswer}
-    → SizedOption imposed → SizedOption imposed′ → HouseCall imposed h t out r t₁ out₁ → HouseCall imposed′ h′ u o s u₁ o₁ → IsAccepted r → IsAccepted s
-    → (means imposed (length t) h ≡ means imposed′ (length u) h′) ↔ (written r out₁ ≡ written s o₁)
+    → SizedOption imposed → SizedOption imposed′ → HouseCall limits imposed h t out r t₁ out₁ → HouseCall limits imposed′ h′ u o s u₁ o₁ → IsAccepted r → IsAccepted s
+    → (means imposed (room t) h ≡ means imposed′ (room u) h′) ↔ (written r out₁ ≡ written s o₁)
 one-form {imposed} {imposed′} {h} {h′} {t} {u = u} i j p q a b =
     let x = wrote p a in
     let y = wrote q b in
-    let m = means-is imposed (length t) h (x .accepted) in
-    let n = means-is imposed′ (length u) h′ (y .accepted) in
-    let same = house-canonical limits imposed imposed′ (length t) (length u) h h′ i j (x .accepted) (y .accepted) (x .fits) (y .fits) in (
+    let m = means-is imposed (room t) h (x .accepted) in
+    let n = means-is imposed′ (room u) h′ (y .accepted) in
+    let same = house-canonical limits imposed imposed′ (room t) (room u) h h′ i j (x .accepted) (y .accepted) (x .fits) (y .fits) in (
       (λ e. x .form ∙ same .0 (some-is (sym m ∙ e ∙ n)) ∙ sym (y .form)),
       (λ e. m ∙ ap some (same .1 (sym (x .form) ∙ e ∙ y .form)) ∙ sym n),
     )
 
 module _ {imposed : Option Version} {h : Bytes} {t : List ℕ} {out : Bytes} {r : HouseAnswer} {t₁ : List ℕ} {out₁ : Bytes}
-    (sized : SizedOption imposed) (call : HouseCall imposed h t out r t₁ out₁) (a : IsAccepted r) where
+    (sized : SizedOption imposed) (call : HouseCall limits imposed h t out r t₁ out₁) (a : IsAccepted r) where
   -- what was written, read with a table of at least the same size
-  again : (room : ℕ) → length t ≤ room
-      → (rs : List Record) × Accepted (wrote call a .version) rs (wrote call a .columns) (reading limits none room (written r out₁))
+  again : (n : ℕ) → room t ≤ n
+      → (rs : List Record) × Accepted (wrote call a .version) rs (wrote call a .columns) (reading limits none n (written r out₁))
       × (meaning (wrote call a .version) rs (wrote call a .columns) ≡ meaning (wrote call a .version) (wrote call a .records) (wrote call a .columns))
-  again room l =
+  again n l =
       let x = wrote call a in
-      let b = house-reads-back limits imposed (length t) h sized (x .accepted) (x .fits) in
+      let b = house-reads-back limits imposed (room t) h sized (x .accepted) (x .fits) in
       let g = houseForm (meaning (x .version) (x .records) (x .columns)) in
-      rw (x .form) (b .0, more g (b .1) (rooms limits none (length t) room g l), b .2)
+      rw (x .form) (b .0, more g (b .1) (rooms limits none (room t) n g l), b .2)
     where
-      more : (g : Bytes) {v : Version} {rs : List Record} {c : Columns} → Accepted v rs c (reading limits none (length t) g)
-          → (reading limits none (length t) g .number ≡ 24) ⊎ (reading limits none room g ≡ reading limits none (length t) g) → Accepted v rs c (reading limits none room g)
+      more : (g : Bytes) {v : Version} {rs : List Record} {c : Columns} → Accepted v rs c (reading limits none (room t) g)
+          → (reading limits none (room t) g .number ≡ 24) ⊎ (reading limits none n g ≡ reading limits none (room t) g) → Accepted v rs c (reading limits none n g)
       more g {v} {rs} {c} d = ⊎-elim (λ e. absurd (omega (arith, d .number, e))) (λ e. subst (Accepted v rs c) (sym e) d)
 
   -- reading what was written gives the same meaning
-  pub reads-back : (room : ℕ) → length t ≤ room → means none room (written r out₁) ≡ means imposed (length t) h
-  reads-back room l = let b = again room l in means-is none room (written r out₁) (b .1) ∙ ap some (b .2) ∙ sym (means-is imposed (length t) h (wrote call a .accepted))
+  pub reads-back : (n : ℕ) → room t ≤ n → means none n (written r out₁) ≡ means imposed (room t) h
+  reads-back n l = let b = again n l in means-is none n (written r out₁) (b .1) ∙ ap some (b .2) ∙ sym (means-is imposed (room t) h (wrote call a .accepted))
 
   -- a call on what was written, with a table of at least the same size and an output that holds it, is accepted and writes the same
-  pub fixed : {u u₁ : List ℕ} {o o₁ : Bytes} {s : HouseAnswer} → HouseCall none (written r out₁) u o s u₁ o₁ → length t ≤ length u → r .length ≤ length o
+  pub fixed : {u u₁ : List ℕ} {o o₁ : Bytes} {s : HouseAnswer} → HouseCall limits none (written r out₁) u o s u₁ o₁ → room t ≤ room u → r .length ≤ length o
       → IsAccepted s × (written s o₁ ≡ written r out₁)
-  unfolding house
-  fixed {u} {o = o} {s = s} call′ l m =
+  fixed {u} {o = o} call′ l m =
       let x = wrote call a in
-      let b = again (length u) l in
-      let g = reading limits none (length u) (written r out₁) in
-      let k = meaning (x .version) (b .0) (x .columns) in
-      let is : house limits none (length u) (length o) (written r out₁) ≡ formOf limits (length o) g k = rw (b .1 .state, b .1 .number) in
-      let f : Fits limits k = subst (Fits limits) (sym (b .2)) (x .fits) in
-      let n : length (houseForm k) ≤ length o = rw (b .2) (omega (arith, x .size)) in
-      let d = fitting (length o) g k f n in
-      let w = wrote-form call′ (ap (λ (y : HouseReading). y .form) is ∙ d .1) n in (
-        is-accepted (s .outcome) (ap (λ (y : ToldForm). y .number) (call′ .answer) ∙ ap (λ (y : HouseReading). y .number) is ∙ d .0),
-        w .1 ∙ ap houseForm (b .2) ∙ sym (x .form),
-      )
+      let d = form-written call′ (reads-back (room u) l ∙ means-is imposed (room t) h (x .accepted)) (x .fits) (omega (arith, x .size)) in
+      (d .0, d .1 ∙ sym (x .form))

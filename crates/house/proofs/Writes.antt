@@ -15,7 +15,6 @@ use Rattle.values.proofs.Tests.{pass, fail, test, and-off}
 use Rattle.values.proofs.Lists.{any-append}
 use Rattle.values.proofs.Decimals.{decimal-lacks}
 use Rattle.values.proofs.Outputs.{wrote-nothing, then}
-use Rattle.rules.specs.Sizes.{limits}
 use Rattle.rules.specs.Version.{Version, writeVersion}
 use Rattle.rules.specs.Lines.{ends, writeLine, writeLines}
 use Rattle.rules.specs.Record.{fileformat, readRecord}
@@ -40,25 +39,25 @@ pub ruleset counts = (count-more, count-full)
 
 -- what answers the needs of `note_line`
 module _ (s : Progress) (end next : ℕ) where
-  is-noted : isLong s end ≡ true → record { next = next; lines = onward (s .lines) 1; long = onward (s .lines) 1; start = s .next } ≡ noted s end next
+  is-noted : isLong s end ≡ true → record { limit = s .limit; next = next; lines = onward (s .lines) 1; long = onward (s .lines) 1; start = s .next } ≡ noted s end next
   unfolding noted
   is-noted e = rw (noted, e)
 
-  not-noted : isLong s end ≡ false → record { next = next; lines = onward (s .lines) 1; long = s .long; start = s .start } ≡ noted s end next
+  not-noted : isLong s end ≡ false → record { limit = s .limit; next = next; lines = onward (s .lines) 1; long = s .long; start = s .start } ≡ noted s end next
   unfolding noted
   not-noted e = rw (noted, e)
 
   module _ {n : ℕ} (c : n ≡ onward (s .lines) 1) where
-    pub note-long : s .long ≡ 0 → s .next ≤ end → 65535 < end - s .next → _≡_ {A = Progress} (record { next = next; lines = n; long = n; start = s .next }) (noted s end next)
-    note-long a b d = rw c (is-noted (rw (eq-eqb (s .long) 0 a) (lt-ltb 65535 (end - s .next) d)))
+    pub note-long : s .long ≡ 0 → s .next ≤ end → s .limit < end - s .next → _≡_ {A = Progress} (record { limit = s .limit; next = next; lines = n; long = n; start = s .next }) (noted s end next)
+    note-long a b d = rw c (is-noted (rw (eq-eqb (s .long) 0 a) (lt-ltb (s .limit) (end - s .next) d)))
 
-    pub note-short : s .long ≡ 0 → s .next ≤ end → end - s .next ≤ 65535 → _≡_ {A = Progress} (record { next = next; lines = n; long = s .long; start = s .start }) (noted s end next)
-    note-short a b d = rw c (not-noted (and-off (eqb (s .long) 0) (le-ltb 65535 (end - s .next) d)))
+    pub note-short : s .long ≡ 0 → s .next ≤ end → end - s .next ≤ s .limit → _≡_ {A = Progress} (record { limit = s .limit; next = next; lines = n; long = s .long; start = s .start }) (noted s end next)
+    note-short a b d = rw c (not-noted (and-off (eqb (s .long) 0) (le-ltb (s .limit) (end - s .next) d)))
 
-    pub note-back : s .long ≡ 0 → end < s .next → _≡_ {A = Progress} (record { next = next; lines = n; long = s .long; start = s .start }) (noted s end next)
-    note-back a d = rw c (not-noted (and-off (eqb (s .long) 0) (le-ltb 65535 (end - s .next) (omega arith))))
+    pub note-back : s .long ≡ 0 → end < s .next → _≡_ {A = Progress} (record { limit = s .limit; next = next; lines = n; long = s .long; start = s .start }) (noted s end next)
+    note-back a d = rw c (not-noted (and-off (eqb (s .long) 0) (le-ltb (s .limit) (end - s .next) (omega arith))))
 
-    pub note-later : (s .long ≡ 0 → ⊥) → _≡_ {A = Progress} (record { next = next; lines = n; long = s .long; start = s .start }) (noted s end next)
+    pub note-later : (s .long ≡ 0 → ⊥) → _≡_ {A = Progress} (record { limit = s .limit; next = next; lines = n; long = s .long; start = s .start }) (noted s end next)
     note-later a = rw c (not-noted (rw (ne-eqb (s .long) 0 a)))
 
 pub ruleset notes = (note-long, note-short, note-back, note-later)
@@ -100,7 +99,7 @@ lines-count (l ∷ ls) = rw (length-append (writeLine l) (writeLines ls)) (omega
 
 pub wrote-no-lines : (out : Bytes) (s : Progress) → s .next ≤ last → s .lines ≤ last → length out ≤ last → WroteLines out s [] s out
 unfolding writeLines tooLong onward orElse
-wrote-no-lines out s a b d = record { text = wrote-nothing out (s .next) a d; count = omega arith; long = λ x y. none-else (longIn s) }
+wrote-no-lines out s a b d = record { limit = refl; text = wrote-nothing out (s .next) a d; count = omega arith; long = λ x y. none-else (longIn s) }
   where
     none-else : (x : Option (ℕ × ℕ)) → x ≡ orElse x none
     none-else none = refl
@@ -110,6 +109,7 @@ pub then-lines : {out : Bytes} {s : Progress} {ls : List Bytes} {r : Progress} {
     → WroteLines out s ls r o → WroteLines o r ms r′ o′ → WroteLines out s (ls ++ ms) r′ o′
 unfolding onward orElse
 then-lines {out} {s} {ls} {r} {o} {ms} {r′} {o′} p q = record {
+  limit = q .limit ∙ p .limit;
   text = subst (λ (t : Bytes). Wrote out (s .next) t (r′ .next) o′) (sym (lines-append ls ms)) (then (p .text) (q .text));
   count = q .count ∙ rw (p .count, length-append ls ms) (omega arith);
   long = λ x y.
@@ -118,8 +118,8 @@ then-lines {out} {s} {ls} {r} {o} {ms} {r′} {o′} p q = record {
       let at : r .next ≡ s .next + length (writeLines ls) = p .text .place ∙ omega (arith, a) in
       let n : r .lines ≡ s .lines + length ls = p .count ∙ omega (arith, b) in
       q .long (omega (arith, at, a)) (omega (arith, n, b))
-      ∙ rw (p .long (omega (arith, a)) (omega (arith, b)), at, n, too-long-append (limits .line) (s .lines) (s .next) ls ms)
-      (else-assoc (longIn s) (tooLong (limits .line) (s .lines) (s .next) ls) (tooLong (limits .line) (s .lines + length ls) (s .next + length (writeLines ls)) ms));
+      ∙ rw (p .long (omega (arith, a)) (omega (arith, b)), p .limit, at, n, too-long-append (s .limit) (s .lines) (s .next) ls ms)
+      (else-assoc (longIn s) (tooLong (s .limit) (s .lines) (s .next) ls) (tooLong (s .limit) (s .lines + length ls) (s .next + length (writeLines ls)) ms));
 }
   where
     else-assoc : (x y z : Option (ℕ × ℕ)) → orElse (orElse x y) z ≡ orElse x (orElse y z)
@@ -133,6 +133,10 @@ module _ (s : Progress) (end next : ℕ) where
   unfolding noted
   noted-next = elim (test (isLong s end)) [ pass e ↦ rw (noted, e) | fail e ↦ rw (noted, e) ]
 
+  noted-limit : noted s end next .limit ≡ s .limit
+  unfolding noted
+  noted-limit = elim (test (isLong s end)) [ pass e ↦ rw (noted, e) | fail e ↦ rw (noted, e) ]
+
   noted-lines : noted s end next .lines ≡ onward (s .lines) 1
   unfolding noted
   noted-lines = elim (test (isLong s end)) [ pass e ↦ rw (noted, e) | fail e ↦ rw (noted, e) ]
@@ -143,25 +147,25 @@ module _ (s : Progress) (end next : ℕ) where
   long-before {n} e = rw (noted, e, ne-eqb (suc n) 0 (λ z. omega arith)) (rw e)
 
   module _ (none-yet : s .long ≡ 0) where
-    long-now : limits .line < end - s .next → s .lines + 1 ≤ last → longIn (noted s end next) ≡ some (suc (s .lines), s .next)
+    long-now : s .limit < end - s .next → s .lines + 1 ≤ last → longIn (noted s end next) ≡ some (suc (s .lines), s .next)
     unfolding noted onward
     long-now h l =
         let n : min (s .lines + 1) last ≡ suc (s .lines) = omega arith in
-        rw (noted, none-yet, lt-ltb (limits .line) (end - s .next) h, n)
+        rw (noted, none-yet, lt-ltb (s .limit) (end - s .next) h, n)
 
-    short-now : end - s .next ≤ limits .line → longIn (noted s end next) ≡ none
+    short-now : end - s .next ≤ s .limit → longIn (noted s end next) ≡ none
     unfolding noted
-    short-now h = rw (noted, none-yet, le-ltb (limits .line) (end - s .next) h) (rw none-yet)
+    short-now h = rw (noted, none-yet, le-ltb (s .limit) (end - s .next) h) (rw none-yet)
 
-  noted-long : (l : Bytes) → end - s .next ≡ length l → s .lines + 1 ≤ last → longIn (noted s end next) ≡ orElse (longIn s) (tooLong (limits .line) (s .lines) (s .next) (l ∷ []))
+  noted-long : (l : Bytes) → end - s .next ≡ length l → s .lines + 1 ≤ last → longIn (noted s end next) ≡ orElse (longIn s) (tooLong (s .limit) (s .lines) (s .next) (l ∷ []))
   unfolding tooLong orElse
   noted-long l size h = go (s .long) refl
     where
-      go : (k : ℕ) → s .long ≡ k → longIn (noted s end next) ≡ orElse (longIn s) (tooLong (limits .line) (s .lines) (s .next) (l ∷ []))
+      go : (k : ℕ) → s .long ≡ k → longIn (noted s end next) ≡ orElse (longIn s) (tooLong (s .limit) (s .lines) (s .next) (l ∷ []))
       go (suc n) e = long-before e ∙ rw e
-      go zero e = elim (test (leb (length l) (limits .line))) [
-        | pass q ↦ short-now e (rw size (leb-true (length l) (limits .line) q)) ∙ rw (e, tooLong, q)
-        | fail q ↦ long-now e (rw size (leb-false (length l) (limits .line) q)) h ∙ rw (e, tooLong, q)
+      go zero e = elim (test (leb (length l) (s .limit))) [
+        | pass q ↦ short-now e (rw size (leb-true (length l) (s .limit) q)) ∙ rw (e, tooLong, q)
+        | fail q ↦ long-now e (rw size (leb-false (length l) (s .limit) q)) h ∙ rw (e, tooLong, q)
       ]
 
 -- a line, and what is noted of it
@@ -169,6 +173,7 @@ pub one-line : {out : Bytes} {s : Progress} (l : Bytes) {end next : ℕ} {o : By
     → {r : Progress} → r ≡ noted s end next → WroteLines out s (l ∷ []) r o
 unfolding writeLines onward
 one-line {out} {s} l {end} {next} {o} place w {r} e = record {
+  limit = ap (λ (x : Progress). x .limit) e ∙ noted-limit s end next;
   text = rw (e, noted-next s end next, append-nil (writeLine l)) w;
   count = ap (λ (x : Progress). x .lines) e ∙ noted-lines s end next;
   long = λ x y.

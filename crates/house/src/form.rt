@@ -2,25 +2,29 @@
 use crate::keys;
 use crate::progress;
 use crate::progress::Progress;
-use entries::word;
+use entries::kind;
+use entries::limits::Limits;
+use entries::part;
+use entries::table;
 use header::file_format_option::FileFormatOption;
 use header::parser;
 use header::parser::Outcome;
 use header::parser::ReadAnswer;
-use ids::parts;
 use records::file_format::FileFormat;
 use records::refusal::Refusal;
 ghost use mathlib.Core.Path.{_≡_};
 ghost use lib.ListN.{length};
 ghost use lib.Seq.{sets};
 ghost use Rattle.rules.specs.Sizes.{limits};
-ghost use Rattle.rules.specs.Entry.{words};
-ghost use Rattle.rules.specs.Reading.{reading};
 ghost use Rattle.rules.specs.House.{house};
 ghost use Rattle.records.specs.Formats.{versionOf};
-ghost use Rattle.house.specs.Forms.{columnWord, PutsRecords, PutsForm, WritesForm};
+ghost use Rattle.entries.specs.Values.{limitsOf};
+ghost use Rattle.entries.proofs.Stored.{Packed};
+ghost use Rattle.entries.specs.Tables.{room, stored, entriesIn};
+ghost use Rattle.header.specs.Parsers.{readInto};
+ghost use Rattle.house.specs.Forms.{columnLine, PutsRecords, PutsForm, WritesForm};
 ghost use Rattle.header.specs.Verdicts.{imposedOf};
-ghost use Rattle.house.specs.Answers.{refusedAs, answerOf, AnswersForm, toldForm, tellsForm};
+ghost use Rattle.house.specs.Answers.{refusedAs, answerOf, AnswersForm, HouseCall};
 
 // The outcome, the line and its start, how many entries the table keeps, and the form's length, 0 if none was written.
 pub struct HouseAnswer {
@@ -39,60 +43,61 @@ enum FormOutcome {
     NoRoom,
 }
 
-// The first word of the column line's entry, 0 if there is none.
-fn column_word(words: &[u64]) -> u64
-    ensures { λ r. ⌜ r ≡ columnWord (now (words .entry)) ⌝ }
+// The column line, no bytes if there is none.
+fn column_line<'a>(h: &'a [u8], kept: &[u64]) -> &'a [u8]
+    ensures { λ r. ⌜ now r ≡ columnLine (now (h .entry)) (entriesIn (now (kept .entry))) ⌝ }
 {
     let mut k = 0;
-    while k + 1 < words.len() {
-        let w = words[k];
-        k += 2;
-        if word::kind_in(w) == 9 {
-            return w;
+    while k < table::count(kept) {
+        let e = table::get(kept, k);
+        k += 1;
+        if e.kind == kind::COLUMNS {
+            return part::line_part(h, e);
         }
     }
-    0
+    &h[..0]
 }
 
 // The typed keys, then the others.
-fn put_records(
-    h: &[u8],
-    words: &[u64],
-    version: FileFormat,
-    out: &mut [u8],
-    s: Progress,
-) -> Progress
-    ensures { λ r. ⌜ PutsRecords (versionOf version) (now (h .entry)) (now (words .entry)) (now (out .entry)) s r (now (out .exit)) ⌝ }
+fn put_records(h: &[u8], kept: &[u64], version: FileFormat, out: &mut [u8], s: Progress) -> Progress
+    ensures { λ r. ⌜ PutsRecords (versionOf version) (now (h .entry)) (entriesIn (now (kept .entry))) (now (out .entry)) s r (now (out .exit)) ⌝ }
 {
-    let typed = keys::put_typed(h, words, version, out, s);
-    keys::put_others(h, words, version, out, typed)
+    let typed = keys::put_typed(h, kept, version, out, s);
+    keys::put_others(h, kept, version, out, typed)
 }
 
-// All lines; `words` are those of the header's entries.
-fn put_form(h: &[u8], words: &[u64], version: FileFormat, out: &mut [u8]) -> Progress
-    ensures { λ r. ⌜ PutsForm (versionOf version) (now (h .entry)) (now (words .entry)) (now (out .entry)) r (now (out .exit)) ⌝ }
+// All lines; `kept` are the header's entries.
+fn put_form(h: &[u8], kept: &[u64], version: FileFormat, limit: usize, out: &mut [u8]) -> Progress
+    ensures { λ r. ⌜ PutsForm limit (versionOf version) (now (h .entry)) (entriesIn (now (kept .entry))) (now (out .entry)) r (now (out .exit)) ⌝ }
 {
     let begun = Progress {
+        limit,
         next: 0,
         lines: 0,
         long: 0,
         start: 0,
     };
     let formatted = progress::put_version(version, out, begun);
-    let recorded = put_records(h, words, version, out, formatted);
-    let columns = parts::line_part(h, column_word(words));
-    progress::put_plain(columns, out, recorded)
+    let recorded = put_records(h, kept, version, out, formatted);
+    progress::put_plain(column_line(h, kept), out, recorded)
 }
 
 // Nothing is written unless the whole form may stand and fits.
-fn write_form(h: &[u8], words: &[u64], version: FileFormat, out: &mut [u8]) -> FormOutcome
-    ensures { λ r. ⌜ WritesForm (versionOf version) (now (h .entry)) (now (words .entry)) (now (out .entry)) r (now (out .exit)) ⌝ }
+fn write_form(
+    h: &[u8],
+    kept: &[u64],
+    version: FileFormat,
+    limits: Limits,
+    out: &mut [u8],
+) -> FormOutcome
+    requires { ⌜ Packed (limitsOf limits) ⌝ }
+    ensures { λ r. ⌜ WritesForm (limitsOf limits) (versionOf version) (now (h .entry)) (entriesIn (now (kept .entry))) (now (out .entry)) r (now (out .exit)) ⌝ }
 {
     let mut nothing = [0u8; 0];
-    let measured = put_form(h, words, version, &mut nothing);
+    let measured = put_form(h, kept, version, limits.line, &mut nothing);
     let size = measured.next;
     let long = measured.long;
-    if 1048575 < size {
+    if limits.header < size {
         return FormOutcome::TooLong;
     }
     if 0 < long {
@@ -101,7 +106,7 @@ fn write_form(h: &[u8], words: &[u64], version: FileFormat, out: &mut [u8]) -> F
     if out.len() < size {
         return FormOutcome::NoRoom;
     }
-    put_form(h, words, version, out);
+    put_form(h, kept, version, limits.line, out);
     FormOutcome::Whole(size)
 }
 
@@ -137,17 +142,17 @@ fn answer(read: ReadAnswer, form: FormOutcome) -> HouseAnswer
     }
 }
 
-// The form of a header that was read and accepted; `words` are those of its entries.
+// The form of a header that was read and accepted; `kept` are its entries.
 fn answer_accepted(
     h: &[u8],
-    words: &[u64],
+    kept: &[u64],
     read: ReadAnswer,
     version: FileFormat,
     out: &mut [u8],
 ) -> HouseAnswer
-    ensures { λ r. ⌜ AnswersForm read version (now (h .entry)) (now (words .entry)) (now (out .entry)) r (now (out .exit)) ⌝ }
+    ensures { λ r. ⌜ AnswersForm limits read version (now (h .entry)) (entriesIn (now (kept .entry))) (now (out .entry)) r (now (out .exit)) ⌝ }
 {
-    let form = write_form(h, words, version, out);
+    let form = write_form(h, kept, version, Limits::FIRST, out);
     answer(read, form)
 }
 
@@ -158,9 +163,8 @@ pub fn house_form(
     table: &mut [u64],
     out: &mut [u8],
 ) -> HouseAnswer
-    ensures answer { λ r. ⌜ toldForm r ≡ tellsForm (reading limits (imposedOf imposed) (length (now (table .entry))) (now (header .entry))) (house limits (imposedOf imposed) (length (now (table .entry))) (length (now (out .entry))) (now (header .entry))) ⌝ }
-    ensures table { λ _. ⌜ now (table .exit) ≡ sets (now (table .entry)) 0 (words (reading limits (imposedOf imposed) (length (now (table .entry))) (now (header .entry)) .entries)) ⌝ }
-    ensures output { λ _. ⌜ now (out .exit) ≡ sets (now (out .entry)) 0 (house limits (imposedOf imposed) (length (now (table .entry))) (length (now (out .entry))) (now (header .entry)) .form) ⌝ }
+    ensures { λ r.
+        ⌜ HouseCall limits (imposedOf imposed) (now (header .entry)) (now (table .entry)) (now (out .entry)) r (now (table .exit)) (now (out .exit)) ⌝ }
 {
     let read = parser::read(header, imposed, table);
     let entries = read.entries;
@@ -168,7 +172,7 @@ pub fn house_form(
     match outcome {
         Outcome::Refused(x) => refuse(x, read.line, read.start, entries),
         Outcome::Accepted(version, _) => {
-            answer_accepted(header, &table[..2 * entries], read, version, out)
+            answer_accepted(header, table::kept(table, entries), read, version, out)
         }
     }
 }

@@ -1,19 +1,23 @@
 // Lines of the form, one after another: what does not fit into the output is counted and not written.
+use entries::entry::Entry;
+use entries::part;
 use forms::line;
-use ids::parts;
 use records::file_format::FileFormat;
 use values::output;
 ghost use mathlib.Core.Path.{_≡_};
 ghost use Rattle.values.specs.Written.{onward, Wrote};
 ghost use Rattle.records.specs.Formats.{versionOf};
-ghost use Rattle.ids.specs.Clashes.{lineIn};
+ghost use Rattle.rules.specs.Shown.{lineIn};
+ghost use Rattle.entries.specs.Values.{entryOf};
 ghost use mathlib.Core.List.{[], _∷_};
 ghost use Rattle.rules.specs.Record.{fileformat};
 ghost use Rattle.rules.specs.House.{writeRecord};
 ghost use Rattle.house.specs.Writes.{noted, WroteLines, PutsEntry};
 
-// The place after what was written, the number of lines, and the first line that was too long: its number, 0 if none was, and its start.
+// How long a line may be; the place after what was written, the number of lines, and the first line that was too long: its number, 0 if
+// none was, and its start.
 pub struct Progress {
+    pub limit: usize,
     pub next: usize,
     pub lines: usize,
     pub long: usize,
@@ -39,8 +43,9 @@ fn note_line(s: Progress, end: usize, next: usize) -> Progress
     let lines = count_line(s.lines);
     if long == 0 {
         if at <= end {
-            if 65535 < end - at {
+            if s.limit < end - at {
                 return Progress {
+                    limit: s.limit,
                     next,
                     lines,
                     long: lines,
@@ -50,6 +55,7 @@ fn note_line(s: Progress, end: usize, next: usize) -> Progress
         }
     }
     Progress {
+        limit: s.limit,
         next,
         lines,
         long,
@@ -57,11 +63,11 @@ fn note_line(s: Progress, end: usize, next: usize) -> Progress
     }
 }
 
-// The line of the entry whose first word is w.
-pub fn put_entry(h: &[u8], w: u64, version: FileFormat, out: &mut [u8], s: Progress) -> Progress
-    ensures { λ r. ⌜ PutsEntry (versionOf version) (lineIn (now (h .entry)) w) (now (out .entry)) s r (now (out .exit)) ⌝ }
+// The line of an entry.
+pub fn put_entry(h: &[u8], e: Entry, version: FileFormat, out: &mut [u8], s: Progress) -> Progress
+    ensures { λ r. ⌜ PutsEntry (versionOf version) (lineIn (now (h .entry)) (entryOf e)) (now (out .entry)) s r (now (out .exit)) ⌝ }
 {
-    let line = parts::line_part(h, w);
+    let line = part::line_part(h, e);
     let at = s.next;
     let put = line::put_line(out, at, line, version);
     note_line(s, put.end, put.next)

@@ -1,37 +1,34 @@
--- What the words answer is what the rules say of the records kept so far. Assumes nothing.
-use Prim.Native.Nat.{ℕ, zero, suc, _+_, _-_, _^_, _<_, _≤_}
+-- What the entries answer is what the rules say of the records kept so far. Assumes nothing.
+use Prim.Native.Nat.{ℕ, zero, suc, _≤_}
 use native.Mathlib.Omega.{arith}
-use mathlib.Core.Path.{_≡_, refl, sym, ap, _∙_}
+use mathlib.Core.Path.{_≡_, refl, sym, ap, ap₂, _∙_}
 use mathlib.Core.Bool.{Bool, true, false, not, _||_, _&&_, cond, false≢true}
 use mathlib.Core.List.{List, [], _∷_, _++_}
 use lib.Dec.{eqb, ltb}
-use lib.ListN.{length}
 use borrow.Author.Tests.{eq-eqb, ne-eqb, eqb-true, ltb-true}
 use Rattle.values.specs.Bytes.{Bytes, ascii, is, any, starts, same}
-use Rattle.values.specs.Value.{meaning}
 use Rattle.values.specs.Field.{Field}
 use Rattle.values.proofs.Tests.{pass, fail, test, or-l, or-r, and-off, both}
 use Rattle.values.proofs.Sames.{same-sound, same-self}
 use Rattle.rules.specs.Answer.{first}
 use Rattle.rules.specs.Sizes.{Limits}
 use Rattle.rules.specs.Version.{Version}
-use Rattle.rules.specs.Known.{isTyped, kindOf}
+use Rattle.rules.specs.Known.{other, isTyped, kindOf}
 use Rattle.rules.specs.Record.{Record, fileformat, fields, text}
 use Rattle.rules.specs.Map.{valueNamed}
-use Rattle.rules.specs.Entry.{Entry, place, bit, kindNumber, recordEntry, words}
-use Rattle.rules.specs.Shown.{kindIn, startIn, lengthIn}
+use Rattle.rules.specs.Entry.{Entry, formatKind, mapKind, textKind, recordEntry}
+use Rattle.rules.specs.Shown.{lineIn, idMeaning}
 use Rattle.rules.specs.Reading.{keyOf, idOf, isFields, besideOf, beside, clash}
 use Rattle.rules.specs.House.{writeFields, writeRecord}
 use Rattle.rules.proofs.Firsts.{on-ok}
 use Rattle.rules.proofs.Alls.{All}
 use Rattle.rules.proofs.Groups.{Apart}
-use Rattle.rules.proofs.Records.{GoodMap, GoodText, Entered}
+use Rattle.rules.proofs.Records.{Entered}
 use Rattle.rules.proofs.Sound.{Good}
 use Rattle.rules.proofs.Texts.{LineOf, record-in}
-use Rattle.rules.proofs.Trace.{LineAt, Row, Rows}
-use Rattle.rules.proofs.Shows.{Packed, place-kind, place-start, place-length, part-part, id-in, map-words}
-use Rattle.ids.specs.Clashes.{clashNumber, lineIn, idIn, idMeaning, hasKey, keySeen, isUnder, hasId, idSeen, clashBy, clashIn, prefixOf, Describes}
-use Rattle.ids.specs.declared.scan.Clash.{Clash}
+use Rattle.rules.proofs.Trace.{Row, Rows}
+use Rattle.rules.proofs.Shows.{shows-map, ShowsPlain, shows-plain}
+use Rattle.ids.specs.Clashes.{clashNumber, hasKey, keySeen, isUnder, hasId, idSeen, clashBy, clashIn, prefixOf}
 use Rattle.ids.proofs.KeyKinds.{typed-below, number-small, untyped-number, one-key}
 
 -- a line begins `##k=` where its key is k, since no key holds `=`
@@ -52,68 +49,38 @@ pub prefix-starts : (k j rest : Bytes) → any (is 61) k ≡ false → any (is 6
 unfolding starts
 prefix-starts k j rest a b = key-starts k j rest a b
 
--- the kind's number of a record's entry
+-- the kind of a record's entry
 abbrev kindOfRecord : Record → ℕ
-kindOfRecord (fileformat w) = 1
-kindOfRecord (fields k fs) = kindNumber (kindOf k)
-kindOfRecord (text k t) = 8
+kindOfRecord (fileformat w) = formatKind
+kindOfRecord (fields k fs) = mapKind (kindOf k)
+kindOfRecord (text k t) = textKind
 
--- what an entry's words tell of its record
+-- what an entry tells of its record
 record Kept (h : Bytes) (v : Version) (e : Entry) (s : Record) : Type 0 where
-  kind : kindIn (e .0) ≡ kindOfRecord s
-  line : (k : Bytes) → any (is 61) k ≡ false → starts (prefixOf k) (lineIn h (e .0)) ≡ same (keyOf s) k
-  id : isFields s ≡ true → idMeaning h (e .0) (e .1) ≡ idOf v s
+  kind : e .kind ≡ kindOfRecord s
+  line : (k : Bytes) → any (is 61) k ≡ false → starts (prefixOf k) (lineIn h e) ≡ same (keyOf s) k
+  id : isFields s ≡ true → idMeaning h e ≡ idOf v s
 
-bit-back : (q : Bool) → eqb (bit q) 1 ≡ q
-bit-back true = refl
-bit-back false = refl
-
-module _ (lim : Limits) (packed : Packed lim) (h : Bytes) (within : length h ≤ lim .header) (v : Version) (e : Entry) where
-  line-here : (start : ℕ) (l : Bytes) → LineAt lim h start l → startIn (e .0) ≡ start → lengthIn (e .0) ≡ length l → lineIn h (e .0) ≡ l
-  unfolding lineIn
-  line-here start l at a b =
-      let n : start + length l - start ≡ length l = omega arith in
-      rw (a, b) (rw n at (at .here))
-
-  kept-map : (k : Bytes) (fs : List Field) → Row lim h v e (fields k fs) → GoodMap v k fs → Kept h v e (fields k fs)
-  unfolding writeRecord idIn
-  kept-map k fs row g =
-      let s = row .start in
-      let l = writeRecord (fields k fs) in
-      let d = id-in v k fs (g .fine .whole) in
-      let t = d .0 .1 in
-      let e′ : row .line ≡ l = on-ok (LineOf (row .line)) (record-in v (row .line)) (row .read) in
-      let at : LineAt lim h s l = rw e′ at (row .there) in
-      let f = recordEntry v s l (fields k fs) in
-      let r : e ≡ f = row .entry ∙ ap (λ (y : Bytes). recordEntry v s y (fields k fs)) e′ in
-      let w = map-words lim packed h within v (f .0 ∷ f .1 ∷ []) 0 k fs s (d .0) (d .1) at (record { inside = omega arith; one = refl; two = refl }) in
-      let m : s + t .end - (s + t .start) ≡ t .end - t .start = omega arith in
-      record {
-        kind = rw r (w .kind);
-        line = λ j a. rw (line-here s l at (rw r (w .starts)) (rw r (w .long))) (prefix-starts j k (60 ∷ (writeFields fs ++ 62 ∷ [])) a (g .key .plain));
-        id = λ q. rw (r, w .starts, w .offset, w .idLong, w .quotes, bit-back (t .quoted)) (rw (rw m at (part-part h s l (t .start) (t .end) (at .here) (d .1 .inside))) (d .1 .means));
-      }
-
-  kept-text : (k t : Bytes) → Row lim h v e (text k t) → GoodText v k t → Kept h v e (text k t)
+module _ (lim : Limits) (h : Bytes) (v : Version) (e : Entry) where
+  kept : (s : Record) → Row lim h v e s → Entered v s → Kept h v e s
   unfolding writeRecord recordEntry
-  kept-text k t row g =
-      let s = row .start in
-      let l = writeRecord (text k t) in
-      let e′ : row .line ≡ l = on-ok (LineOf (row .line)) (record-in v (row .line)) (row .read) in
-      let at : LineAt lim h s l = rw e′ at (row .there) in
-      let r : e ≡ (place 8 s (length l), 0) = row .entry ∙ ap (λ (y : Bytes). recordEntry v s y (text k t)) e′ in
-      let hs : s < 2 ^ 20 = omega (arith, packed .header, at .inside) in
-      let hl : length l < 2 ^ 16 = omega (arith, packed .line, at .short) in
+  kept (fileformat w) row g = absurd g
+  kept (fields k fs) row g =
+      let d = shows-map lim h v k fs e row (g .fine .whole) in
+      let l : row .line ≡ writeRecord (fields k fs) = on-ok (LineOf (row .line)) (record-in v (row .line)) (row .read) in
       record {
-        kind = rw r (place-kind 8 s (length l) (omega arith) hs hl);
-        line = λ j a. rw (line-here s l at (rw r (place-start 8 s (length l) (omega arith) hs hl)) (rw r (place-length 8 s (length l) (omega arith) hs hl))) (prefix-starts j k t a (g .key .plain));
+        kind = d .kind;
+        line = λ j a. rw (d .line ∙ l) (prefix-starts j k (60 ∷ (writeFields fs ++ 62 ∷ [])) a (g .key .plain));
+        id = λ q. d .id;
+      }
+  kept (text k t) row g =
+      let d : ShowsPlain lim h v textKind (row .line) e = rw (row .entry) (shows-plain lim h v textKind (row .start) (row .line) refl refl (row .there .here) (row .there .inside)) in
+      let l : row .line ≡ writeRecord (text k t) = on-ok (LineOf (row .line)) (record-in v (row .line)) (row .read) in
+      record {
+        kind = d .is-kind;
+        line = λ j a. rw (d .line ∙ l) (prefix-starts j k t a (g .key .plain));
         id = λ q. absurd (false≢true q);
       }
-
-  kept : (s : Record) → Row lim h v e s → Entered v s → Kept h v e s
-  kept (fileformat w) row g = absurd g
-  kept (fields k fs) row g = kept-map k fs row g
-  kept (text k t) row g = kept-text k t row g
 
 -- The scans, by the records
 
@@ -136,68 +103,80 @@ and-on : (a : Bool) → (a && true) ≡ a
 and-on true = refl
 and-on false = refl
 
+-- the tests of an entry, by their parts
+module _ (h prefix : Bytes) (kind : ℕ) (e : Entry) {n : ℕ} (ek : e .kind ≡ n) where
+  key-parts : {q : Bool} → starts prefix (lineIn h e) ≡ q → hasKey h prefix kind e ≡ (eqb n kind && q)
+  unfolding hasKey
+  key-parts f = ap₂ (λ (x : ℕ) (y : Bool). eqb x kind && y) ek f
+
+  id-parts : (m : Bytes) {q r : Bool} → isUnder h prefix kind e ≡ q → same (idMeaning h e) m ≡ r → hasId h prefix kind m e ≡ (eqb n kind && (q && r))
+  unfolding hasId
+  id-parts m f g = ap₂ (λ (x : ℕ) (y : Bool). eqb x kind && y) ek (ap₂ _&&_ f g)
+
 module _ (h : Bytes) (v : Version) (k : Bytes) (plain : any (is 61) k ≡ false) (e : Entry) where
+  abbrev kind : ℕ
+  kind = mapKind (kindOf k)
+
   -- a typed kind's entries are under one key
-  under-key : (j : Bytes) → kindNumber (kindOf j) ≡ kindNumber (kindOf k) → starts (prefixOf k) (lineIn h (e .0)) ≡ same j k
-      → isUnder h (prefixOf k) (kindNumber (kindOf k)) (e .0) ≡ same j k
-  under-key j e′ s = elim (test (ltb (kindNumber (kindOf k)) 7)) [
-    | pass l ↦ rw (l, one-key j k e′ (ltb-true (kindNumber (kindOf k)) 7 l)) (sym (same-self k))
+  under-key : (j : Bytes) → mapKind (kindOf j) ≡ kind → starts (prefixOf k) (lineIn h e) ≡ same j k → isUnder h (prefixOf k) kind e ≡ same j k
+  unfolding isUnder
+  under-key j a s = elim (test (ltb kind 7)) [
+    | pass l ↦ rw l (sym (same-self k) ∙ ap (λ (x : Bytes). same x k) (sym (one-key j k a (ltb-true kind 7 l))))
     | fail l ↦ rw l s
   ]
 
-  id-of-entry : (m : Bytes) (s : Record) → Entered v s → Kept h v e s → hasId h (prefixOf k) (kindNumber (kindOf k)) m (e .0) (e .1) ≡ hasIdUnder v k m s
-  unfolding hasId
+  id-of-entry : (m : Bytes) (s : Record) → Entered v s → Kept h v e s → hasId h (prefixOf k) kind m e ≡ hasIdUnder v k m s
   id-of-entry m (fileformat w) g d = absurd g
   id-of-entry m (text j t) g d =
-      let n : 8 ≡ kindNumber (kindOf k) → ⊥ = λ i. omega (arith, number-small (kindOf k) .1) in
-      rw (d .kind, ne-eqb 8 (kindNumber (kindOf k)) n, and-off (same j k) refl)
-  id-of-entry m (fields j gs) g d = elim (test (eqb (kindNumber (kindOf j)) (kindNumber (kindOf k)))) [
-    | pass i ↦ rw (d .kind, i, under-key j (eqb-true _ _ i) (d .line k plain), d .id refl, and-on (same j k))
-    | fail i ↦ rw (d .kind, i) (sym (rw (differs i)))
+      let n : 8 ≡ kind → ⊥ = λ i. omega (arith, number-small (kindOf k) .1) in
+      id-parts h (prefixOf k) kind e (d .kind) m refl refl ∙ rw (ne-eqb 8 kind n, and-off (same j k) refl)
+  id-of-entry m (fields j gs) g d = elim (test (eqb (mapKind (kindOf j)) kind)) [
+    | pass i ↦
+        id-parts h (prefixOf k) kind e (d .kind) m (under-key j (eqb-true _ _ i) (d .line k plain)) (ap (λ (x : Bytes). same x m) (d .id refl))
+        ∙ rw (i, and-on (same j k))
+    | fail i ↦ id-parts h (prefixOf k) kind e (d .kind) m refl refl ∙ rw i (sym (rw (differs i)))
   ]
     where
-      differs : eqb (kindNumber (kindOf j)) (kindNumber (kindOf k)) ≡ false → same j k ≡ false
+      differs : eqb (mapKind (kindOf j)) kind ≡ false → same j k ≡ false
       differs i = elim (test (same j k)) [
-        | pass q ↦ both (rw (same-sound j k q) (eq-eqb (kindNumber (kindOf k)) (kindNumber (kindOf k)) refl)) i
+        | pass q ↦ both (rw (same-sound j k q) (eq-eqb kind kind refl)) i
         | fail q ↦ q
       ]
 
-  text-of-entry : (s : Record) → Entered v s → Kept h v e s → hasKey h (prefixOf k) 8 (e .0) ≡ isTextUnder k s
-  unfolding hasKey
+  text-of-entry : (s : Record) → Entered v s → Kept h v e s → hasKey h (prefixOf k) textKind e ≡ isTextUnder k s
   text-of-entry (fileformat w) g d = absurd g
-  text-of-entry (text j t) g d = rw (d .kind, d .line k plain, and-on (same j k))
+  text-of-entry (text j t) g d = key-parts h (prefixOf k) 8 e (d .kind) (d .line k plain) ∙ sym (and-on (same j k))
   text-of-entry (fields j gs) g d =
-      let n : kindNumber (kindOf j) ≡ 8 → ⊥ = λ i. omega (arith, number-small (kindOf j) .1) in
-      rw (d .kind, ne-eqb (kindNumber (kindOf j)) 8 n) (sym (and-off (same j k) refl))
+      let n : mapKind (kindOf j) ≡ 8 → ⊥ = λ i. omega (arith, number-small (kindOf j) .1) in
+      key-parts h (prefixOf k) 8 e (d .kind) refl ∙ rw (ne-eqb (mapKind (kindOf j)) 8 n) (sym (and-off (same j k) refl))
 
-  map-of-entry : isTyped k ≡ false → (s : Record) → Entered v s → Kept h v e s → hasKey h (prefixOf k) 7 (e .0) ≡ isMapUnder k s
-  unfolding hasKey
+  map-of-entry : isTyped k ≡ false → (s : Record) → Entered v s → Kept h v e s → hasKey h (prefixOf k) (mapKind other) e ≡ isMapUnder k s
   map-of-entry u (fileformat w) g d = absurd g
-  map-of-entry u (text j t) g d = rw (d .kind) (sym (and-off (same j k) refl))
-  map-of-entry u (fields j gs) g d = rw (d .kind, d .line k plain) (elim (test (same j k)) [
+  map-of-entry u (text j t) g d = key-parts h (prefixOf k) 7 e (d .kind) refl ∙ sym (and-off (same j k) refl)
+  map-of-entry u (fields j gs) g d = key-parts h (prefixOf k) 7 e (d .kind) (d .line k plain) ∙ elim (test (same j k)) [
     | pass q ↦ rw (q, same-sound j k q, untyped-number k u)
-    | fail q ↦ rw q (and-off (eqb (kindNumber (kindOf j)) 7) refl)
-  ])
+    | fail q ↦ rw q (and-off (eqb (mapKind (kindOf j)) 7) refl)
+  ]
 
 -- the records' answer, where each entry answers as its record does
-module _ (lim : Limits) (packed : Packed lim) (h : Bytes) (within : length h ≤ lim .header) (v : Version) where
-  ids-among : (prefix : Bytes) (kind : ℕ) (m : Bytes) (t : Record → Bool) → ((e : Entry) (s : Record) → Entered v s → Kept h v e s → hasId h prefix kind m (e .0) (e .1) ≡ t s)
-      → (es : List Entry) (rs : List Record) → Rows lim h v es rs → All (Entered v) rs → idSeen h prefix kind m (words es) ≡ among t rs
-  unfolding idSeen among words
+module _ (lim : Limits) (h : Bytes) (v : Version) where
+  ids-among : (prefix : Bytes) (kind : ℕ) (m : Bytes) (t : Record → Bool) → ((e : Entry) (s : Record) → Entered v s → Kept h v e s → hasId h prefix kind m e ≡ t s)
+      → (es : List Entry) (rs : List Record) → Rows lim h v es rs → All (Entered v) rs → idSeen h prefix kind m es ≡ among t rs
+  unfolding idSeen among
   ids-among prefix kind m t f [] [] rows g = refl
   ids-among prefix kind m t f [] (s ∷ ss) rows g = absurd rows
   ids-among prefix kind m t f (e ∷ es) [] rows g = absurd rows
   ids-among prefix kind m t f (e ∷ es) (s ∷ ss) rows g =
-      rw (f e s (g .0) (kept lim packed h within v e s (rows .0) (g .0)), ids-among prefix kind m t f es ss (rows .1) (g .1))
+      rw (f e s (g .0) (kept lim h v e s (rows .0) (g .0)), ids-among prefix kind m t f es ss (rows .1) (g .1))
 
-  keys-among : (prefix : Bytes) (kind : ℕ) (t : Record → Bool) → ((e : Entry) (s : Record) → Entered v s → Kept h v e s → hasKey h prefix kind (e .0) ≡ t s)
-      → (es : List Entry) (rs : List Record) → Rows lim h v es rs → All (Entered v) rs → keySeen h prefix kind (words es) ≡ among t rs
-  unfolding keySeen among words
+  keys-among : (prefix : Bytes) (kind : ℕ) (t : Record → Bool) → ((e : Entry) (s : Record) → Entered v s → Kept h v e s → hasKey h prefix kind e ≡ t s)
+      → (es : List Entry) (rs : List Record) → Rows lim h v es rs → All (Entered v) rs → keySeen h prefix kind es ≡ among t rs
+  unfolding keySeen among
   keys-among prefix kind t f [] [] rows g = refl
   keys-among prefix kind t f [] (s ∷ ss) rows g = absurd rows
   keys-among prefix kind t f (e ∷ es) [] rows g = absurd rows
   keys-among prefix kind t f (e ∷ es) (s ∷ ss) rows g =
-      rw (f e s (g .0) (kept lim packed h within v e s (rows .0) (g .0)), keys-among prefix kind t f es ss (rows .1) (g .1))
+      rw (f e s (g .0) (kept lim h v e s (rows .0) (g .0)), keys-among prefix kind t f es ss (rows .1) (g .1))
 
 -- The rules, by the same tests
 
@@ -287,72 +266,68 @@ module _ (v : Version) (k : Bytes) (fs : List Field) where
     ]
   ]
 
--- What the words answer
+-- What the entries answer
 
-answer-typed : (h : Bytes) (ws : List ℕ) (prefix : Bytes) (kind : ℕ) (m : Bytes) → ltb kind 7 ≡ true → clashNumber (clashIn h ws prefix kind m) ≡ cond (idSeen h prefix kind m ws) 19 0
+answer-typed : (h : Bytes) (es : List Entry) (prefix : Bytes) (e : Entry) → ltb (e .kind) 7 ≡ true → clashNumber (clashIn h es prefix e) ≡ cond (idSeen h prefix (e .kind) (idMeaning h e) es) 19 0
 unfolding clashBy
-answer-typed h ws prefix kind m l = elim (test (idSeen h prefix kind m ws)) [ pass e ↦ rw (clashBy, l, e) | fail e ↦ rw (clashBy, l, e) ]
+answer-typed h es prefix e l = elim (test (idSeen h prefix (e .kind) (idMeaning h e) es)) [ pass f ↦ rw (clashBy, l, f) | fail f ↦ rw (clashBy, l, f) ]
 
-answer-map : (h : Bytes) (ws : List ℕ) (prefix m : Bytes) → clashNumber (clashIn h ws prefix 7 m) ≡ cond (keySeen h prefix 8 ws) 20 (cond (idSeen h prefix 7 m ws) 21 0)
+answer-map : (kind : ℕ) (i t m : Bool) → kind ≡ 7 → clashNumber (clashBy kind i t m) ≡ cond t 20 (cond i 21 0)
 unfolding clashBy
-answer-map h ws prefix m = elim (test (keySeen h prefix 8 ws)) [
-  | pass e ↦ rw (clashBy, e)
-  | fail e ↦ elim (test (idSeen h prefix 7 m ws)) [ pass f ↦ rw (clashBy, e, f) | fail f ↦ rw (clashBy, e, f) ]
-]
+answer-map kind true true m k = rw k
+answer-map kind false true m k = rw k
+answer-map kind true false m k = rw k
+answer-map kind false false m k = rw k
 
-answer-text : (h : Bytes) (ws : List ℕ) (prefix m : Bytes) → clashNumber (clashIn h ws prefix 8 m) ≡ cond (keySeen h prefix 7 ws) 20 0
+answer-text : (kind : ℕ) (i t m : Bool) → kind ≡ 8 → clashNumber (clashBy kind i t m) ≡ cond m 20 0
 unfolding clashBy
-answer-text h ws prefix m = elim (test (keySeen h prefix 7 ws)) [ pass e ↦ rw (clashBy, e) | fail e ↦ rw (clashBy, e) ]
+answer-text kind i t true k = rw k
+answer-text kind i t false k = rw k
 
 -- the fileformat line's entry has no part in it
-module _ (h prefix : Bytes) (e₀ : Entry) (format : kindIn (e₀ .0) ≡ 1) (es : List Entry) where
-  skip-id : (kind : ℕ) (m : Bytes) → 2 ≤ kind → idSeen h prefix kind m (words (e₀ ∷ es)) ≡ idSeen h prefix kind m (words es)
-  unfolding idSeen hasId words
-  skip-id kind m l = rw (format, ne-eqb 1 kind (λ e. omega arith))
+module _ (h prefix : Bytes) (e₀ : Entry) (format : e₀ .kind ≡ formatKind) (es : List Entry) where
+  skip-id : (kind : ℕ) (m : Bytes) → 2 ≤ kind → idSeen h prefix kind m (e₀ ∷ es) ≡ idSeen h prefix kind m es
+  unfolding idSeen hasId
+  skip-id kind m l = rw (ne-eqb (e₀ .kind) kind (λ e. omega arith))
 
-  skip-key : (kind : ℕ) → 2 ≤ kind → keySeen h prefix kind (words (e₀ ∷ es)) ≡ keySeen h prefix kind (words es)
-  unfolding keySeen hasKey words
-  skip-key kind l = rw (format, ne-eqb 1 kind (λ e. omega arith))
+  skip-key : (kind : ℕ) → 2 ≤ kind → keySeen h prefix kind (e₀ ∷ es) ≡ keySeen h prefix kind es
+  unfolding keySeen hasKey
+  skip-key kind l = rw (ne-eqb (e₀ .kind) kind (λ e. omega arith))
 
-module _ (lim : Limits) (packed : Packed lim) (h : Bytes) (within : length h ≤ lim .header) (v : Version)
-    (e₀ : Entry) (format : kindIn (e₀ .0) ≡ 1) (es : List Entry) (rs : List Record) (rows : Rows lim h v es rs) (good : Good v rs) where
-  abbrev ws : List ℕ
-  ws = words (e₀ ∷ es)
+module _ (lim : Limits) (h : Bytes) (v : Version) (e₀ : Entry) (format : e₀ .kind ≡ formatKind) (es : List Entry) (rs : List Record) (rows : Rows lim h v es rs) (good : Good v rs) where
+  abbrev all : List Entry
+  all = e₀ ∷ es
 
-  seen-id : (k m : Bytes) → any (is 61) k ≡ false → idSeen h (prefixOf k) (kindNumber (kindOf k)) m ws ≡ among (hasIdUnder v k m) rs
+  seen-id : (k m : Bytes) → any (is 61) k ≡ false → idSeen h (prefixOf k) (mapKind (kindOf k)) m all ≡ among (hasIdUnder v k m) rs
   seen-id k m p =
-      skip-id h (prefixOf k) e₀ format es (kindNumber (kindOf k)) m (number-small (kindOf k) .0)
-      ∙ ids-among lim packed h within v (prefixOf k) (kindNumber (kindOf k)) m (hasIdUnder v k m) (λ e s g d. id-of-entry h v k p e m s g d) es rs rows (good .good)
+      skip-id h (prefixOf k) e₀ format es (mapKind (kindOf k)) m (number-small (kindOf k) .0)
+      ∙ ids-among lim h v (prefixOf k) (mapKind (kindOf k)) m (hasIdUnder v k m) (λ e s g d. id-of-entry h v k p e m s g d) es rs rows (good .good)
 
-  seen-text : (k : Bytes) → any (is 61) k ≡ false → keySeen h (prefixOf k) 8 ws ≡ among (isTextUnder k) rs
+  seen-text : (k : Bytes) → any (is 61) k ≡ false → keySeen h (prefixOf k) textKind all ≡ among (isTextUnder k) rs
   seen-text k p =
       skip-key h (prefixOf k) e₀ format es 8 (omega arith)
-      ∙ keys-among lim packed h within v (prefixOf k) 8 (isTextUnder k) (λ e s g d. text-of-entry h v k p e s g d) es rs rows (good .good)
+      ∙ keys-among lim h v (prefixOf k) 8 (isTextUnder k) (λ e s g d. text-of-entry h v k p e s g d) es rs rows (good .good)
 
-  seen-map : (k : Bytes) → any (is 61) k ≡ false → isTyped k ≡ false → keySeen h (prefixOf k) 7 ws ≡ among (isMapUnder k) rs
+  seen-map : (k : Bytes) → any (is 61) k ≡ false → isTyped k ≡ false → keySeen h (prefixOf k) (mapKind other) all ≡ among (isMapUnder k) rs
   seen-map k p u =
       skip-key h (prefixOf k) e₀ format es 7 (omega arith)
-      ∙ keys-among lim packed h within v (prefixOf k) 7 (isMapUnder k) (λ e s g d. map-of-entry h v k p e u s g d) es rs rows (good .good)
+      ∙ keys-among lim h v (prefixOf k) 7 (isMapUnder k) (λ e s g d. map-of-entry h v k p e u s g d) es rs rows (good .good)
 
-  new-map : (k : Bytes) (fs : List Field) → any (is 61) k ≡ false
-      → clashNumber (clashIn h ws (prefixOf k) (kindNumber (kindOf k)) (valueNamed v k (ascii "ID") fs)) ≡ clash v (fields k fs) rs
-  new-map k fs p = let m = valueNamed v k (ascii "ID") fs in elim (test (isTyped k)) [
-    | pass t ↦ answer-typed h ws (prefixOf k) (kindNumber (kindOf k)) m (sym (typed-below k) ∙ t) ∙ rw (seen-id k m p) (sym (typed-clash v k fs t rs (good .good)))
-    | fail t ↦ let n = untyped-number k t in
-        let i : idSeen h (prefixOf k) 7 m ws ≡ among (hasIdUnder v k m) rs = rw n at (seen-id k m p) in
-        rw n (answer-map h ws (prefixOf k) m ∙ rw (seen-text k p, i) (sym (other-clash v k fs t rs (good .apart))))
-  ]
+  -- the new record's entry e
+  new-map : (e : Entry) (k : Bytes) (fs : List Field) → any (is 61) k ≡ false → Kept h v e (fields k fs) → clashNumber (clashIn h all (prefixOf k) e) ≡ clash v (fields k fs) rs
+  new-map e k fs p d = let m = valueNamed v k (ascii "ID") fs in
+      let i : idSeen h (prefixOf k) (e .kind) (idMeaning h e) all ≡ among (hasIdUnder v k m) rs
+      = ap (λ (x : Bytes). idSeen h (prefixOf k) (e .kind) x all) (d .id refl) ∙ ap (λ (n : ℕ). idSeen h (prefixOf k) n m all) (d .kind) ∙ seen-id k m p in
+      elim (test (isTyped k)) [
+        | pass t ↦ answer-typed h all (prefixOf k) e (ap (λ (n : ℕ). ltb n 7) (d .kind) ∙ sym (typed-below k) ∙ t) ∙ rw i (sym (typed-clash v k fs t rs (good .good)))
+        | fail t ↦ rw (i, seen-text k p) (answer-map (e .kind) _ _ _ (d .kind ∙ untyped-number k t) ∙ sym (other-clash v k fs t rs (good .apart)))
+      ]
 
-  new-text : (k t m : Bytes) → any (is 61) k ≡ false → isTyped k ≡ false → clashNumber (clashIn h ws (prefixOf k) 8 m) ≡ clash v (text k t) rs
-  new-text k t m p u = answer-text h ws (prefixOf k) m ∙ rw (seen-map k p u) (sym (text-clash v k t rs))
+  new-text : (e : Entry) (k t : Bytes) → any (is 61) k ≡ false → isTyped k ≡ false → Kept h v e (text k t) → clashNumber (clashIn h all (prefixOf k) e) ≡ clash v (text k t) rs
+  new-text e k t p u d = rw (seen-map k p u) (answer-text (e .kind) _ _ _ (d .kind) ∙ sym (text-clash v k t rs))
 
-  described : (r : Record) (prefix : Bytes) (kind : ℕ) (id : Bytes) (quoted : Bool) → Describes v r prefix kind id quoted
-      → clashNumber (clashIn h ws prefix kind (meaning quoted id)) ≡ clash v r rs
-  described (fileformat w) prefix kind id quoted d = absurd d
-  described (fields k fs) prefix kind id quoted d = rw (d .begins, d .number, d .means) (new-map k fs (d .plain))
-  described (text k t) prefix kind id quoted d = rw (d .begins, d .number) (new-text k t (meaning quoted id) (d .plain) (d .untyped))
-
-  -- what the call answers of a new record is what the rules say of it
-  pub found-clash : (r : Record) (prefix : Bytes) (kind : ℕ) (id : Bytes) (quoted : Bool) → Describes v r prefix kind id quoted
-      → {vs : List ℕ} → vs ≡ words (e₀ ∷ es) → {a : Clash} → a ≡ clashIn h vs prefix kind (meaning quoted id) → clashNumber a ≡ clash v r rs
-  found-clash r prefix kind id quoted d e f = rw (f, e) (described r prefix kind id quoted d)
+  -- what the entries answer of a new record is what the rules say of it
+  pub found-clash : (e : Entry) (r : Record) → Row lim h v e r → Entered v r → clashNumber (clashIn h all (prefixOf (keyOf r)) e) ≡ clash v r rs
+  found-clash e (fileformat w) row g = absurd g
+  found-clash e (fields k fs) row g = new-map e k fs (g .key .plain) (kept lim h v e (fields k fs) row g)
+  found-clash e (text k t) row g = new-text e k t (g .key .plain) (or-l (isTyped k) _ (g .noMap)) (kept lim h v e (text k t) row g)

@@ -9,7 +9,7 @@ use Rattle.values.specs.Bytes.{Bytes, ascii, same}
 use Rattle.values.proofs.Tests.{pass, fail, test}
 use Rattle.values.proofs.Sames.{same-sound, same-sym}
 use Rattle.rules.specs.Known.{Kind, INFO, FILTER, FORMAT, ALT, contig, other, isIn, isTyped, kindOf}
-use Rattle.rules.specs.Entry.{kindNumber}
+use Rattle.rules.specs.Entry.{mapKind}
 
 -- a key is a typed one or an other one
 data Key (k : Bytes) : Type 0 where
@@ -42,11 +42,11 @@ key k = elim (test (same k (ascii "INFO"))) [
 ]
 
 -- the typed keys are those of the kinds below 7
-pub typed-below : (k : Bytes) → isTyped k ≡ ltb (kindNumber (kindOf k)) 7
+pub typed-below : (k : Bytes) → isTyped k ≡ ltb (mapKind (kindOf k)) 7
 unfolding isTyped isIn kindOf same
 typed-below k = go (key k)
   where
-    go : Key k → isTyped k ≡ ltb (kindNumber (kindOf k)) 7
+    go : Key k → isTyped k ≡ ltb (mapKind (kindOf k)) 7
     go (info e) = rw e
     go (filter e) = rw e
     go (format e) = rw e
@@ -54,7 +54,7 @@ typed-below k = go (key k)
     go (sequence e) = rw e
     go (untyped e o) = e ∙ rw o
 
-pub number-small : (kind : Kind) → (2 ≤ kindNumber kind) × (kindNumber kind ≤ 7)
+pub number-small : (kind : Kind) → (2 ≤ mapKind kind) × (mapKind kind ≤ 7)
 number-small INFO = (omega arith, omega arith)
 number-small FILTER = (omega arith, omega arith)
 number-small FORMAT = (omega arith, omega arith)
@@ -62,8 +62,8 @@ number-small ALT = (omega arith, omega arith)
 number-small contig = (omega arith, omega arith)
 number-small other = (omega arith, omega arith)
 
-pub untyped-number : (k : Bytes) → isTyped k ≡ false → kindNumber (kindOf k) ≡ 7
-untyped-number k e = omega (arith, number-small (kindOf k) .1, ltb-false (kindNumber (kindOf k)) 7 (sym (typed-below k) ∙ e))
+pub untyped-number : (k : Bytes) → isTyped k ≡ false → mapKind (kindOf k) ≡ 7
+untyped-number k e = omega (arith, number-small (kindOf k) .1, ltb-false (mapKind (kindOf k)) 7 (sym (typed-below k) ∙ e))
 
 -- the key of a typed kind's number
 unfoldable keyNumbered : ℕ → Bytes
@@ -75,17 +75,17 @@ keyNumbered n = elim (eqb n 2) [
   ]
 ]
 
-key-numbered : (k : Bytes) → kindNumber (kindOf k) < 7 → k ≡ keyNumbered (kindNumber (kindOf k))
+key-numbered : (k : Bytes) → mapKind (kindOf k) < 7 → k ≡ keyNumbered (mapKind (kindOf k))
 unfolding kindOf same keyNumbered
 key-numbered k l = go (key k)
   where
-    go : Key k → k ≡ keyNumbered (kindNumber (kindOf k))
+    go : Key k → k ≡ keyNumbered (mapKind (kindOf k))
     go (info e) = rw e
     go (filter e) = rw e
     go (format e) = rw e
     go (alt e) = rw e
     go (sequence e) = rw e
-    go (untyped e o) = absurd (omega (arith, ap kindNumber o))
+    go (untyped e o) = absurd (omega (arith, ap mapKind o))
 
-pub one-key : (j k : Bytes) → kindNumber (kindOf j) ≡ kindNumber (kindOf k) → kindNumber (kindOf k) < 7 → j ≡ k
+pub one-key : (j k : Bytes) → mapKind (kindOf j) ≡ mapKind (kindOf k) → mapKind (kindOf k) < 7 → j ≡ k
 one-key j k e l = key-numbered j (omega arith) ∙ ap keyNumbered e ∙ sym (key-numbered k l)

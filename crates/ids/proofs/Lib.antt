@@ -1,4 +1,4 @@
-pub mod Seen
 pub mod KeyKinds
-pub mod Clashes
+pub mod Seen
 pub mod Markings
+pub mod Clashes

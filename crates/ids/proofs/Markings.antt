@@ -1,161 +1,147 @@
--- Marks: what they tell of the entries, and a turn of each loop on plain values. Assumes nothing.
-use Prim.Native.Nat.{ℕ, zero, suc, _+_, _*_, _/_, _<_, _≤_}
+-- Marks: what they tell of the entries. Assumes nothing.
+use Prim.Native.Nat.{ℕ, _≤_, _<_}
 use native.Mathlib.Omega.{arith}
-use mathlib.Core.Path.{_≡_, refl, sym, ap, _∙_}
+use mathlib.Core.Path.{_≡_, sym, subst, _∙_}
 use mathlib.Core.Bool.{Bool, true, false, not, _&&_, false≢true}
 use mathlib.Core.List.{List, [], _∷_}
-use lib.Dec.{eqb}
-use lib.ListN.{length, getD, take, drop}
-use borrow.Author.Tests.{eqb-true}
+use lib.Dec.{eqb, leb, ltb}
+use lib.ListN.{length}
+use borrow.Author.Tests.{eqb-true, eqb-false, ltb-true, ltb-false, leb-true, leb-false, le-ltb, ne-eqb}
 use Rattle.values.specs.Bytes.{Bytes, starts, same}
 use Rattle.values.specs.Value.{meaning}
 use Rattle.values.specs.Marks.{isMarked, mark}
 use Rattle.values.proofs.Tests.{pass, fail, test, and-l, and-r, not-true, not-false}
 use Rattle.values.proofs.Sames.{same-sound}
 use Rattle.values.proofs.Markings.{mark-length, mark-own, mark-kept, sure}
-use Rattle.rules.specs.Shown.{kindIn, quotedIn}
-use Rattle.ids.specs.Clashes.{lineIn, idIn, idMeaning, hasKey, keySeen, isUnder, hasId, idSeen, clashIn}
-use Rattle.ids.specs.Marks.{markEntry, markAll, Marked, AllMarked, keyFound, idFound, clashFound}
-use Rattle.ids.proofs.Seen.{pair, Short, none, one, short}
-
--- the code holds the entry's kind in n and its ID in p and q
-pub entry-mark : (h : Bytes) (w x : ℕ) (ms : Bytes) {n : ℕ} → n ≡ kindIn w → {p : Bytes} → p ≡ idIn h w x → {q : Bool} → q ≡ quotedIn x
-    → {a : Bytes} → a ≡ mark ms n [] → {b : Bytes} → b ≡ mark a n (meaning q p) → b ≡ markEntry h w x ms
-unfolding markEntry
-entry-mark h w x ms en ep eq ea eb = eb ∙ rw (ea, en, ep, eq)
-
-entry-length : (h : Bytes) (w x : ℕ) (ms : Bytes) → length (markEntry h w x ms) ≡ length ms
-unfolding markEntry
-entry-length h w x ms = mark-length (mark ms (kindIn w) []) (kindIn w) (idMeaning h w x) ∙ mark-length ms (kindIn w) []
-
--- The entries before k are marked
-
-pub record Marking (h : Bytes) (ws : List ℕ) (from : ℕ) (ms₀ : Bytes) (k : ℕ) (ms : Bytes) : Type 0 where
-  pub still : markAll h (drop (2 * from) ws) ms₀ ≡ markAll h (drop (2 * k) ws) ms
-  pub long : length ms ≡ length ms₀
-
-pub marking-start : {h : Bytes} {ws : List ℕ} {from : ℕ} {ms : Bytes} → Marking h ws from ms from ms
-marking-start = record { still = refl; long = refl }
-
-module _ {h : Bytes} {ws : List ℕ} {from : ℕ} {ms₀ : Bytes} {k : ℕ} {ms : Bytes} (g : Marking h ws from ms₀ k ms) where
-  pub marking-next : k < length ws / 2 → {ns : Bytes} → ns ≡ markEntry h (getD ws (2 * k) 0) (getD ws (2 * k + 1) 0) ms → Marking h ws from ms₀ (k + 1) ns
-  unfolding markAll
-  marking-next l e =
-      let n : 2 * (k + 1) ≡ 2 * k + 2 = omega arith in
-      record { still = g .still ∙ rw (pair ws (2 * k) (omega arith), n, e); long = ap length e ∙ entry-length h _ _ ms ∙ g .long }
-
-  pub marking-length : length ms ≡ length ms₀
-  marking-length = g .long
-
-  pub marking-end : length ws / 2 ≤ k → ms ≡ markAll h (drop (2 * from) ws) ms₀
-  unfolding markAll
-  marking-end l = sym (g .still ∙ go (short ws (2 * k) (omega arith)))
-    where
-      go : {vs : List ℕ} → Short vs → markAll h vs ms ≡ ms
-      go none = refl
-      go (one w) = refl
-
-pub ruleset markings = (marking-start, marking-next, marking-length, marking-end)
+use Rattle.rules.specs.Known.{other}
+use Rattle.rules.specs.Entry.{Entry, mapKind, textKind}
+use Rattle.rules.specs.Shown.{lineIn, idIn, idMeaning}
+use Rattle.rules.proofs.Alls.{All}
+use Rattle.entries.specs.declared.entry.Entry.{Entry as CodeEntry}
+use Rattle.entries.specs.Values.{entryOf}
+use Rattle.ids.specs.Clashes.{hasKey, keySeen, isUnder, hasId, idSeen, clashBy, clashIn}
+use Rattle.ids.specs.Marks.{markEntry, Marked, keyFound, idFound, clashFound}
 
 -- What is marked stays so
 
-entry-own : (h : Bytes) (w x : ℕ) (ms : Bytes) → Marked h w x (markEntry h w x ms)
+pub entry-length : (h : Bytes) (e : Entry) (ms : Bytes) → length (markEntry h e ms) ≡ length ms
 unfolding markEntry
-entry-own h w x ms =
-    let ns = mark ms (kindIn w) [] in
-    record { kind = mark-kept ns (kindIn w) (idMeaning h w x) (kindIn w) [] (mark-own ms (kindIn w) []); id = mark-own ns (kindIn w) (idMeaning h w x) }
+entry-length h e ms = elim (test (ltb (e .kind) 7)) [
+  | pass l ↦ rw (markEntry, l) (mark-length ms (e .kind) (idMeaning h e))
+  | fail l ↦ elim (test (eqb (e .kind) 7)) [
+    | pass k ↦ rw (markEntry, l, k) (mark-length (mark ms (e .kind) (idMeaning h e)) (mapKind other) [] ∙ mark-length ms (e .kind) (idMeaning h e))
+    | fail k ↦ rw (markEntry, l, k) (mark-length ms (e .kind) [])
+  ]
+]
 
-entry-kept : (h : Bytes) (w x : ℕ) (ms : Bytes) (v y : ℕ) → Marked h v y ms → Marked h v y (markEntry h w x ms)
+-- the new entry is marked
+pub entry-own : (h : Bytes) (e : Entry) (ms : Bytes) → Marked h (markEntry h e ms) e
 unfolding markEntry
-entry-kept h w x ms v y a =
-    let ns = mark ms (kindIn w) [] in
-    let kept : (m : Bytes) → isMarked ms (kindIn v) m ≡ true → isMarked (mark ns (kindIn w) (idMeaning h w x)) (kindIn v) m ≡ true =
-    λ m b. mark-kept ns (kindIn w) (idMeaning h w x) (kindIn v) m (mark-kept ms (kindIn w) [] (kindIn v) m b) in
-    record { kind = kept [] (a .kind); id = kept (idMeaning h v y) (a .id) }
+entry-own h e ms = elim (test (ltb (e .kind) 7)) [
+  | pass l ↦ rw (markEntry, l) (record { id = λ a b. mark-own ms (e .kind) (idMeaning h e); key = λ a b. absurd (omega (arith, ltb-true (e .kind) 7 l)) })
+  | fail l ↦ elim (test (eqb (e .kind) 7)) [
+    | pass k ↦
+        let ns = mark ms (e .kind) (idMeaning h e) in
+        rw (markEntry, l, k) (record {
+          id = λ a b. mark-kept ns (mapKind other) [] (e .kind) (idMeaning h e) (mark-own ms (e .kind) (idMeaning h e));
+          key = λ a b. subst (λ (n : ℕ). isMarked (mark ns (mapKind other) []) n [] ≡ true) (sym (eqb-true (e .kind) 7 k)) (mark-own ns (mapKind other) []);
+        })
+    | fail k ↦
+        let ne = eqb-false (e .kind) 7 k in
+        rw (markEntry, l, k) (record { id = λ a b. absurd (ne (omega (arith, ltb-false (e .kind) 7 l))); key = λ a b. mark-own ms (e .kind) [] })
+  ]
+]
 
-marked-kept : (h : Bytes) (ws : List ℕ) (ms : Bytes) (v y : ℕ) → Marked h v y ms → Marked h v y (markAll h ws ms)
-unfolding markAll
-marked-kept h [] ms v y a = a
-marked-kept h (w ∷ []) ms v y a = a
-marked-kept h (w ∷ x ∷ ws) ms v y a = marked-kept h ws (markEntry h w x ms) v y (entry-kept h w x ms v y a)
+one-kept : (h : Bytes) (e : Entry) (ms : Bytes) (kind : ℕ) (t : Bytes) → isMarked ms kind t ≡ true → isMarked (markEntry h e ms) kind t ≡ true
+unfolding markEntry
+one-kept h e ms kind t a = elim (test (ltb (e .kind) 7)) [
+  | pass l ↦ rw (markEntry, l) (mark-kept ms (e .kind) (idMeaning h e) kind t a)
+  | fail l ↦ elim (test (eqb (e .kind) 7)) [
+    | pass k ↦ rw (markEntry, l, k) (mark-kept (mark ms (e .kind) (idMeaning h e)) (mapKind other) [] kind t (mark-kept ms (e .kind) (idMeaning h e) kind t a))
+    | fail k ↦ rw (markEntry, l, k) (mark-kept ms (e .kind) [] kind t a)
+  ]
+]
 
-all-marked : (h : Bytes) (ws : List ℕ) (ms : Bytes) → AllMarked h ws (markAll h ws ms)
-unfolding markAll
-all-marked h [] ms = tt
-all-marked h (w ∷ []) ms = tt
-all-marked h (w ∷ x ∷ ws) ms = (marked-kept h ws (markEntry h w x ms) w x (entry-own h w x ms), all-marked h ws (markEntry h w x ms))
-
-pub all-length : (h : Bytes) (ws : List ℕ) (ms : Bytes) → length (markAll h ws ms) ≡ length ms
-unfolding markAll
-all-length h [] ms = refl
-all-length h (w ∷ []) ms = refl
-all-length h (w ∷ x ∷ ws) ms = all-length h ws (markEntry h w x ms) ∙ entry-length h w x ms
-
-two-more : (n : ℕ) → 2 * suc n ≡ suc (suc (2 * n))
-two-more n = omega arith
-
--- where the first n entries are marked, and then the others, all are
-pub all-more : (h : Bytes) (n : ℕ) (ws : List ℕ) (ms : Bytes) → AllMarked h (take (2 * n) ws) ms → AllMarked h ws (markAll h (drop (2 * n) ws) ms)
-all-more h zero ws ms a = all-marked h ws ms
-all-more h (suc n) [] ms a = tt
-all-more h (suc n) (w ∷ []) ms a = tt
-all-more h (suc n) (w ∷ x ∷ ws) ms a =
-    let b : Marked h w x ms × AllMarked h (take (2 * n) ws) ms = rw (two-more n) at a in
-    rw (two-more n) (marked-kept h (drop (2 * n) ws) ms w x (b .0), all-more h n ws ms (b .1))
+-- and so are those that were
+pub all-kept : (h : Bytes) (e : Entry) (ms : Bytes) (es : List Entry) → All (Marked h ms) es → All (Marked h (markEntry h e ms)) es
+all-kept h e ms [] a = tt
+all-kept h e ms (x ∷ es) a = (
+  record { id = λ b c. one-kept h e ms (x .kind) (idMeaning h x) (a .0 .id b c); key = λ b c. one-kept h e ms (x .kind) [] (a .0 .key b c) },
+  all-kept h e ms es (a .1),
+)
 
 -- What the scans find is marked
 
 module _ (h ms prefix : Bytes) (kind : ℕ) where
-  key-marked : (ws : List ℕ) → AllMarked h ws ms → keySeen h prefix kind ws ≡ true → isMarked ms kind [] ≡ true
+  key-marked : 7 ≤ kind → kind ≤ 8 → (es : List Entry) → All (Marked h ms) es → keySeen h prefix kind es ≡ true → isMarked ms kind [] ≡ true
   unfolding keySeen hasKey
-  key-marked [] a e = absurd (false≢true e)
-  key-marked (w ∷ []) a e = absurd (false≢true e)
-  key-marked (w ∷ x ∷ ws) a e = elim (test (hasKey h prefix kind w)) [
-    | pass f ↦ rw (eqb-true (kindIn w) kind (and-l (eqb (kindIn w) kind) (starts prefix (lineIn h w)) f)) at (a .0 .kind)
-    | fail f ↦ key-marked ws (a .1) (rw f at e)
+  key-marked l m [] a f = absurd (false≢true f)
+  key-marked l m (e ∷ es) a f = elim (test (hasKey h prefix kind e)) [
+    | pass g ↦
+        let k = eqb-true (e .kind) kind (and-l (eqb (e .kind) kind) (starts prefix (lineIn h e)) g) in
+        subst (λ (n : ℕ). isMarked ms n [] ≡ true) k (a .0 .key (omega arith) (omega arith))
+    | fail g ↦ key-marked l m es (a .1) (rw g at f)
   ]
 
-  id-marked : (m : Bytes) (ws : List ℕ) → AllMarked h ws ms → idSeen h prefix kind m ws ≡ true → isMarked ms kind m ≡ true
+  id-marked : 2 ≤ kind → kind ≤ 7 → (m : Bytes) (es : List Entry) → All (Marked h ms) es → idSeen h prefix kind m es ≡ true → isMarked ms kind m ≡ true
   unfolding idSeen hasId
-  id-marked m [] a e = absurd (false≢true e)
-  id-marked m (w ∷ []) a e = absurd (false≢true e)
-  id-marked m (w ∷ x ∷ ws) a e = elim (test (hasId h prefix kind m w x)) [
-    | pass f ↦
-        let k = and-l (eqb (kindIn w) kind) (isUnder h prefix kind w && same (idMeaning h w x) m) f in
-        let i = and-r (isUnder h prefix kind w) (same (idMeaning h w x) m) (and-r (eqb (kindIn w) kind) (isUnder h prefix kind w && same (idMeaning h w x) m) f) in
-        rw (eqb-true (kindIn w) kind k, same-sound (idMeaning h w x) m i) at (a .0 .id)
-    | fail f ↦ id-marked m ws (a .1) (rw f at e)
+  id-marked n l m [] a f = absurd (false≢true f)
+  id-marked n l m (e ∷ es) a f = elim (test (hasId h prefix kind m e)) [
+    | pass g ↦
+        let k = eqb-true (e .kind) kind (and-l (eqb (e .kind) kind) (isUnder h prefix kind e && same (idMeaning h e) m) g) in
+        let i = and-r (isUnder h prefix kind e) (same (idMeaning h e) m) (and-r (eqb (e .kind) kind) (isUnder h prefix kind e && same (idMeaning h e) m) g) in
+        subst (λ (i : ℕ). isMarked ms i m ≡ true) k (subst (λ (x : Bytes). isMarked ms (e .kind) x ≡ true) (same-sound (idMeaning h e) m i) (a .0 .id (omega arith) (omega arith)))
+    | fail g ↦ id-marked n l m es (a .1) (rw g at f)
   ]
 
-  key-sure : (ws : List ℕ) → AllMarked h ws ms → keyFound h ws ms prefix kind ≡ keySeen h prefix kind ws
+  key-sure : 7 ≤ kind → kind ≤ 8 → (es : List Entry) → All (Marked h ms) es → keyFound h es ms prefix kind ≡ keySeen h prefix kind es
   unfolding keyFound
-  key-sure ws a = sure (isMarked ms kind []) (keySeen h prefix kind ws) (key-marked ws a)
+  key-sure l m es a = sure (isMarked ms kind []) (keySeen h prefix kind es) (key-marked l m es a)
 
-  id-sure : (m : Bytes) (ws : List ℕ) → AllMarked h ws ms → idFound h ws ms prefix kind m ≡ idSeen h prefix kind m ws
-  unfolding idFound
-  id-sure m ws a = sure (isMarked ms kind m) (idSeen h prefix kind m ws) (id-marked m ws a)
+id-sure : (h ms prefix : Bytes) (e : Entry) → 2 ≤ e .kind → e .kind ≤ 7 → (es : List Entry) → All (Marked h ms) es → idFound h es ms prefix e ≡ idSeen h prefix (e .kind) (idMeaning h e) es
+unfolding idFound
+id-sure h ms prefix e n l es a = sure (isMarked ms (e .kind) (idMeaning h e)) (idSeen h prefix (e .kind) (idMeaning h e) es) (id-marked h ms prefix (e .kind) n l (idMeaning h e) es a)
 
-pub clash-sure : (h : Bytes) (ws : List ℕ) (ms prefix : Bytes) (kind : ℕ) (m : Bytes) → AllMarked h ws ms → clashFound h ws ms prefix kind m ≡ clashIn h ws prefix kind m
-clash-sure h ws ms prefix kind m a = rw (id-sure h ms prefix kind m ws a, key-sure h ms prefix 8 ws a, key-sure h ms prefix 7 ws a)
+-- past the other maps no ID is asked for
+other-clash : (kind : ℕ) (i j m x : Bool) → 7 < kind → clashBy kind i m x ≡ clashBy kind j m x
+unfolding clashBy
+other-clash kind i j m x l = rw (clashBy, le-ltb kind 7 (omega arith), ne-eqb kind 7 (λ k. omega arith))
+
+-- where all entries are marked, what is not marked is not among them
+pub clash-sure : (h : Bytes) (es : List Entry) (ms prefix : Bytes) (e : Entry) → 2 ≤ e .kind → All (Marked h ms) es → clashFound h es ms prefix e ≡ clashIn h es prefix e
+clash-sure h es ms prefix e n a =
+    let t = key-sure h ms prefix textKind (omega arith) (omega arith) es a in
+    let m = key-sure h ms prefix (mapKind other) (omega arith) (omega arith) es a in
+    elim (test (leb (e .kind) 7)) [
+      | pass l ↦ rw (id-sure h ms prefix e n (leb-true (e .kind) 7 l) es a, t, m)
+      | fail l ↦ rw (t, m) (other-clash (e .kind) _ _ _ _ (omega (arith, leb-false (e .kind) 7 l)))
+    ]
 
 -- q is what the marks answered
-module _ (h : Bytes) (ws : List ℕ) (ms prefix : Bytes) (kind : ℕ) {q : Bool} where
-  module _ (e : q ≡ isMarked ms kind []) where
-    pub key-unmarked : not q ≡ true → false ≡ keyFound h ws ms prefix kind
-    unfolding keyFound
-    key-unmarked n = rw (← e, not-true q n)
+module _ (h : Bytes) (es : List Entry) (ms prefix : Bytes) (kind : ℕ) {q : Bool} (e : q ≡ isMarked ms kind []) where
+  pub key-unmarked : not q ≡ true → false ≡ keyFound h es ms prefix kind
+  unfolding keyFound
+  key-unmarked n = rw (← e, not-true q n)
 
-    pub key-looked : not q ≡ false → {r : Bool} → r ≡ keySeen h prefix kind ws → r ≡ keyFound h ws ms prefix kind
-    unfolding keyFound
-    key-looked n f = f ∙ rw (← e, not-false q n)
+  pub key-looked : not q ≡ false → {r : Bool} → r ≡ keySeen h prefix kind es → r ≡ keyFound h es ms prefix kind
+  unfolding keyFound
+  key-looked n f = f ∙ rw (← e, not-false q n)
 
-  module _ (m : Bytes) (e : q ≡ isMarked ms kind m) where
-    pub id-unmarked : not q ≡ true → false ≡ idFound h ws ms prefix kind m
-    unfolding idFound
-    id-unmarked n = rw (← e, not-true q n)
+-- the code holds the new entry's ID in p
+module _ (h : Bytes) (es : List Entry) (ms prefix : Bytes) (x : CodeEntry) {p : Bytes} (ep : p ≡ idIn h (entryOf x)) {q : Bool} (e : q ≡ isMarked ms (x .kind) (meaning (x .quoted) p)) where
+  pub id-unmarked : not q ≡ true → false ≡ idFound h es ms prefix (entryOf x)
+  unfolding idFound
+  id-unmarked n = rw (← ep, ← e, not-true q n)
 
-    pub id-looked : not q ≡ false → {r : Bool} → r ≡ idSeen h prefix kind m ws → r ≡ idFound h ws ms prefix kind m
-    unfolding idFound
-    id-looked n f = f ∙ rw (← e, not-false q n)
+  pub id-looked : not q ≡ false → {r : Bool} → r ≡ idSeen h prefix (x .kind) (meaning (x .quoted) p) es → r ≡ idFound h es ms prefix (entryOf x)
+  unfolding idFound
+  id-looked n f = f ∙ rw (← ep, ← e, not-false q n)
 
-pub ruleset scans = (key-unmarked, key-looked, id-unmarked, id-looked)
+pub id-met : (h ms : Bytes) (x : CodeEntry) {p : Bytes} → p ≡ idIn h (entryOf x) → {ns : Bytes} → ns ≡ mark ms (x .kind) (meaning (x .quoted) p) → ns ≡ mark ms (x .kind) (idMeaning h (entryOf x))
+id-met h ms x ep e = e ∙ rw ep
+
+-- no new line clashes with the fileformat line
+pub unmarked : (h ms : Bytes) (e : Entry) → e .kind < 2 → Marked h ms e
+unmarked h ms e l = record { id = λ a b. absurd (omega arith); key = λ a b. absurd (omega arith) }
+
+pub ruleset scans = (key-unmarked, key-looked, id-unmarked, id-looked, id-met)

@@ -1,48 +1,43 @@
--- The scans of the words, a turn of each on plain values. Assumes nothing.
+-- The scans of the entries, a turn of each on plain values. Assumes nothing.
 use Prim.Native.Nat.{ℕ, _+_, _-_, _<_, _≤_}
 use native.Mathlib.Omega.{arith}
 use mathlib.Core.Path.{_≡_, refl, sym, ap, _∙_}
 use mathlib.Core.Bool.{Bool, true, false, not, _||_, true≢false, false≢true}
 use mathlib.Core.List.{List, [], _∷_}
 use lib.Dec.{eqb}
-use lib.ListN.{length, getD, take, drop, length-take, length-drop}
-use lib.Seq.{getD-take, getD-drop}
+use lib.ListN.{length, getD, drop}
 use borrow.Author.Tests.{eq-eqb, ne-eqb, eqb-false, lt-ltb, le-ltb}
 use Rattle.values.specs.Bytes.{Bytes, starts, same}
 use Rattle.values.specs.Value.{meaning}
+use Rattle.values.specs.Marks.{mark}
 use Rattle.values.proofs.Tests.{not-true, not-false, and-off}
-use Rattle.values.proofs.Lists.{here}
 use Rattle.values.proofs.Sames.{differ}
 use Rattle.values.specs.Places.{unescapedAt}
 use Rattle.values.specs.declared.cursor.Cursor.{Cursor}
 use Rattle.values.specs.declared.cursor.ByteRead.{ByteRead}
 use Rattle.values.specs.declared.cursor.ByteRead.the-variants.{Byte, End}
 use Rattle.values.proofs.Meanings.{Comparing, compare, both-end, right-longer, left-longer, differ as byte-differs, agree, told-less}
-use Rattle.rules.specs.Shown.{kindIn, startIn, lengthIn, offsetIn, idLengthIn, quotedIn}
-use Rattle.ids.specs.Clashes.{lineIn, idIn, idMeaning, hasKey, keySeen, isUnder, hasId, idSeen, clashBy, lastOf, MayEqual, Candidate}
+use Rattle.rules.specs.Known.{other}
+use Rattle.rules.specs.Entry.{Entry, mapKind}
+use Rattle.rules.specs.Shown.{lineIn, idIn, idMeaning}
+use Rattle.entries.specs.declared.entry.Entry.{Entry as CodeEntry}
+use Rattle.entries.specs.Values.{entryOf}
+use Rattle.entries.specs.Tables.{room, entriesIn, entryIn}
+use Rattle.entries.proofs.Stored.{entries-here, entries-past}
+use Rattle.ids.specs.Clashes.{hasKey, keySeen, isUnder, hasId, idSeen, mapClash, clashBy, lastOf, MayEqual, Candidate}
+use Rattle.ids.specs.Marks.{markEntry}
+use Rattle.ids.specs.declared.scan.Clash.{Clash}
 use Rattle.ids.specs.declared.scan.Clash.the-variants.{Free, TypedId, Mixed, OtherId}
 
--- the parts of an entry, as the code cuts them
-cut : (h : Bytes) (a n : ℕ) → take (a + n - a) (drop a h) ≡ take n (drop a h)
-cut h a n = let e : a + n - a ≡ n = omega arith in rw e
-
-module _ (h : Bytes) (w : ℕ) {s : ℕ} (es : s ≡ startIn w) where
-  pub line-cut : {n : ℕ} → n ≡ lengthIn w → {p : Bytes} → p ≡ take (s + n - s) (drop s h) → p ≡ lineIn h w
-  unfolding lineIn
-  line-cut {n} en e = e ∙ cut h s n ∙ rw (es, en)
-
-  pub id-cut : (x : ℕ) {o : ℕ} → o ≡ offsetIn x → {n : ℕ} → n ≡ idLengthIn x → {p : Bytes} → p ≡ take (s + o + n - (s + o)) (drop (s + o) h) → p ≡ idIn h w x
-  unfolding idIn
-  id-cut x {o} eo {n} en e = e ∙ cut h (s + o) n ∙ rw (es, eo, en)
-
-pub ruleset cuts = (line-cut, id-cut)
-
 -- what answers the needs of `is_under`
-pub typed-under : (h prefix : Bytes) (kind w : ℕ) → kind < 7 → true ≡ isUnder h prefix kind w
-typed-under h prefix kind w l = rw (lt-ltb kind 7 l)
+module _ (h prefix : Bytes) (kind : ℕ) (e : Entry) where
+  pub typed-under : kind < 7 → true ≡ isUnder h prefix kind e
+  unfolding isUnder
+  typed-under l = rw (lt-ltb kind 7 l)
 
-pub other-under : (h prefix : Bytes) (kind w : ℕ) → 7 ≤ kind → {p : Bytes} → p ≡ lineIn h w → {r : Bool} → r ≡ starts prefix p → r ≡ isUnder h prefix kind w
-other-under h prefix kind w l e a = a ∙ rw (le-ltb kind 7 l, e)
+  pub other-under : 7 ≤ kind → {p : Bytes} → p ≡ lineIn h e → {r : Bool} → r ≡ starts prefix p → r ≡ isUnder h prefix kind e
+  unfolding isUnder
+  other-under l a b = b ∙ rw (le-ltb kind 7 l, a)
 
 pub ruleset unders = (typed-under, other-under)
 
@@ -53,193 +48,150 @@ no-last (b ∷ s) e = absurd (omega arith)
 pub ruleset lasts = (no-last)
 
 -- what answers the needs of `may_equal`
-pub may : {h : Bytes} {w x : ℕ} {id : Bytes} {last : ℕ} {quoted : Bool} → MayEqual h w x id last quoted true
-may = record { other = λ a e. absurd (true≢false e) }
+pub may : {h : Bytes} {e : Entry} {id : Bytes} {last : ℕ} {quoted : Bool} → MayEqual h e id last quoted true
+may = record { other = λ a f. absurd (true≢false f) }
 
--- both IDs are bare, and the entry's lies in the header
-module _ (h : Bytes) (w x : ℕ) (id : Bytes) (quoted : Bool) (eq : quoted ≡ false) {q : Bool} (qx : q ≡ quotedIn x) (bare : q ≡ false)
-    {n : ℕ} (en : n ≡ idLengthIn x) {s : ℕ} (es : s ≡ startIn w) {o : ℕ} (eo : o ≡ offsetIn x) (inside : s + o + n ≤ length h) where
-  long : length (idIn h w x) ≡ n
-  unfolding idIn
-  long = rw (← es, ← eo, ← en) (length-take n (drop (s + o) h) ∙ omega (arith, length-drop (s + o) h))
+both-mean : (p q : Bool) (a b : Bytes) → p ≡ false → q ≡ false → same (meaning p a) (meaning q b) ≡ same a b
+both-mean p q a b e f = rw (e, f)
 
-  unlike : (idIn h w x ≡ id → ⊥) → same (idMeaning h w x) (meaning quoted id) ≡ false
-  unlike ne = rw (eq, ← qx, bare) (differ (idIn h w x) id ne)
+-- both IDs are bare
+module _ (h : Bytes) (e : Entry) (id : Bytes) (quoted : Bool) (eq : quoted ≡ false) (bare : e .quoted ≡ false) {p : Bytes} (ep : p ≡ idIn h e) where
+  unlike : (p ≡ id → ⊥) → same (idMeaning h e) (meaning quoted id) ≡ false
+  unlike ne = both-mean (e .quoted) quoted (idIn h e) id bare eq ∙ differ (idIn h e) id (λ i. ne (ep ∙ i))
 
-  last-at : 0 < n → getD (idIn h w x) (n - 1) 0 ≡ getD h (s + o + n - 1) 0
-  unfolding idIn
-  last-at some =
-      let m : s + o + (n - 1) ≡ s + o + n - 1 = omega arith in
-      rw (← es, ← eo, ← en, getD-take n (drop (s + o) h) (n - 1) 0 (omega arith), getD-drop (s + o) h (n - 1) 0, m)
+  pub other-length : {last : ℕ} → (length p ≡ length id → ⊥) → MayEqual h e id last quoted false
+  other-length ne = record { other = λ a f. unlike (λ i. ne (ap length i)) }
 
-  pub other-length : {last : ℕ} → (n ≡ length id → ⊥) → MayEqual h w x id last quoted false
-  other-length ne = record { other = λ a e. unlike (λ i. ne (sym long ∙ ap length i)) }
-
-  pub other-last : {last : ℕ} → n ≡ length id → (n ≡ 0 → ⊥) → MayEqual h w x id last quoted (eqb (getD h (s + o + n - 1) 0) last)
+  pub other-last : {last : ℕ} → length p ≡ length id → (length p ≡ 0 → ⊥) → MayEqual h e id last quoted (eqb (getD p (length p - 1) 0) last)
   other-last {last} l some = record {
-    other = λ a e. unlike (λ i.
-        eqb-false (getD h (s + o + n - 1) 0) last e (sym (last-at (omega (arith, some))) ∙ ap (λ (y : Bytes). getD y (n - 1) 0) i ∙ rw (a, l)));
+    other = λ a f. unlike (λ i. eqb-false (getD p (length p - 1) 0) last f (rw (l, a) (ap (λ (y : Bytes). getD y (length id - 1) 0) i)));
   }
 
 pub ruleset mays = (may, other-length, other-last)
 
--- what answers the needs of `is_candidate`; r, t and u are what the code's tests answered
-module _ {h : Bytes} {w x : ℕ} {prefix : Bytes} {kind : ℕ} {id : Bytes} {last : ℕ} {quoted : Bool} {r : ℕ} (er : r ≡ kindIn w) where
-  pub other-kind : (r ≡ kind → ⊥) → Candidate h w x prefix kind id last quoted false
+-- what answers the needs of `is_candidate`; t and u are what the code's tests answered
+module _ {h : Bytes} (e : Entry) {prefix : Bytes} {kind : ℕ} {id : Bytes} {last : ℕ} {quoted : Bool} where
+  pub other-kind : (e .kind ≡ kind → ⊥) → Candidate h e prefix kind id last quoted false
   unfolding hasId
-  other-kind ne = record { passed = λ e. absurd (false≢true e); failed = λ l e. rw (← er, ne-eqb r kind ne) }
+  other-kind ne = record { passed = λ f. absurd (false≢true f); failed = λ l f. rw (ne-eqb (e .kind) kind ne) }
 
-  module _ (ek : r ≡ kind) {t : Bool} (m : MayEqual h w x id last quoted t) where
-    pub unequal : not t ≡ true → Candidate h w x prefix kind id last quoted false
+  module _ (ek : e .kind ≡ kind) {t : Bool} (m : MayEqual h e id last quoted t) where
+    pub unequal : not t ≡ true → Candidate h e prefix kind id last quoted false
     unfolding hasId
     unequal n = record {
-      passed = λ e. absurd (false≢true e);
-      failed = λ l e. rw (← er, eq-eqb r kind ek, m .other l (not-true t n)) (and-off (isUnder h prefix kind w) refl);
+      passed = λ f. absurd (false≢true f);
+      failed = λ l f. rw (eq-eqb (e .kind) kind ek, m .other l (not-true t n)) (and-off (isUnder h prefix kind e) refl);
     }
 
-    pub candidate : {u : Bool} → u ≡ isUnder h prefix kind w → Candidate h w x prefix kind id last quoted u
+    pub candidate : {u : Bool} → u ≡ isUnder h prefix kind e → Candidate h e prefix kind id last quoted u
     unfolding hasId
     candidate eu = record {
-      passed = λ e. rw (← er, eq-eqb r kind ek, ← eu, e);
-      failed = λ l e. rw (← er, eq-eqb r kind ek, ← eu, e);
+      passed = λ f. rw (eq-eqb (e .kind) kind ek, ← eu, f);
+      failed = λ l f. rw (eq-eqb (e .kind) kind ek, ← eu, f);
     }
 
 pub ruleset candidates = (other-kind, unequal, candidate)
 
--- the words of an entry off the front
-pub pair : (t : List ℕ) (k : ℕ) → k + 1 < length t → drop k t ≡ getD t k 0 ∷ getD t (k + 1) 0 ∷ drop (k + 2) t
-pair t k l =
-    let two : k + 1 + 1 ≡ k + 2 = omega arith in
-    rw (here t k (omega arith), here t (k + 1) l, two)
+-- The scan for a key: no entry before number k has it
 
--- no whole entry is left
-pub data Short : List ℕ → Type 0 where
-  none : Short []
-  one : (w : ℕ) → Short (w ∷ [])
+pub record Keys (h prefix : Bytes) (kind : ℕ) (t : List ℕ) (k : ℕ) : Type 0 where
+  pub still : keySeen h prefix kind (entriesIn t) ≡ keySeen h prefix kind (drop k (entriesIn t))
 
-pub short : (t : List ℕ) (k : ℕ) → length t ≤ k + 1 → Short (drop k t)
-short t k l = go (drop k t) (omega (arith, length-drop k t))
-  where
-    go : (ws : List ℕ) → length ws ≤ 1 → Short ws
-    go [] l = none
-    go (w ∷ []) l = one w
-    go (w ∷ x ∷ ws) l = absurd (omega arith)
+pub keys-start : {h prefix : Bytes} {kind : ℕ} {t : List ℕ} → Keys h prefix kind t 0
+keys-start = record { still = refl }
 
--- The scan for a key: no entry before the word k has it
-
-pub record Keys (h prefix : Bytes) (kind : ℕ) (ws : List ℕ) (k : ℕ) : Type 0 where
-  pub inside : k ≤ length ws
-  pub still : keySeen h prefix kind ws ≡ keySeen h prefix kind (drop k ws)
-
-pub keys-start : {h prefix : Bytes} {kind : ℕ} {ws : List ℕ} → Keys h prefix kind ws 0
-keys-start = record { inside = omega arith; still = refl }
-
-module _ {h prefix : Bytes} {kind : ℕ} {ws : List ℕ} {k : ℕ} (g : Keys h prefix kind ws k) where
-  pub keys-end : length ws ≤ k + 1 → false ≡ keySeen h prefix kind ws
+module _ {h prefix : Bytes} {kind : ℕ} {t : List ℕ} {k : ℕ} (g : Keys h prefix kind t k) {n : ℕ} (en : n ≡ room t) where
+  pub keys-end : n ≤ k → false ≡ keySeen h prefix kind (entriesIn t)
   unfolding keySeen
-  keys-end l = sym (g .still ∙ go (short ws k l))
-    where
-      go : {vs : List ℕ} → Short vs → keySeen h prefix kind vs ≡ false
-      go none = refl
-      go (one w) = refl
+  keys-end l = sym (g .still ∙ rw (entries-past t k (rw (← en) l)))
 
-  module _ (l : k + 1 < length ws) where
-    keys-turn : keySeen h prefix kind ws ≡ (hasKey h prefix kind (getD ws k 0) || keySeen h prefix kind (drop (k + 2) ws))
+  -- e is the entry that the code got
+  module _ (l : k < n) {e : CodeEntry} (ee : entryOf e ≡ entryIn t k) where
+    keys-turn : keySeen h prefix kind (entriesIn t) ≡ (hasKey h prefix kind (entryOf e) || keySeen h prefix kind (drop (k + 1) (entriesIn t)))
     unfolding keySeen
-    keys-turn = g .still ∙ rw (pair ws k l)
+    keys-turn = g .still ∙ rw (entries-here t k (rw (← en) l), ← ee)
 
-    keys-next : hasKey h prefix kind (getD ws k 0) ≡ false → Keys h prefix kind ws (k + 2)
-    keys-next e = record { inside = omega arith; still = keys-turn ∙ rw e }
+    keys-next : hasKey h prefix kind (entryOf e) ≡ false → Keys h prefix kind t (k + 1)
+    keys-next f = record { still = keys-turn ∙ rw f }
 
-    module _ {r : ℕ} (er : r ≡ kindIn (getD ws k 0)) where
-      pub keys-other : (r ≡ kind → ⊥) → Keys h prefix kind ws (k + 2)
+    pub keys-other : (e .kind ≡ kind → ⊥) → Keys h prefix kind t (k + 1)
+    unfolding hasKey
+    keys-other ne = keys-next (rw (ne-eqb (e .kind) kind ne))
+
+    -- q is what the code's test of the line answered
+    module _ (ek : e .kind ≡ kind) {p : Bytes} (ep : p ≡ lineIn h (entryOf e)) {q : Bool} (eq : q ≡ starts prefix p) where
+      has-key : hasKey h prefix kind (entryOf e) ≡ q
       unfolding hasKey
-      keys-other ne = keys-next (rw (← er, ne-eqb r kind ne))
+      has-key = rw (eq-eqb (e .kind) kind ek, ← ep) (sym eq)
 
-      -- t is what the code's test of the line answered
-      module _ (ek : r ≡ kind) {p : Bytes} (ep : p ≡ lineIn h (getD ws k 0)) {t : Bool} (et : t ≡ starts prefix p) where
-        has-key : hasKey h prefix kind (getD ws k 0) ≡ t
-        unfolding hasKey
-        has-key = rw (← er, eq-eqb r kind ek, ← ep) (sym et)
+      pub keys-miss : q ≡ false → Keys h prefix kind t (k + 1)
+      keys-miss f = keys-next (has-key ∙ f)
 
-        pub keys-miss : t ≡ false → Keys h prefix kind ws (k + 2)
-        keys-miss e = keys-next (has-key ∙ e)
-
-        pub keys-hit : t ≡ true → true ≡ keySeen h prefix kind ws
-        keys-hit e = sym (keys-turn ∙ rw (has-key, e))
+      pub keys-hit : q ≡ true → true ≡ keySeen h prefix kind (entriesIn t)
+      keys-hit f = sym (keys-turn ∙ rw (has-key, f))
 
 pub ruleset keys = (keys-start, keys-end, keys-other, keys-miss, keys-hit)
 
--- The scan for an ID: no entry before the word k has it
+-- The scan for an ID: no entry before number k has it
 
-pub record Ids (h prefix : Bytes) (kind : ℕ) (id : Bytes) (quoted : Bool) (ws : List ℕ) (found : Bool) (k : ℕ) : Type 0 where
+pub record Ids (h prefix : Bytes) (kind : ℕ) (id : Bytes) (quoted : Bool) (t : List ℕ) (found : Bool) (k : ℕ) : Type 0 where
   pub none : found ≡ false
-  pub inside : k ≤ length ws
-  pub still : idSeen h prefix kind (meaning quoted id) ws ≡ idSeen h prefix kind (meaning quoted id) (drop k ws)
+  pub still : idSeen h prefix kind (meaning quoted id) (entriesIn t) ≡ idSeen h prefix kind (meaning quoted id) (drop k (entriesIn t))
 
-pub ids-start : {h prefix : Bytes} {kind : ℕ} {id : Bytes} {quoted : Bool} {ws : List ℕ} → Ids h prefix kind id quoted ws false 0
-ids-start = record { none = refl; inside = omega arith; still = refl }
+pub ids-start : {h prefix : Bytes} {kind : ℕ} {id : Bytes} {quoted : Bool} {t : List ℕ} → Ids h prefix kind id quoted t false 0
+ids-start = record { none = refl; still = refl }
 
--- the entry's ID, in p and q, is the same before i as the new one before j; the next entry is at the word k
-pub record Within (h prefix : Bytes) (kind : ℕ) (id : Bytes) (quoted : Bool) (ws : List ℕ) (found : Bool) (k : ℕ) (p : Bytes) (q : Bool) (i j : ℕ) : Type 0 where
+-- the entry's ID, in p and q, is the same before i as the new one before j; the next entry has the number k
+pub record Within (h prefix : Bytes) (kind : ℕ) (id : Bytes) (quoted : Bool) (t : List ℕ) (found : Bool) (k : ℕ) (p : Bytes) (q : Bool) (i j : ℕ) : Type 0 where
   pub comparing : Comparing p q id quoted i j
-  pub other : false ≡ same (meaning q p) (meaning quoted id) → Ids h prefix kind id quoted ws found k
-  pub equal : true ≡ same (meaning q p) (meaning quoted id) → true ≡ idSeen h prefix kind (meaning quoted id) ws
+  pub other : false ≡ same (meaning q p) (meaning quoted id) → Ids h prefix kind id quoted t found k
+  pub equal : true ≡ same (meaning q p) (meaning quoted id) → true ≡ idSeen h prefix kind (meaning quoted id) (entriesIn t)
 
-module _ {h prefix : Bytes} {kind : ℕ} {id : Bytes} {quoted : Bool} {ws : List ℕ} {found : Bool} {k : ℕ} (g : Ids h prefix kind id quoted ws found k) where
-  pub ids-end : length ws ≤ k + 1 → found ≡ idSeen h prefix kind (meaning quoted id) ws
+module _ {h prefix : Bytes} {kind : ℕ} {id : Bytes} {quoted : Bool} {t : List ℕ} {found : Bool} {k : ℕ} (g : Ids h prefix kind id quoted t found k) {n : ℕ} (en : n ≡ room t) where
+  pub ids-end : n ≤ k → found ≡ idSeen h prefix kind (meaning quoted id) (entriesIn t)
   unfolding idSeen
-  ids-end l = g .none ∙ sym (g .still ∙ go (short ws k l))
-    where
-      go : {vs : List ℕ} → Short vs → idSeen h prefix kind (meaning quoted id) vs ≡ false
-      go none = refl
-      go (one w) = refl
+  ids-end l = g .none ∙ sym (g .still ∙ rw (entries-past t k (rw (← en) l)))
 
-  module _ (l : k + 1 < length ws) where
-    abbrev w : ℕ
-    w = getD ws k 0
-
-    abbrev x : ℕ
-    x = getD ws (k + 1) 0
-
-    ids-turn : idSeen h prefix kind (meaning quoted id) ws ≡ (hasId h prefix kind (meaning quoted id) w x || idSeen h prefix kind (meaning quoted id) (drop (k + 2) ws))
+  module _ (l : k < n) {e : CodeEntry} (ee : entryOf e ≡ entryIn t k) where
+    ids-turn : idSeen h prefix kind (meaning quoted id) (entriesIn t)
+        ≡ (hasId h prefix kind (meaning quoted id) (entryOf e) || idSeen h prefix kind (meaning quoted id) (drop (k + 1) (entriesIn t)))
     unfolding idSeen
-    ids-turn = g .still ∙ rw (pair ws k l)
+    ids-turn = g .still ∙ rw (entries-here t k (rw (← en) l), ← ee)
 
-    ids-next : hasId h prefix kind (meaning quoted id) w x ≡ false → Ids h prefix kind id quoted ws found (k + 2)
-    ids-next e = record { none = g .none; inside = omega arith; still = ids-turn ∙ rw e }
+    ids-next : hasId h prefix kind (meaning quoted id) (entryOf e) ≡ false → Ids h prefix kind id quoted t found (k + 1)
+    ids-next f = record { none = g .none; still = ids-turn ∙ rw f }
 
-    module _ {last : ℕ} {t : Bool} (m : Candidate h w x prefix kind id last quoted t) where
-      pub no-candidate : last ≡ lastOf id → not t ≡ true → Ids h prefix kind id quoted ws found (k + 2)
-      no-candidate el n = ids-next (m .failed el (not-true t n))
+    module _ {last : ℕ} {q : Bool} (m : Candidate h (entryOf e) prefix kind id last quoted q) where
+      pub no-candidate : last ≡ lastOf id → not q ≡ true → Ids h prefix kind id quoted t found (k + 1)
+      no-candidate el f = ids-next (m .failed el (not-true q f))
 
-      -- the code holds the entry's ID in p and q
-      pub within-start : not t ≡ false → {p : Bytes} → p ≡ idIn h w x → {q : Bool} → q ≡ quotedIn x → Within h prefix kind id quoted ws found (k + 2) p q 0 0
-      within-start n {p} ep {q} eq =
-          let i : hasId h prefix kind (meaning quoted id) w x ≡ same (meaning q p) (meaning quoted id) = m .passed (not-false t n) ∙ rw (ep, eq) in
+      -- the code holds the entry's ID in p
+      pub within-start : not q ≡ false → {p : Bytes} → p ≡ idIn h (entryOf e) → Within h prefix kind id quoted t found (k + 1) p (e .quoted) 0 0
+      within-start f {p} ep =
+          let i : hasId h prefix kind (meaning quoted id) (entryOf e) ≡ same (meaning (e .quoted) p) (meaning quoted id) = m .passed (not-false q f) ∙ rw ep in
           record {
-            comparing = compare p q id quoted;
-            other = λ e. ids-next (i ∙ sym e);
-            equal = λ e. sym (ids-turn ∙ rw (i, ← e));
+            comparing = compare p (e .quoted) id quoted;
+            other = λ a. ids-next (i ∙ sym a);
+            equal = λ a. sym (ids-turn ∙ rw (i, ← a));
           }
 
-module _ {h prefix : Bytes} {kind : ℕ} {id : Bytes} {quoted : Bool} {ws : List ℕ} {found : Bool} {k : ℕ} {p : Bytes} {q : Bool} {i j : ℕ}
-    (g : Within h prefix kind id quoted ws found k p q i j) {r : ByteRead} (ea : r ≡ unescapedAt q p i) {t : ByteRead} (eb : t ≡ unescapedAt quoted id j) where
-  pub both-ended : r ≡ End → t ≡ End → true ≡ idSeen h prefix kind (meaning quoted id) ws
+module _ {h prefix : Bytes} {kind : ℕ} {id : Bytes} {quoted : Bool} {t : List ℕ} {found : Bool} {k : ℕ} {p : Bytes} {q : Bool} {i j : ℕ}
+    (g : Within h prefix kind id quoted t found k p q i j) {r : ByteRead} (ea : r ≡ unescapedAt q p i) {s : ByteRead} (eb : s ≡ unescapedAt quoted id j) where
+  pub both-ended : r ≡ End → s ≡ End → true ≡ idSeen h prefix kind (meaning quoted id) (entriesIn t)
   both-ended er et = g .equal (both-end (g .comparing) ea eb er et)
 
-  pub entry-ended : r ≡ End → {b : ℕ} {d : Cursor} → t ≡ Byte b d → Ids h prefix kind id quoted ws found k
+  pub entry-ended : r ≡ End → {b : ℕ} {d : Cursor} → s ≡ Byte b d → Ids h prefix kind id quoted t found k
   entry-ended er et = g .other (right-longer (g .comparing) ea eb er et)
 
   module _ {a : ℕ} {c : Cursor} (er : r ≡ Byte a c) where
-    pub new-ended : t ≡ End → Ids h prefix kind id quoted ws found k
+    pub new-ended : s ≡ End → Ids h prefix kind id quoted t found k
     new-ended et = g .other (left-longer (g .comparing) ea eb er et)
 
-    module _ {b : ℕ} {d : Cursor} (et : t ≡ Byte b d) where
-      pub bytes-differ : (a ≡ b → ⊥) → Ids h prefix kind id quoted ws found k
+    module _ {b : ℕ} {d : Cursor} (et : s ≡ Byte b d) where
+      pub bytes-differ : (a ≡ b → ⊥) → Ids h prefix kind id quoted t found k
       bytes-differ ne = g .other (byte-differs (g .comparing) ea eb er et ne)
 
-      pub bytes-agree : a ≡ b → Within h prefix kind id quoted ws found k p q (c .at) (d .at)
+      pub bytes-agree : a ≡ b → Within h prefix kind id quoted t found k p q (c .at) (d .at)
       bytes-agree e = record { comparing = agree (g .comparing) ea eb er et e; other = g .other; equal = g .equal }
 
 pub ruleset ids = (ids-start, ids-end, no-candidate, within-start)
@@ -248,29 +200,34 @@ pub ruleset bytes = (both-ended, entry-ended, new-ended, bytes-differ, bytes-agr
 
 -- What is answered of the two scans
 
-module _ (kind : ℕ) {i : Bool} (m x : Bool) where
-  module _ (l : kind < 7) {r : Bool} (er : r ≡ i) where
-    pub typed-clash : r ≡ true → TypedId ≡ clashBy kind i m x
-    unfolding clashBy
-    typed-clash e = rw (clashBy, lt-ltb kind 7 l, ← er, e)
+module _ {t : Bool} (i : Bool) {x : Bool} (et : t ≡ x) where
+  pub map-mixed : t ≡ true → Mixed ≡ mapClash x i
+  map-mixed e = rw (← et, e)
 
-    pub typed-free : r ≡ false → Free ≡ clashBy kind i m x
-    unfolding clashBy
-    typed-free e = rw (clashBy, lt-ltb kind 7 l, ← er, e)
+module _ {t x : Bool} (et : t ≡ x) (e : t ≡ false) {r i : Bool} (er : r ≡ i) where
+  pub map-twice : r ≡ true → OtherId ≡ mapClash x i
+  map-twice f = rw (← et, e, ← er, f)
 
-module _ (kind : ℕ) (i : Bool) {m : Bool} (x : Bool) (l : 7 ≤ kind) (ek : kind ≡ 7) {t : Bool} (et : t ≡ m) where
-  pub map-mixed : t ≡ true → Mixed ≡ clashBy kind i m x
+  pub map-free : r ≡ false → Free ≡ mapClash x i
+  map-free f = rw (← et, e, ← er, f)
+
+pub marked-twice : (ms : Bytes) (k : ℕ) (t : Bytes) (j : ℕ) (u : Bytes) {a : Bytes} → a ≡ mark ms k t → {b : Bytes} → b ≡ mark a j u → b ≡ mark (mark ms k t) j u
+marked-twice ms k t j u e f = f ∙ rw e
+
+pub ruleset map-clashes = (map-mixed, map-twice, map-free, marked-twice)
+
+module _ (kind : ℕ) {i : Bool} (m x : Bool) (l : kind < 7) {r : Bool} (er : r ≡ i) where
+  pub typed-clash : r ≡ true → TypedId ≡ clashBy kind i m x
   unfolding clashBy
-  map-mixed e = rw (clashBy, le-ltb kind 7 l, eq-eqb kind 7 ek, ← et, e)
+  typed-clash e = rw (clashBy, lt-ltb kind 7 l, ← er, e)
 
-  module _ (e : t ≡ false) {r : Bool} (er : r ≡ i) where
-    pub map-clash : r ≡ true → OtherId ≡ clashBy kind i m x
-    unfolding clashBy
-    map-clash f = rw (clashBy, le-ltb kind 7 l, eq-eqb kind 7 ek, ← et, e, ← er, f)
+  pub typed-free : r ≡ false → Free ≡ clashBy kind i m x
+  unfolding clashBy
+  typed-free e = rw (clashBy, lt-ltb kind 7 l, ← er, e)
 
-    pub map-free : r ≡ false → Free ≡ clashBy kind i m x
-    unfolding clashBy
-    map-free f = rw (clashBy, le-ltb kind 7 l, eq-eqb kind 7 ek, ← et, e, ← er, f)
+pub map-clash : (kind : ℕ) (i m x : Bool) → 7 ≤ kind → kind ≡ 7 → {r : Clash} → r ≡ mapClash m i → r ≡ clashBy kind i m x
+unfolding clashBy
+map-clash kind i m x l ek e = e ∙ rw (clashBy, le-ltb kind 7 l, eq-eqb kind 7 ek)
 
 module _ (kind : ℕ) (i m : Bool) {x : Bool} (l : 7 ≤ kind) (ne : kind ≡ 7 → ⊥) {t : Bool} (et : t ≡ x) where
   pub text-mixed : t ≡ true → Mixed ≡ clashBy kind i m x
@@ -281,4 +238,18 @@ module _ (kind : ℕ) (i m : Bool) {x : Bool} (l : 7 ≤ kind) (ne : kind ≡ 7 
   unfolding clashBy
   text-free e = rw (clashBy, le-ltb kind 7 l, ne-eqb kind 7 ne, ← et, e)
 
-pub ruleset clashes = (typed-clash, typed-free, map-mixed, map-clash, map-free, text-mixed, text-free)
+-- and what is marked
+module _ (h : Bytes) (e : Entry) (ms : Bytes) {ns : Bytes} where
+  pub typed-marked : e .kind < 7 → ns ≡ mark ms (e .kind) (idMeaning h e) → ns ≡ markEntry h e ms
+  unfolding markEntry
+  typed-marked l a = a ∙ rw (markEntry, lt-ltb (e .kind) 7 l)
+
+  pub map-marked : 7 ≤ e .kind → e .kind ≡ 7 → ns ≡ mark (mark ms (e .kind) (idMeaning h e)) (mapKind other) [] → ns ≡ markEntry h e ms
+  unfolding markEntry
+  map-marked l ek a = a ∙ rw (markEntry, le-ltb (e .kind) 7 l, eq-eqb (e .kind) 7 ek)
+
+  pub text-marked : 7 ≤ e .kind → (e .kind ≡ 7 → ⊥) → ns ≡ mark ms (e .kind) [] → ns ≡ markEntry h e ms
+  unfolding markEntry
+  text-marked l ne a = a ∙ rw (markEntry, le-ltb (e .kind) 7 l, ne-eqb (e .kind) 7 ne)
+
+pub ruleset clashes = (typed-clash, typed-free, map-clash, text-mixed, text-free, typed-marked, map-marked, text-marked)

@@ -1,39 +1,36 @@
--- Marks of the entries kept so far, by which a scan of their words may be left out. Assumes nothing.
-use Prim.Native.Nat.{ℕ}
+-- Marks of the entries kept so far, by which a scan of them may be left out. Assumes nothing.
+use Prim.Native.Nat.{ℕ, _≤_}
 use mathlib.Core.Path.{_≡_}
-use mathlib.Core.Bool.{Bool, true, _&&_}
-use mathlib.Core.List.{List, [], _∷_}
+use mathlib.Core.Bool.{Bool, true, false, _&&_}
+use mathlib.Core.List.{List, []}
+use lib.Dec.{eqb, ltb}
 use Rattle.values.specs.Bytes.{Bytes}
 use Rattle.values.specs.Marks.{isMarked, mark}
-use Rattle.rules.specs.Shown.{kindIn}
-use Rattle.ids.specs.Clashes.{idMeaning, keySeen, idSeen, clashBy}
+use Rattle.rules.specs.Known.{other}
+use Rattle.rules.specs.Entry.{Entry, mapKind, textKind}
+use Rattle.rules.specs.Shown.{idMeaning}
+use Rattle.ids.specs.Clashes.{keySeen, idSeen, clashBy}
 use Rattle.ids.specs.declared.scan.Clash.{Clash}
 
--- the entry with the words w and x: its kind alone, and its ID
-unfoldable pub markEntry : Bytes → ℕ → ℕ → Bytes → Bytes
-markEntry h w x ms = mark (mark ms (kindIn w) []) (kindIn w) (idMeaning h w x)
+-- a typed kind's ID; an other map's ID, and its kind alone; a text's kind alone
+unfoldable pub markEntry : Bytes → Entry → Bytes → Bytes
+markEntry h e ms = elim (ltb (e .kind) 7) [
+  | true ↦ mark ms (e .kind) (idMeaning h e)
+  | false ↦ elim (eqb (e .kind) 7) [ true ↦ mark (mark ms (e .kind) (idMeaning h e)) (mapKind other) [] | false ↦ mark ms (e .kind) [] ]
+]
 
-unfoldable pub markAll : Bytes → List ℕ → Bytes → Bytes
-markAll h [] ms = ms
-markAll h (w ∷ []) ms = ms
-markAll h (w ∷ x ∷ ws) ms = markAll h ws (markEntry h w x ms)
-
-pub record Marked (h : Bytes) (w x : ℕ) (ms : Bytes) : Type 0 where
-  pub kind : isMarked ms (kindIn w) [] ≡ true
-  pub id : isMarked ms (kindIn w) (idMeaning h w x) ≡ true
-
-abbrev pub AllMarked : Bytes → List ℕ → Bytes → Type 0
-AllMarked h [] ms = Unit {0}
-AllMarked h (w ∷ []) ms = Unit {0}
-AllMarked h (w ∷ x ∷ ws) ms = Marked h w x ms × AllMarked h ws ms
+-- what is marked of an entry that a new line may clash with
+pub record Marked (h : Bytes) (ms : Bytes) (e : Entry) : Type 0 where
+  pub id : 2 ≤ e .kind → e .kind ≤ 7 → isMarked ms (e .kind) (idMeaning h e) ≡ true
+  pub key : 7 ≤ e .kind → e .kind ≤ 8 → isMarked ms (e .kind) [] ≡ true
 
 -- What is found of a new line: nothing is looked for where the marks tell that it isn't there
 
-unfoldable pub keyFound : Bytes → List ℕ → Bytes → Bytes → ℕ → Bool
-keyFound h ws ms prefix kind = isMarked ms kind [] && keySeen h prefix kind ws
+unfoldable pub keyFound : Bytes → List Entry → Bytes → Bytes → ℕ → Bool
+keyFound h es ms prefix kind = isMarked ms kind [] && keySeen h prefix kind es
 
-unfoldable pub idFound : Bytes → List ℕ → Bytes → Bytes → ℕ → Bytes → Bool
-idFound h ws ms prefix kind id = isMarked ms kind id && idSeen h prefix kind id ws
+unfoldable pub idFound : Bytes → List Entry → Bytes → Bytes → Entry → Bool
+idFound h es ms prefix e = isMarked ms (e .kind) (idMeaning h e) && idSeen h prefix (e .kind) (idMeaning h e) es
 
-abbrev pub clashFound : Bytes → List ℕ → Bytes → Bytes → ℕ → Bytes → Clash
-clashFound h ws ms prefix kind id = clashBy kind (idFound h ws ms prefix kind id) (keyFound h ws ms prefix 8) (keyFound h ws ms prefix 7)
+abbrev pub clashFound : Bytes → List Entry → Bytes → Bytes → Entry → Clash
+clashFound h es ms prefix e = clashBy (e .kind) (idFound h es ms prefix e) (keyFound h es ms prefix textKind) (keyFound h es ms prefix (mapKind other))

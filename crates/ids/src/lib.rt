@@ -1,4 +1,2 @@
-// Refusals 19 to 21: a new line against the entries kept so far.
-pub mod marks;
-pub mod parts;
+// IDs that stand twice, and keys that mix texts and maps.
 pub mod scan;

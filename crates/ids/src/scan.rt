@@ -1,14 +1,23 @@
-// What a new line clashes with among the entries kept so far, by the words of their table.
-use crate::parts;
-use entries::word;
+// What a new line clashes with among the entries kept so far.
+use entries::entry::Entry;
+use entries::kind;
+use entries::part;
+use entries::table;
 use values::bytes;
 use values::cursor::ByteRead;
 use values::cursor::Cursor;
 use values::marks;
 ghost use mathlib.Core.Path.{_≡_};
+ghost use mathlib.Core.List.{[]};
 ghost use Rattle.values.specs.Value.{meaning};
-ghost use Rattle.ids.specs.Clashes.{lastOf, isUnder, MayEqual, Candidate, keySeen, idSeen};
-ghost use Rattle.ids.specs.Marks.{keyFound, idFound, clashFound};
+ghost use Rattle.values.specs.Marks.{mark};
+ghost use Rattle.rules.specs.Known.{other};
+ghost use Rattle.rules.specs.Entry.{mapKind, textKind};
+ghost use Rattle.rules.specs.Shown.{idMeaning};
+ghost use Rattle.entries.specs.Values.{entryOf};
+ghost use Rattle.entries.specs.Tables.{entriesIn};
+ghost use Rattle.ids.specs.Clashes.{lastOf, isUnder, MayEqual, Candidate, keySeen, idSeen, mapClash};
+ghost use Rattle.ids.specs.Marks.{markEntry, keyFound, idFound, clashFound};
 
 pub enum Clash {
     Free,
@@ -17,15 +26,21 @@ pub enum Clash {
     OtherId,
 }
 
+// What is looked for: the kind, the last byte of the ID's text, and whether that stands between quotes.
+struct Wanted {
+    kind: u8,
+    last: u8,
+    quoted: bool,
+}
+
 // A typed kind has one key; an other record's key is told by its line.
-fn is_under(h: &[u8], w: u64, prefix: &[u8], kind: u64) -> bool
-    ensures { λ r. ⌜ r ≡ isUnder (now (h .entry)) (now (prefix .entry)) kind w ⌝ }
+fn is_under(h: &[u8], e: Entry, prefix: &[u8], kind: u8) -> bool
+    ensures { λ r. ⌜ r ≡ isUnder (now (h .entry)) (now (prefix .entry)) kind (entryOf e) ⌝ }
 {
-    if kind < 7 {
+    if kind < kind::OTHER_MAP {
         return true;
     }
-    let line = parts::line_part(h, w);
-    bytes::starts_with(line, prefix)
+    bytes::starts_with(part::line_part(h, e), prefix)
 }
 
 fn last_byte(s: &[u8]) -> u8
@@ -39,62 +54,51 @@ fn last_byte(s: &[u8]) -> u8
 }
 
 // Few pairs pass: two bare IDs are equal only where their lengths and last bytes are.
-fn may_equal(h: &[u8], w: u64, x: u64, id: &[u8], last: u8, quoted: bool) -> bool
-    ensures { λ r. ⌜ MayEqual (now (h .entry)) w x (now (id .entry)) last quoted r ⌝ }
+fn may_equal(h: &[u8], e: Entry, id: &[u8], wanted: Wanted) -> bool
+    ensures { λ r. ⌜ MayEqual (now (h .entry)) (entryOf e) (now (id .entry)) (wanted .last) (wanted .quoted) r ⌝ }
 {
+    let quoted = wanted.quoted;
     if quoted {
         return true;
     }
-    if word::quoted_in(x) {
+    let other_quoted = e.quoted;
+    if other_quoted {
         return true;
     }
-    let n = word::id_length_in(x);
-    let end = word::start_in(w) + word::offset_in(x) + n;
-    if h.len() < end {
-        return true;
-    }
-    if n != id.len() {
+    let other = part::id_part(h, e);
+    if other.len() != id.len() {
         return false;
     }
-    if n == 0 {
+    if other.len() == 0 {
         return true;
     }
-    let at = end - 1;
-    h[at] == last
+    let at = other.len() - 1;
+    other[at] == wanted.last
 }
 
 // Whether an entry has the kind and the key, and may have the ID: the cheapest test first.
-fn is_candidate(
-    h: &[u8],
-    w: u64,
-    x: u64,
-    prefix: &[u8],
-    kind: u64,
-    id: &[u8],
-    last: u8,
-    quoted: bool,
-) -> bool
-    ensures { λ r. ⌜ Candidate (now (h .entry)) w x (now (prefix .entry)) kind (now (id .entry)) last quoted r ⌝ }
+fn is_candidate(h: &[u8], e: Entry, prefix: &[u8], id: &[u8], wanted: Wanted) -> bool
+    ensures { λ r. ⌜ Candidate (now (h .entry)) (entryOf e) (now (prefix .entry)) (wanted .kind) (now (id .entry)) (wanted .last) (wanted .quoted) r ⌝ }
 {
-    if word::kind_in(w) != kind {
+    if e.kind != wanted.kind {
         return false;
     }
-    if !may_equal(h, w, x, id, last, quoted) {
+    if !may_equal(h, e, id, wanted) {
         return false;
     }
-    is_under(h, w, prefix, kind)
+    is_under(h, e, prefix, wanted.kind)
 }
 
 // Whether an entry of this kind stands under the key that the prefix names.
-fn key_seen(h: &[u8], words: &[u64], prefix: &[u8], kind: u64) -> bool
-    ensures { λ r. ⌜ r ≡ keySeen (now (h .entry)) (now (prefix .entry)) kind (now (words .entry)) ⌝ }
+fn key_seen(h: &[u8], kept: &[u64], prefix: &[u8], kind: u8) -> bool
+    ensures { λ r. ⌜ r ≡ keySeen (now (h .entry)) (now (prefix .entry)) kind (entriesIn (now (kept .entry))) ⌝ }
 {
     let mut k = 0;
-    while k + 1 < words.len() {
-        let w = words[k];
-        k += 2;
-        if word::kind_in(w) == kind {
-            let line = parts::line_part(h, w);
+    while k < table::count(kept) {
+        let e = table::get(kept, k);
+        k += 1;
+        if e.kind == kind {
+            let line = part::line_part(h, e);
             if bytes::starts_with(line, prefix) {
                 return true;
             }
@@ -104,22 +108,22 @@ fn key_seen(h: &[u8], words: &[u64], prefix: &[u8], kind: u64) -> bool
 }
 
 // Whether an entry of this kind under this key has an ID of the same meaning.
-fn id_seen(h: &[u8], words: &[u64], prefix: &[u8], kind: u64, id: &[u8], quoted: bool) -> bool
+fn id_seen(h: &[u8], kept: &[u64], prefix: &[u8], kind: u8, id: &[u8], quoted: bool) -> bool
     ensures { λ r.
-        ⌜ r ≡ idSeen (now (h .entry)) (now (prefix .entry)) kind (meaning quoted (now (id .entry))) (now (words .entry)) ⌝ }
+        ⌜ r ≡ idSeen (now (h .entry)) (now (prefix .entry)) kind (meaning quoted (now (id .entry))) (entriesIn (now (kept .entry))) ⌝ }
 {
     let last = last_byte(id);
+    let wanted = Wanted { kind, last, quoted };
     let mut found = false;
     let mut k = 0;
-    'entries: while k + 1 < words.len() {
-        let w = words[k];
-        let x = words[k + 1];
-        k += 2;
-        if !is_candidate(h, w, x, prefix, kind, id, last, quoted) {
+    'entries: while k < table::count(kept) {
+        let e = table::get(kept, k);
+        k += 1;
+        if !is_candidate(h, e, prefix, id, wanted) {
             continue 'entries;
         }
-        let p = parts::id_part(h, w, x);
-        let q = word::quoted_in(x);
+        let p = part::id_part(h, e);
+        let q = e.quoted;
         let mut i = Cursor { at: 0 };
         let mut j = Cursor { at: 0 };
         'bytes: loop {
@@ -144,63 +148,62 @@ fn id_seen(h: &[u8], words: &[u64], prefix: &[u8], kind: u64, id: &[u8], quoted:
 }
 
 // The same two, where the marks don't tell it already.
-fn has_key(h: &[u8], words: &[u64], marks: &[u8], prefix: &[u8], kind: u64) -> bool
-    ensures { λ r. ⌜ r ≡ keyFound (now (h .entry)) (now (words .entry)) (now (marks .entry)) (now (prefix .entry)) kind ⌝ }
+fn has_key(h: &[u8], kept: &[u64], marks: &[u8], prefix: &[u8], kind: u8) -> bool
+    ensures { λ r. ⌜ r ≡ keyFound (now (h .entry)) (entriesIn (now (kept .entry))) (now (marks .entry)) (now (prefix .entry)) kind ⌝ }
 {
     if !marks::is_marked(marks, kind, b"", false) {
         return false;
     }
-    key_seen(h, words, prefix, kind)
+    key_seen(h, kept, prefix, kind)
 }
 
-fn has_id(
-    h: &[u8],
-    words: &[u64],
-    marks: &[u8],
-    prefix: &[u8],
-    kind: u64,
-    id: &[u8],
-    quoted: bool,
-) -> bool
-    ensures { λ r.
-        ⌜ r ≡ idFound (now (h .entry)) (now (words .entry)) (now (marks .entry)) (now (prefix .entry)) kind (meaning quoted (now (id .entry))) ⌝ }
+// The new entry's ID is marked by that.
+fn has_id(h: &[u8], kept: &[u64], marks: &mut [u8], prefix: &[u8], new: Entry) -> bool
+    ensures found { λ r. ⌜ r ≡ idFound (now (h .entry)) (entriesIn (now (kept .entry))) (now (marks .entry)) (now (prefix .entry)) (entryOf new) ⌝ }
+    ensures marks { λ _. ⌜ now (marks .exit) ≡ mark (now (marks .entry)) (new .kind) (idMeaning (now (h .entry)) (entryOf new)) ⌝ }
 {
-    if !marks::is_marked(marks, kind, id, quoted) {
+    let id = part::id_part(h, new);
+    if !marks::meet(marks, new.kind, id, new.quoted) {
         return false;
     }
-    id_seen(h, words, prefix, kind, id, quoted)
+    id_seen(h, kept, prefix, new.kind, id, new.quoted)
 }
 
-// What is wrong with a new line beside the entries kept so far, which are marked. `prefix` is the line's `##key=`, `kind`
-// its kind's number, `id` its ID's bytes without quotes, empty for a text.
-pub fn find_clash(
-    h: &[u8],
-    words: &[u64],
-    marks: &[u8],
-    prefix: &[u8],
-    kind: u64,
-    id: &[u8],
-    quoted: bool,
-) -> Clash
-    ensures { λ r.
-        ⌜ r ≡ clashFound (now (h .entry)) (now (words .entry)) (now (marks .entry)) (now (prefix .entry)) kind (meaning quoted (now (id .entry))) ⌝ }
+fn find_map_clash(h: &[u8], kept: &[u64], marks: &mut [u8], prefix: &[u8], new: Entry) -> Clash
+    ensures clash { λ r.
+        ⌜ r ≡ mapClash (keyFound (now (h .entry)) (entriesIn (now (kept .entry))) (now (marks .entry)) (now (prefix .entry)) textKind) (idFound (now (h .entry)) (entriesIn (now (kept .entry))) (now (marks .entry)) (now (prefix .entry)) (entryOf new)) ⌝ }
+    ensures marks { λ _. ⌜ now (marks .exit) ≡ mark (mark (now (marks .entry)) (new .kind) (idMeaning (now (h .entry)) (entryOf new))) (mapKind other) [] ⌝ }
 {
-    if kind < 7 {
-        if has_id(h, words, marks, prefix, kind, id, quoted) {
+    let mixed = has_key(h, kept, marks, prefix, kind::OTHER_TEXT);
+    let found = has_id(h, kept, marks, prefix, new);
+    marks::meet(marks, kind::OTHER_MAP, b"", false);
+    if mixed {
+        return Clash::Mixed;
+    }
+    if found {
+        return Clash::OtherId;
+    }
+    Clash::Free
+}
+
+// What is wrong with a new line beside the entries kept so far, which are marked; it is marked too. `new` is its entry,
+// `prefix` its `##key=`.
+pub fn find_clash(h: &[u8], kept: &[u64], marks: &mut [u8], prefix: &[u8], new: Entry) -> Clash
+    ensures clash { λ r. ⌜ r ≡ clashFound (now (h .entry)) (entriesIn (now (kept .entry))) (now (marks .entry)) (now (prefix .entry)) (entryOf new) ⌝ }
+    ensures marks { λ _. ⌜ now (marks .exit) ≡ markEntry (now (h .entry)) (entryOf new) (now (marks .entry)) ⌝ }
+{
+    if new.kind < kind::OTHER_MAP {
+        if has_id(h, kept, marks, prefix, new) {
             return Clash::TypedId;
         }
         return Clash::Free;
     }
-    if kind == 7 {
-        if has_key(h, words, marks, prefix, 8) {
-            return Clash::Mixed;
-        }
-        if has_id(h, words, marks, prefix, kind, id, quoted) {
-            return Clash::OtherId;
-        }
-        return Clash::Free;
+    if new.kind == kind::OTHER_MAP {
+        return find_map_clash(h, kept, marks, prefix, new);
     }
-    if has_key(h, words, marks, prefix, 7) {
+    let mixed = has_key(h, kept, marks, prefix, kind::OTHER_MAP);
+    marks::meet(marks, new.kind, b"", false);
+    if mixed {
         return Clash::Mixed;
     }
     Clash::Free

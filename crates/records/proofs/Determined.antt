@@ -14,7 +14,6 @@ use Rattle.records.specs.Formats.{versionOf, formatOf}
 use Rattle.records.specs.Keys.{bytesOf, Named}
 use Rattle.records.specs.Maps.{slotted}
 use Rattle.records.specs.Records.{keyIn, RecordIs, RecordAre}
-use Rattle.records.specs.declared.file_format.FileFormat.{FileFormat}
 use Rattle.records.specs.declared.key.Key.{Key}
 use Rattle.records.specs.declared.key.Key.the-variants as key
 use Rattle.records.specs.declared.map.Slot.the-variants as slot

@@ -15,7 +15,7 @@ use Rattle.values.proofs.Tests.{not-true, not-false}
 use Rattle.values.proofs.Lists.{here, rest, from-at, from-begins}
 use Rattle.values.proofs.Fields.{before-part}
 use Rattle.values.proofs.Integers.{read-bound}
-use Rattle.rules.specs.Version.{Version, version, earlier, versionOf, readParts, readVersion}
+use Rattle.rules.specs.Version.{version, earlier, versionOf, readParts, readVersion}
 use Rattle.records.specs.Formats.{formatOf, formatRead}
 use Rattle.records.specs.Formats.{versionOf as versionIn}
 use Rattle.records.specs.declared.file_format.FileFormat.{FileFormat}

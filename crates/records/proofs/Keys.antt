@@ -10,7 +10,7 @@ use Rattle.values.proofs.Sames.{same-sound, same-sym}
 use Rattle.rules.specs.Version.{Version, v4-3, earlier}
 use Rattle.rules.specs.Known.{isIn, kindOf, isTyped, alwaysMap}
 use Rattle.rules.specs.Map.{isMeta}
-use Rattle.rules.specs.Entry.{kindNumber}
+use Rattle.rules.specs.Entry.{mapKind}
 use Rattle.records.specs.Keys.{bytesOf, keys, among, keyNamed, Named, keyKind}
 use Rattle.records.specs.declared.key.Key.{Key}
 use Rattle.records.specs.declared.key.Key.the-variants.{FileFormat, Info, Filter, Format, AlternativeAllele, Contig, Meta, Pedigree, Other}
@@ -34,7 +34,7 @@ pub meta-brackets : (v : Version) {q : Bool} → q ≡ earlier v v4-3 → not q 
 unfolding same
 meta-brackets v a = rw a
 
-pub key-kind : (key : Key) → kindNumber (kindOf (bytesOf key)) ≡ keyKind key
+pub key-kind : (key : Key) → mapKind (kindOf (bytesOf key)) ≡ keyKind key
 unfolding kindOf same
 key-kind FileFormat = refl
 key-kind Info = refl

@@ -23,7 +23,7 @@ use Rattle.rules.proofs.Checks.{on-named}
 use Rattle.rules.proofs.Shows.{Both, named-text, value-means}
 use Rattle.records.specs.Keys.{bytesOf, Named}
 use Rattle.records.specs.Tags.{knownBy, isKept, knows, tagName}
-use Rattle.records.specs.Maps.{get, slotted, OpenIs, OpenAre, textIn, meaningIn, Typed, TypedAre, Identified, Described}
+use Rattle.records.specs.Maps.{get, slotted, OpenIs, OpenAre, textIn, meaningIn, TypedAre, Identified, Described}
 use Rattle.records.specs.declared.key.Key.{Key}
 use Rattle.records.specs.declared.key.Key.the-variants as key
 use Rattle.records.specs.declared.refusal.Refusal.{Refusal}

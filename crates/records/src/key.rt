@@ -116,7 +116,7 @@ impl Key {
     }
 
     // The kind of an entry of a map.
-    pub fn kind(self) -> u64
+    pub fn kind(self) -> u8
         ensures { λ r. ⌜ r ≡ keyKind self ⌝ }
     {
         match self {

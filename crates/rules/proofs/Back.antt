@@ -1,5 +1,5 @@
 -- What the house form writes is read back: reading it is accepted, with the records that were written. Assumes nothing.
-use Prim.Native.Nat.{ℕ, suc, _+_, _*_, _≤_}
+use Prim.Native.Nat.{ℕ, suc, _+_, _≤_}
 use native.Mathlib.Omega.{arith}
 use mathlib.Core.Path.{_≡_, refl, ap, _∙_}
 use mathlib.Core.Bool.{false}
@@ -86,7 +86,7 @@ abbrev pub columnLine : Columns → Bytes
 columnLine c = writeColumns (c .format) (c .samples)
 
 module _ (lim : Limits) (room : ℕ) (v : Version) (c : Columns) (g : GoodColumns c) where
-  run-columns : (n start count : ℕ) (rs : List Record) → Line lim (columnLine c) → 2 * (count + (1 + length (c .samples))) ≤ room
+  run-columns : (n start count : ℕ) (rs : List Record) → Line lim (columnLine c) → count + (1 + length (c .samples)) ≤ room
       → Accepted v rs c (run lim none room n start count (ready v rs) (writeLine (columnLine c) ∷ []))
   unfolding run
   run-columns n start count rs h r =
@@ -96,7 +96,7 @@ module _ (lim : Limits) (room : ℕ) (v : Version) (c : Columns) (g : GoodColumn
       (record { number = refl; state = refl })
 
   run-records : (xs : List Record) (n start count : ℕ) (seen : List Record) → All (Entered v) xs → Clear v seen (map (tidied v) xs)
-      → All (Line lim) (recordLines v xs) → Line lim (columnLine c) → 2 * (count + length xs + (1 + length (c .samples))) ≤ room
+      → All (Line lim) (recordLines v xs) → Line lim (columnLine c) → count + length xs + (1 + length (c .samples)) ≤ room
       → Accepted v (seen ++ map (tidied v) xs) c (run lim none room n start count (ready v seen) (map writeLine (recordLines v xs ++ columnLine c ∷ [])))
   run-records [] n start count seen e k ls h r = rw (append-nil seen) (run-columns n start count seen h (omega arith))
   run-records (x ∷ xs) n start count seen e k ls h r =
@@ -111,7 +111,7 @@ module _ (lim : Limits) (room : ℕ) (v : Version) (c : Columns) (g : GoodColumn
   pub lines-back : (xs : List Record) → Sized v → All (Entered v) xs → Clear v [] (map (tidied v) xs)
       → All (Line lim) (writeRecord (fileformat v) ∷ (recordLines v xs ++ columnLine c ∷ []))
       → length (writeLines (writeRecord (fileformat v) ∷ (recordLines v xs ++ columnLine c ∷ []))) ≤ lim .header
-      → 2 * (2 + length xs + length (c .samples)) ≤ room
+      → 2 + length xs + length (c .samples) ≤ room
       → Accepted v (map (tidied v) xs) c (reading lim none room (writeLines (writeRecord (fileformat v) ∷ (recordLines v xs ++ columnLine c ∷ []))))
   lines-back xs sv e k ls short r =
       let l = writeRecord (fileformat v) in

@@ -1,5 +1,5 @@
 -- Demand 3: each accepted header has one house form. Assumes nothing.
-use Prim.Native.Nat.{ℕ, suc, _+_, _*_, _≤_}
+use Prim.Native.Nat.{ℕ, suc, _+_, _≤_}
 use native.Mathlib.Omega.{arith}
 use mathlib.Core.Path.{_≡_, sym, ap, _∙_}
 use mathlib.Core.List.{List, [], _∷_, _++_, map}
@@ -64,7 +64,7 @@ house-meaning v rs c = rw (house-groups v rs)
 
 -- what an accepted reading has
 pub accepted-good : (lim : Limits) (imposed : Option Version) (room : ℕ) (h : Bytes) {v : Version} {rs : List Record} {c : Columns} → SizedOption imposed
-    → Accepted v rs c (reading lim imposed room h) → (Good v rs × GoodColumns c) × (2 * (2 + length rs + length (c .samples)) ≤ room)
+    → Accepted v rs c (reading lim imposed room h) → (Good v rs × GoodColumns c) × (2 + length rs + length (c .samples) ≤ room)
 accepted-good lim imposed room h i a = rw (a .state) at (reading-good lim imposed room h i)
 
 -- reading the form of an accepted header, no version imposed and with the same room, is accepted with the same meaning
@@ -81,7 +81,7 @@ house-reads-back lim imposed room h {v} {rs} {c} i a f =
     fit : Fits lim (meaning v rs c) → All (λ l. length l ≤ lim .line) (writeRecord (fileformat v) ∷ (recordLines v xs ++ columnLine c ∷ []))
     fit f = rw (house-lines v rs c) at (short (lim .line) 0 0 (houseLines (meaning v rs c)) (f .lines))
 
-    back : (Good v rs × GoodColumns c) × (2 * (2 + length rs + length (c .samples)) ≤ room) → Accepted v (map (tidied v) xs) c (reading lim none room (houseForm (meaning v rs c)))
+    back : (Good v rs × GoodColumns c) × (2 + length rs + length (c .samples) ≤ room) → Accepted v (map (tidied v) xs) c (reading lim none room (houseForm (meaning v rs c)))
     back g =
         let e = arrange-all (Entered v) (allKeys rs) rs (g .0 .0 .good) in
         let n : length xs ≡ length rs = sym (length-map xs (tidied v)) ∙ house-count v rs in

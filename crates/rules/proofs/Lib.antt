@@ -19,5 +19,6 @@ pub mod House
 pub mod Texts
 pub mod Trace
 pub mod Shows
+pub mod Stands
 pub mod Demands
 pub mod Refusals

@@ -75,7 +75,7 @@ pure-cut t low bs h =
     front (c ∷ r) e w = pure-split (before t bs) c r (low c (from-first t bs e)) (rw e at w) .0
 
 pub pure-unescaped : {bs : Bytes} → Pure bs → Pure (unescaped false bs)
-pure-unescaped {bs} h = record { utf8 = utf8-unescaped bs (h .utf8); line = any-unescaped (is LF) false bs (h .line) }
+pure-unescaped {bs} h = record { utf8 = utf8-unescaped bs (h .utf8); line = any-unescaped (is LF) bs (h .line) }
 
 pub pure-escape : {bs : Bytes} → Pure bs → Pure (escape bs)
 pure-escape {bs} h = record { utf8 = utf8-escape bs (h .utf8); line = any-escape (is LF) bs refl (h .line) }

@@ -1,5 +1,5 @@
 -- What is refused, as facts: a second equal ID, a line after the column line; and what a refused header keeps. Assumes nothing.
-use Prim.Native.Nat.{ℕ, suc, _+_, _-_, _*_, _≤_}
+use Prim.Native.Nat.{ℕ, zero, suc, _+_, _≤_, _<_}
 use native.Mathlib.Omega.{arith}
 use mathlib.Core.Path.{_≡_, refl, sym, ap, subst, _∙_}
 use mathlib.Core.Bool.{Bool, true, false, true≢false}
@@ -9,7 +9,7 @@ use mathlib.Core.Option.{Option}
 use lib.Dec.{leb}
 use lib.ListN.{length, take, length-take}
 use lib.Seq.{take-append-add, take-nil}
-use borrow.Author.Tests.{le-leb, leb-true}
+use borrow.Author.Tests.{le-leb, lt-leb}
 use Rattle.values.specs.Bytes.{Bytes, ascii, same, starts}
 use Rattle.values.specs.Utf8.{isUtf8}
 use Rattle.values.specs.Field.{Field}
@@ -23,7 +23,7 @@ use Rattle.rules.specs.Map.{valueNamed}
 use Rattle.rules.specs.Record.{Record, fileformat, fields, text, readRecord}
 use Rattle.rules.specs.Columns.{Columns, readColumns}
 use Rattle.rules.specs.Entry.{Entry, recordEntry}
-use Rattle.rules.specs.Reading.{keyOf, idOf, isFields, beside, clash, State, empty, ready, done, begin, enter, stepText, step, Reading, stop, following, run, reading}
+use Rattle.rules.specs.Reading.{keyOf, idOf, isFields, beside, clash, State, empty, ready, done, begin, enter, stepText, step, Reading, stop, following, atEnd, run, reading}
 use Rattle.rules.proofs.Firsts.{OnOk, on-ok, judged-ok, was, not-read, see}
 use Rattle.values.proofs.Sames.{same-self, same-sound}
 use Rattle.rules.proofs.Alls.{All, all-map}
@@ -149,100 +149,51 @@ step-begun : (lim : Limits) (imposed : Option Version) (start : ℕ) (s : State)
 step-begun lim imposed start s l a =
     on-ok (λ q. Begun (q .0)) (text-begun imposed start s l) (on-ok (Taken lim imposed start s l) (step-taken lim imposed start s l) a .2)
 
--- the pieces of a beginning that holds the first piece
-first-kept : (h p r : Bytes) (j : ℕ) → h ≡ p ++ r → pieces h ≡ p ∷ pieces r → ((x : Bytes) → (r ≡ [] → ⊥) → pieces (p ++ x) ≡ p ∷ pieces x)
-    → pieces (take (length p + j) h) ≡ p ∷ pieces (take j r)
-first-kept h p r j a q t = ap (λ (x : Bytes). pieces (take (length p + j) x)) a ∙ ap pieces (take-append-add p r j) ∙ go r a q t
+-- these are the entries of the first k lines, in order, each line taken in the state that those before it leave
+abbrev pub LinesTaken : Limits → Option Version → ℕ → ℕ → State → List Bytes → List Entry → Type 0
+LinesTaken lim imposed zero start s ps es = es ≡ []
+LinesTaken lim imposed (suc k) start s [] es = ⊥
+LinesTaken lim imposed (suc k) start s (p ∷ ps) es =
+    (q : State × List Entry) × (fs : List Entry) × (step lim imposed start s (lineOf p) ≡ ok q) × (es ≡ q .1 ++ fs) × LinesTaken lim imposed k (start + length p) (q .0) ps fs
+
+-- every line was taken; or the line after the first k was refused or had no room
+pub data Keeps (lim : Limits) (imposed : Option Version) (n start : ℕ) (s : State) (ps : List Bytes) (r : Reading) : Type 0 where
+  all-taken : r .line ≡ n + length ps → LinesTaken lim imposed (length ps) start s ps (r .entries) → Keeps lim imposed n start s ps r
+  stopped : (k : ℕ) → r .line ≡ suc (n + k) → LinesTaken lim imposed k start s ps (r .entries) → Keeps lim imposed n start s ps r
+
+run-keeps : (lim : Limits) (imposed : Option Version) (room n start count : ℕ) (s : State) (ps : List Bytes) → (s ≡ empty → n ≡ 0) → Keeps lim imposed n start s ps (run lim imposed room n start count s ps)
+unfolding run
+run-keeps lim imposed room n start count s [] h = at-end s h
   where
-    go : (r : Bytes) → h ≡ p ++ r → pieces h ≡ p ∷ pieces r → ((x : Bytes) → (r ≡ [] → ⊥) → pieces (p ++ x) ≡ p ∷ pieces x) → pieces (p ++ take j r) ≡ p ∷ pieces (take j r)
-    go [] a q t = rw (take-nil j) (sym (ap pieces a) ∙ q)
-    go (b ∷ r) a q t = t (take j (b ∷ r)) (λ e. never cc)
-
--- a run that stops at a place has the entries of the run that ends there
-module _ (lim : Limits) (imposed : Option Version) (room : ℕ) where
-  abbrev runs : ℕ → ℕ → ℕ → State → List Bytes → Reading
-  runs = run lim imposed room
-
-  abbrev Prefix : ℕ → ℕ → ℕ → State → Bytes → Reading → Type 0
-  Prefix n start count s h r = (start ≤ r .start) × (r .entries ≡ runs n start count s (pieces (take (r .start - start) h)) .entries)
-
-  stopped : (n start count m k : ℕ) (s : State) (h : Bytes) → Begun s → Prefix n start count s h (stop m k start s)
-  unfolding run pieces
-  stopped n start count m k s h b = (omega arith, nothing-left s b)
-    where
-      z : start - start ≡ 0
-      z = omega arith
-
-      nothing-left : (s : State) → Begun s → [] ≡ runs n start count s (pieces (take (start - start) h)) .entries
-      nothing-left empty b = absurd b
-      nothing-left (ready v rs) b = rw z
-      nothing-left (done v rs c) b = rw z
-
-  more-prefix : (h p : Bytes) (ps : List Bytes) (n start count : ℕ) (s : State) (q : State × List Entry) → step lim imposed start s (lineOf p) ≡ ok q
-      → leb (2 * (count + length (q .1))) room ≡ true → pieces h ≡ p ∷ ps
-      → ((r : Bytes) → pieces r ≡ ps → Prefix (suc n) (start + length p) (count + length (q .1)) (q .0) r (runs (suc n) (start + length p) (count + length (q .1)) (q .0) ps))
-      → Prefix n start count s h (following (q .1) (runs (suc n) (start + length p) (count + length (q .1)) (q .0) ps))
-  unfolding pieces
-  more-prefix h p ps n start count s q a t e ih = elim (cut-first h) [
-    | nothing z ↦ let f : _≡_ {A = List Bytes} [] (p ∷ ps) = rw z at e in never cc
-    | cut p′ r x y w ↦
-        let f : p′ ∷ pieces r ≡ p ∷ ps = sym y ∙ e in
-        let i : p′ ≡ p = cc in
-        let g : pieces r ≡ ps = cc in
-        let R = runs (suc n) (start + length p) (count + length (q .1)) (q .0) ps in
-        let d = ih r g in
-        let j : R .start - start ≡ length p + (R .start - (start + length p)) = omega (arith, d .0) in
-        let k : pieces (take (R .start - start) h) ≡ p ∷ pieces (take (R .start - (start + length p)) r)
-        = rw j (subst (λ (z : Bytes). pieces (take (length z + (R .start - (start + length p))) h) ≡ z ∷ pieces (take (R .start - (start + length p)) r)) i (first-kept h p′ r _ x y w)) in (
-          omega (arith, d .0),
-          ap (q .1 ++_) (d .1)
-              ∙ sym (ap (λ (x : List Bytes). runs n start count s x .entries) k
-              ∙ ap (λ (r : Reading). r .entries) (run-more lim imposed room n start count s p (pieces (take (R .start - (start + length p)) r)) a t)),
-        )
+    at-end : (s : State) → (s ≡ empty → n ≡ 0) → Keeps lim imposed n start s [] (atEnd n start s)
+    at-end empty h = all-taken (let z = h refl in omega arith) refl
+    at-end (ready v rs) h = all-taken (omega arith) refl
+    at-end (done v rs c) h = all-taken (omega arith) refl
+run-keeps lim imposed room n start count s (p ∷ ps) h = elim (see (step lim imposed start s (lineOf p))) [
+  | not-read m a ↦ subst (Keeps lim imposed n start s (p ∷ ps)) (sym (run-refused lim imposed room n start count s p ps a)) (stopped 0 (omega arith) refl)
+  | was q a ↦ elim (test (leb (count + length (q .1)) room)) [
+    | fail t ↦ subst (Keeps lim imposed n start s (p ∷ ps)) (sym (run-full lim imposed room n start count s p ps a t)) (stopped 0 (omega arith) refl)
+    | pass t ↦
+        let r = run lim imposed room (suc n) (start + length p) (count + length (q .1)) (q .0) ps in
+        subst (Keeps lim imposed n start s (p ∷ ps)) (sym (run-more lim imposed room n start count s p ps a t))
+        (more q a r (run-keeps lim imposed room (suc n) (start + length p) (count + length (q .1)) (q .0) ps (λ e. absurd (begun (q .0) (step-begun lim imposed start s (lineOf p) a) e))))
   ]
+]
+  where
+    begun : (s : State) → Begun s → s ≡ empty → ⊥
+    begun empty b e = absurd b
+    begun (ready v rs) b e = never cc
+    begun (done v rs c) b e = never cc
 
-  run-prefix : (ps : List Bytes) (h : Bytes) (n start count : ℕ) (s : State) → Begun s → pieces h ≡ ps → Prefix n start count s h (runs n start count s ps)
-  unfolding run
-  run-prefix [] h n start count empty b e = absurd b
-  run-prefix [] h n start count (ready v rs) b e = stopped n start count 26 n (ready v rs) h b
-  run-prefix [] h n start count (done v rs c) b e = stopped n start count 0 n (done v rs c) h b
-  run-prefix (p ∷ ps) h n start count s b e = elim (see (step lim imposed start s (lineOf p))) [
-    | not-read m a ↦ subst (Prefix n start count s h) (sym (run-refused lim imposed room n start count s p ps a)) (stopped n start count m (suc n) s h b)
-    | was q a ↦ elim (test (leb (2 * (count + length (q .1))) room)) [
-      | fail t ↦ subst (Prefix n start count s h) (sym (run-full lim imposed room n start count s p ps a t)) (stopped n start count 24 (suc n) s h b)
-      | pass t ↦ subst (Prefix n start count s h) (sym (run-more lim imposed room n start count s p ps a t))
-          (more-prefix h p ps n start count s q a t e (λ r f. run-prefix ps r (suc n) (start + length p) (count + length (q .1)) (q .0) (step-begun lim imposed start s (lineOf p) a) f))
-    ]
-  ]
+    more : (q : State × List Entry) → step lim imposed start s (lineOf p) ≡ ok q → (r : Reading) → Keeps lim imposed (suc n) (start + length p) (q .0) ps r → Keeps lim imposed n start s (p ∷ ps) (following (q .1) r)
+    more q a r (all-taken e t) = all-taken (omega (arith, e)) (q, r .entries, a, refl, t)
+    more q a r (stopped k e t) = stopped (suc k) (omega (arith, e)) (q, r .entries, a, refl, t)
 
-  from-empty : (ps : List Bytes) (h : Bytes) → pieces h ≡ ps → runs 0 0 0 empty ps .entries ≡ runs 0 0 0 empty (pieces (take (runs 0 0 0 empty ps .start) h)) .entries
-  unfolding run pieces
-  from-empty [] h e = refl
-  from-empty (p ∷ ps) h e = elim (see (step lim imposed 0 empty (lineOf p))) [
-    | not-read m a ↦ rw (run-refused lim imposed room 0 0 0 empty p ps a)
-    | was q a ↦ elim (test (leb (2 * (0 + length (q .1))) room)) [
-      | fail t ↦ rw (run-full lim imposed room 0 0 0 empty p ps a t)
-      | pass t ↦
-          let d = more-prefix h p ps 0 0 0 empty q a t e
-          (λ r f. run-prefix ps r 1 (0 + length p) (0 + length (q .1)) (q .0) (step-begun lim imposed 0 empty (lineOf p) a) f) in
-          subst (λ (r : Reading). r .entries ≡ runs 0 0 0 empty (pieces (take (r .start) h)) .entries) (sym (run-more lim imposed room 0 0 0 empty p ps a t)) (start-zero (following (q .1) (runs 1 (0 + length p) (0 + length (q .1)) (q .0) ps)) h (d .1))
-    ]
-  ]
-    where
-      start-zero : (r : Reading) (h : Bytes) → r .entries ≡ runs 0 0 0 empty (pieces (take (r .start - 0) h)) .entries → r .entries ≡ runs 0 0 0 empty (pieces (take (r .start) h)) .entries
-      start-zero r h q = let z : r .start - 0 ≡ r .start = omega arith in rw z at q
+-- the entries of a header within the limit are, in order, those of its lines, or of the lines before the one that was refused or had no room
+pub refused-keeps : (lim : Limits) (imposed : Option Version) (room : ℕ) (h : Bytes) → length h ≤ lim .header → Keeps lim imposed 0 0 empty (pieces h) (reading lim imposed room h)
+refused-keeps lim imposed room h l = rw (reading-short lim imposed room h l) (run-keeps lim imposed room 0 0 0 empty (pieces h) (λ e. refl))
 
-  reading-long : (h : Bytes) → leb (length h) (lim .header) ≡ false → reading lim imposed room h ≡ stop 27 0 0 empty
-  unfolding reading
-  reading-long h e = rw (reading, e)
-
-  -- a refused header keeps exactly the entries that reading the bytes before the refused line gives
-  pub refused-keeps : (h : Bytes) → reading lim imposed room h .entries ≡ reading lim imposed room (take (reading lim imposed room h .start) h) .entries
-  unfolding run pieces
-  refused-keeps h = elim (test (leb (length h) (lim .header))) [
-    | pass e ↦
-        let n = leb-true (length h) (lim .header) e in
-        let k = runs 0 0 0 empty (pieces h) .start in
-        rw (reading-short lim imposed room h n) (from-empty (pieces h) h refl ∙ sym (ap (λ (r : Reading). r .entries) (reading-short lim imposed room (take k h) (omega (arith, length-take k h)))))
-    | fail e ↦ rw (reading-long h e) (sym (ap (λ (r : Reading). r .entries) (reading-short lim imposed room [] (omega arith))))
-  ]
+-- a longer one keeps none
+pub long-keeps : (lim : Limits) (imposed : Option Version) (room : ℕ) (h : Bytes) → lim .header < length h → reading lim imposed room h ≡ stop 27 0 0 empty
+unfolding reading
+long-keeps lim imposed room h l = rw (reading, lt-leb (length h) (lim .header) l)

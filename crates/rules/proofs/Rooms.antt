@@ -1,5 +1,5 @@
 -- Room: 24 is the only thing that less room changes. Assumes nothing.
-use Prim.Native.Nat.{ℕ, suc, _+_, _*_, _≤_}
+use Prim.Native.Nat.{ℕ, suc, _+_, _≤_}
 use native.Mathlib.Omega.{arith}
 use mathlib.Core.Path.{_≡_, refl, sym, ap, _∙_}
 use mathlib.Core.Bool.{true}
@@ -24,10 +24,10 @@ unfolding run
 run-rooms lim imposed less more n start count s [] h = inr refl
 run-rooms lim imposed less more n start count s (p ∷ ps) h = elim (see (step lim imposed start s (lineOf p))) [
   | not-read m a ↦ inr (run-refused lim imposed more n start count s p ps a ∙ sym (run-refused lim imposed less n start count s p ps a))
-  | was q a ↦ elim (test (leb (2 * (count + length (q .1))) less)) [
+  | was q a ↦ elim (test (leb (count + length (q .1)) less)) [
     | fail t ↦ inl (ap (λ (r : Reading). r .number) (run-full lim imposed less n start count s p ps a t))
     | pass t ↦
-        let u : leb (2 * (count + length (q .1))) more ≡ true = le-leb _ more (omega (arith, leb-true (2 * (count + length (q .1))) less t)) in
+        let u : leb (count + length (q .1)) more ≡ true = le-leb _ more (omega (arith, leb-true (count + length (q .1)) less t)) in
         let l = run-more lim imposed less n start count s p ps a t in
         let m = run-more lim imposed more n start count s p ps a u in
         ⊎-elim (λ e. inl (ap (λ (r : Reading). r .number) l ∙ e)) (λ e. inr (m ∙ ap (following (q .1)) e ∙ sym l))

@@ -1,22 +1,21 @@
 -- Demand 2: what the calls show of an accepted header's entries. Assumes nothing.
-use Prim.Native.Nat.{ℕ, zero, suc, _+_, _-_, _*_, _^_, _≤_, _<_}
+use Prim.Native.Nat.{ℕ, zero, suc, _+_, _-_, _≤_}
 use native.Mathlib.Omega.{arith}
 use mathlib.Core.Path.{_≡_, refl, sym, ap, _∙_}
 use mathlib.Core.Bool.{Bool, true, false, _||_, _&&_, false≢true}
 use mathlib.Core.List.{List, [], _∷_, _++_, tail, append-assoc}
 use mathlib.Core.Option.{Option, none, some}
 use lib.Dec.{eqb, leb}
-use lib.ListN.{length, getD, take, drop, length-append, length-drop, List·getD-append}
-use lib.Seq.{drop-drop, take-take, take-nil, sets, sets-eq, length-sets}
-use borrow.Author.Tests.{eq-eqb, le-leb, lt-ltb}
+use lib.ListN.{length, take, drop, length-append, length-drop}
+use lib.Seq.{drop-drop, take-take, take-nil}
+use borrow.Author.Tests.{eq-eqb, le-leb}
 use Rattle.values.specs.Bytes.{Bytes, ascii, same}
 use Rattle.values.specs.Utf8.{isUtf8}
-use Rattle.values.specs.Value.{Value, quoted, written, meaning, meaningOf}
+use Rattle.values.specs.Value.{Value, written, meaning, meaningOf}
 use Rattle.values.specs.Field.{Field, writtenField}
 use Rattle.values.specs.Places.{textAt}
 use Rattle.values.specs.declared.string.Text.{Text}
 use Rattle.values.proofs.Tests.{pass, fail, test, or-on}
-use Rattle.values.proofs.Lists.{some-is, none-not}
 use Rattle.values.proofs.Fields.{part, text-here}
 use Rattle.values.proofs.Places.{valueBy, valueIn, text-of-value}
 use Rattle.rules.specs.Answer.{ok}
@@ -25,57 +24,17 @@ use Rattle.rules.specs.Version.{Version}
 use Rattle.rules.specs.Known.{Kind, INFO, FILTER, FORMAT, ALT, contig, other, kindOf, alwaysMap, nameOf, tagOf}
 use Rattle.rules.specs.Map.{isSome, fieldNamed, valueOf as valueOfField, valueNamed, missing}
 use Rattle.rules.specs.Record.{fields, readRecord}
-use Rattle.rules.specs.Entry.{Entry, place, bit, identity, kindNumber, fieldsStart, textNamed, recordEntry, words}
-use Rattle.rules.specs.Shown.{bits, kindIn, startIn, lengthIn, offsetIn, idLengthIn, tagIn, Part, hasId, wellFormed, entryAt, shownEntry, idPart, shownId, fieldPart, fieldsPart, linePart, shownField}
+use Rattle.rules.specs.Entry.{Entry, mapKind, plainEntry, mapEntry, fieldsStart, textNamed, recordEntry}
+use Rattle.rules.specs.Shown.{Part, hasId, saysNoId, wellFormed, lineIn, idIn, idMeaning, idPart, fieldPart, fieldsPart, linePart}
 use Rattle.rules.specs.House.{writeMore, writeFields, writeRecord}
 use Rattle.rules.specs.Meaning.{tagIn as tagInField}
 use Rattle.values.proofs.Sames.{same-sound}
-use Rattle.rules.proofs.Tidy.{tag}
+use Rattle.rules.proofs.Tidy.{tag as tagOfId}
 use Rattle.rules.proofs.Records.{tag-none, id-given}
 use Rattle.rules.proofs.Texts.{LineOf, record-in}
 use Rattle.rules.proofs.Firsts.{on-ok}
 use Rattle.rules.proofs.Checks.{named-yes as field-yes, named-no as field-no}
 use Rattle.rules.proofs.Trace.{LineAt, Row}
-
--- Words
-
--- the limits that the words can hold
-pub record Packed (lim : Limits) : Type 0 where
-  pub header : lim .header < 2 ^ 20
-  pub line : lim .line < 2 ^ 16
-
-module _ (kind start len : ℕ) (hk : kind < 16) (hs : start < 2 ^ 20) (hl : len < 2 ^ 16) where
-  pub place-kind : kindIn (place kind start len) ≡ kind
-  place-kind = omega arith
-
-  pub place-start : startIn (place kind start len) ≡ start
-  place-start = omega arith
-
-  pub place-length : lengthIn (place kind start len) ≡ len
-  place-length = omega arith
-
-  pub place-zero : bits 0 24 (place kind start len) ≡ 0
-  place-zero = omega arith
-
-bit-small : (q : Bool) → bit q ≤ 1
-bit-small true = omega arith
-bit-small false = omega arith
-
-module _ (offset len : ℕ) (q : Bool) (tag : ℕ) (ho : offset < 2 ^ 16) (hl : len < 2 ^ 16) (ht : tag < 4) where
-  pub identity-offset : offsetIn (identity offset len q tag) ≡ offset
-  identity-offset = omega (arith, bit-small q)
-
-  pub identity-length : idLengthIn (identity offset len q tag) ≡ len
-  identity-length = omega (arith, bit-small q)
-
-  pub identity-tag : tagIn (identity offset len q tag) ≡ tag
-  identity-tag = omega (arith, bit-small q)
-
-  pub identity-quoted : bits 31 1 (identity offset len q tag) ≡ bit q
-  identity-quoted = omega (arith, bit-small q)
-
-  pub identity-zero : bits 0 29 (identity offset len q tag) ≡ 0
-  identity-zero = omega (arith, bit-small q)
 
 -- Fields at their places
 
@@ -201,60 +160,13 @@ part-part h start l a e p s =
 
 -- The calls
 
--- the words of an entry stand in a table
-pub record InTable (table : List ℕ) (n : ℕ) (e : Entry) : Type 0 where
-  pub inside : 2 * n + 1 < length table
-  pub one : getD table (2 * n) 0 ≡ e .0
-  pub two : getD table (2 * n + 1) 0 ≡ e .1
-
-entry-found : (h : Bytes) (table : List ℕ) (n : ℕ) (e : Entry) → InTable table n e → wellFormed (length h) (e .0) (e .1) ≡ true → entryAt h table n ≡ some e
-unfolding entryAt
-entry-found h table n e t w = rw (lt-ltb (2 * n + 1) (length table) (t .inside), t .one, t .two, w, entryAt) (rw (t .one, t .two))
-
--- an entry of a kind with an ID, and of one without
-module _ (size kind start len : ℕ) (hs : start < 2 ^ 20) (hl : len < 2 ^ 16) (fits : start + len ≤ size) where
-  well-id : (offset n : ℕ) (q : Bool) (tag : ℕ) → hasId kind ≡ true → kind < 16 → offset < 2 ^ 16 → n < 2 ^ 16 → tag < 4 → offset + n ≤ len
-      → eqb tag 0 || (eqb kind 7 && leb tag 2) ≡ true → leb 1 kind && leb kind 10 ≡ true
-      → wellFormed size (place kind start len) (identity offset n q tag) ≡ true
-  unfolding wellFormed
-  well-id offset n q tag i hk ho hn ht o t k =
-      rw (
-        place-kind kind start len hk hs hl,
-        place-start kind start len hk hs hl,
-        place-length kind start len hk hs hl,
-        place-zero kind start len hk hs hl,
-        identity-offset offset n q tag ho hn ht,
-        identity-length offset n q tag ho hn ht,
-        identity-tag offset n q tag ho hn ht,
-        identity-zero offset n q tag ho hn ht,
-        k,
-        t,
-        i,
-        le-leb (start + len) size fits,
-        le-leb (offset + n) len o,
-      )
-
-  well-plain : kind < 16 → leb 1 kind && leb kind 10 ≡ true → wellFormed size (place kind start len) 0 ≡ true
-  unfolding wellFormed
-  well-plain hk k =
-      rw (
-        place-kind kind start len hk hs hl,
-        place-start kind start len hk hs hl,
-        place-length kind start len hk hs hl,
-        place-zero kind start len hk hs hl,
-        k,
-        or-on (hasId kind) refl,
-        le-leb (start + len) size fits,
-        le-leb 0 len (omega arith),
-      )
-
-kind-cases : (kind : Kind) → (hasId (kindNumber kind) ≡ true) × (kindNumber kind < 16) × (leb 1 (kindNumber kind) && leb (kindNumber kind) 10 ≡ true)
-kind-cases INFO = (refl, omega arith, refl)
-kind-cases FILTER = (refl, omega arith, refl)
-kind-cases FORMAT = (refl, omega arith, refl)
-kind-cases ALT = (refl, omega arith, refl)
-kind-cases contig = (refl, omega arith, refl)
-kind-cases other = (refl, omega arith, refl)
+pub map-kind : (kind : Kind) → (hasId (mapKind kind) ≡ true) × (leb 1 (mapKind kind) && leb (mapKind kind) 10 ≡ true)
+map-kind INFO = (refl, refl)
+map-kind FILTER = (refl, refl)
+map-kind FORMAT = (refl, refl)
+map-kind ALT = (refl, refl)
+map-kind contig = (refl, refl)
+map-kind other = (refl, refl)
 
 pub tag-small : (key : Bytes) → tagOf key ≤ 2
 tag-small key = elim (test (same key (ascii "Child"))) [
@@ -270,9 +182,9 @@ always-other k h = elim (test (same k (ascii "META"))) [
 ]
 
 -- a tag other than 0 stands only in kind 7
-tag-fits : (v : Version) (k : Bytes) (fs : List Field) → eqb (tag v k fs) 0 || (eqb (kindNumber (kindOf k)) 7 && leb (tag v k fs) 2) ≡ true
+tag-fits : (v : Version) (k : Bytes) (fs : List Field) → eqb (tagOfId v k fs) 0 || (eqb (mapKind (kindOf k)) 7 && leb (tagOfId v k fs) 2) ≡ true
 tag-fits v k fs = elim (test (alwaysMap k)) [
-  | pass e ↦ or-on (eqb (tag v k fs) 0) (rw (always-other k e) (small (fieldNamed v k (ascii "ID") fs)))
+  | pass e ↦ or-on (eqb (tagOfId v k fs) 0) (rw (always-other k e) (small (fieldNamed v k (ascii "ID") fs)))
   | fail e ↦ rw (tag-none v k fs e)
 ]
   where
@@ -283,7 +195,7 @@ tag-fits v k fs = elim (test (alwaysMap k)) [
 -- a map's ID in its line
 pub record IdIn (v : Version) (k : Bytes) (fs : List Field) (l : Bytes) (p : Bytes × Text) : Type 0 where
   pub is : textNamed v k (ascii "ID") (fieldsStart k) fs ≡ some p
-  pub tagged : tagOf (p .0) ≡ tag v k fs
+  pub tagged : tagOf (p .0) ≡ tagOfId v k fs
   pub means : meaning (p .1 .quoted) (part l (p .1 .start) (p .1 .end)) ≡ valueNamed v k (ascii "ID") fs
   pub ordered : p .1 .start ≤ p .1 .end
   pub inside : p .1 .end ≤ length l
@@ -317,22 +229,12 @@ id-in v k fs m = go (fieldNamed v k (ascii "ID") fs) refl (textNamed v k (ascii 
       },
     )
 
-id-part : (e : Entry) {kind start offset len : ℕ} → kindIn (e .0) ≡ kind → startIn (e .0) ≡ start → offsetIn (e .1) ≡ offset → idLengthIn (e .1) ≡ len → hasId kind ≡ true
-    → idPart (some e) ≡ some (start + offset, start + offset + len)
-id-part e {kind} {start} {offset} {len} k s o l h =
-    let i : hasId (kindIn (e .0)) ≡ true = rw k h in
-    rw (idPart, i) (rw (s, o, l))
+line-part : (h : Bytes) (v : Version) (i : ℕ) (e : Entry) → hasId (e .kind) ≡ true → isUtf8 (lineIn h e) ≡ true
+    → linePart h v i (some e) ≡ fieldsPart (e .start) (e .kind) (readRecord v (lineIn h e)) i
+line-part h v i e q u = rw (linePart, q, u)
 
-line-part : (h : Bytes) (v : Version) (i : ℕ) (e : Entry) {kind start : ℕ} {l : Bytes} → kindIn (e .0) ≡ kind → startIn (e .0) ≡ start → lengthIn (e .0) ≡ length l
-    → part h start (start + length l) ≡ l → hasId kind ≡ true → isUtf8 l ≡ true → linePart h v i (some e) ≡ fieldsPart start kind (readRecord v l) i
-line-part h v i e {kind} {start} {l} k s n p q u =
-    let m : start + length l - start ≡ length l = omega arith in
-    let t : take (lengthIn (e .0)) (drop (startIn (e .0)) h) ≡ l = rw (s, n) (rw m at p) in
-    let b : hasId (kindIn (e .0)) && isUtf8 (take (lengthIn (e .0)) (drop (startIn (e .0)) h)) ≡ true = rw (t, k, q) u in
-    rw (linePart, b) (rw (t, s, k))
-
-fields-part : (start kind : ℕ) (k : Bytes) (fs : List Field) (i : ℕ) → kindNumber (kindOf k) ≡ kind → fieldsPart start kind (ok (fields k fs)) i ≡ fieldPart (start + fieldsStart k) fs i
-fields-part start kind k fs i e = rw (fieldsPart, eq-eqb (kindNumber (kindOf k)) kind e)
+fields-part : (start kind : ℕ) (k : Bytes) (fs : List Field) (i : ℕ) → mapKind (kindOf k) ≡ kind → fieldsPart start kind (ok (fields k fs)) i ≡ fieldPart (start + fieldsStart k) fs i
+fields-part start kind k fs i e = rw (fieldsPart, eq-eqb (mapKind (kindOf k)) kind e)
 
 -- a field's part, in the line and in the header
 pub shift-part : (s at : ℕ) (fs : List Field) (i : ℕ) → fieldPart (s + at) fs i ≡ shifted s (fieldPart at fs i)
@@ -347,133 +249,84 @@ header-part h s l p n none (some y) b = b
 header-part h s l p n (some f) none b = b
 header-part h s l p n (some f) (some y) b = (part-part h s l (y .0) (y .1) p (b .1) ∙ b .0, omega (arith, b .1))
 
--- an entry of an accepted header, in a table
-module _ (lim : Limits) (packed : Packed lim) (h : Bytes) (within : length h ≤ lim .header) (v : Version) (table : List ℕ) (n : ℕ) where
-  -- the words of a map's entry
-  pub record MapWords (k : Bytes) (fs : List Field) (start : ℕ) (p : Bytes × Text) (e : Entry) : Type 0 where
-    pub found : entryAt h table n ≡ some e
-    pub kind : kindIn (e .0) ≡ kindNumber (kindOf k)
-    pub starts : startIn (e .0) ≡ start
-    pub long : lengthIn (e .0) ≡ length (writeRecord (fields k fs))
-    pub offset : offsetIn (e .1) ≡ p .1 .start
-    pub idLong : idLengthIn (e .1) ≡ p .1 .end - p .1 .start
-    pub quotes : bits 31 1 (e .1) ≡ bit (p .1 .quoted)
-    pub tags : tagIn (e .1) ≡ tag v k fs
+-- an entry of a kind without an ID is well formed
+pub plain-formed : (kind start len size : ℕ) → leb 1 kind && leb kind 10 ≡ true → hasId kind ≡ false → start + len ≤ size → wellFormed size (plainEntry kind start len) ≡ true
+unfolding wellFormed saysNoId
+plain-formed kind start len size k i fits = rw (k, i, le-leb (start + len) size fits, le-leb 0 len (omega arith))
 
-  pub map-words : (k : Bytes) (fs : List Field) (start : ℕ) (p : Bytes × Text) → IdIn v k fs (writeRecord (fields k fs)) p → LineAt lim h start (writeRecord (fields k fs))
-      → InTable table n (recordEntry v start (writeRecord (fields k fs)) (fields k fs)) → MapWords k fs start p (recordEntry v start (writeRecord (fields k fs)) (fields k fs))
+-- an entry of an accepted header: it is well formed, and what the calls show of it
+module _ (lim : Limits) (h : Bytes) (v : Version) where
+  -- of a map: its line, its ID's text, its fields as written
+  pub record ShowsMap (k : Bytes) (fs : List Field) (l : Bytes) (e : Entry) : Type 0 where
+    pub formed : wellFormed (length h) e ≡ true
+    pub kind : e .kind ≡ mapKind (kindOf k)
+    pub line : lineIn h e ≡ l
+    pub tag : e .tag ≡ tagOfId v k fs
+    pub id : idMeaning h e ≡ valueNamed v k (ascii "ID") fs
+    pub field : (i : ℕ) → PartOf h (nth fs i) (linePart h v i (some e))
+
+  module _ (k : Bytes) (fs : List Field) (start : ℕ) (p : Bytes × Text) (i : IdIn v k fs (writeRecord (fields k fs)) p) (at : LineAt lim h start (writeRecord (fields k fs))) where
+    abbrev l : Bytes
+    l = writeRecord (fields k fs)
+
+    abbrev e : Entry
+    e = mapEntry (mapKind (kindOf k)) start (length l) (some p)
+
+    map-line : lineIn h e ≡ l
+    unfolding lineIn
+    map-line = let m : start + length l - start ≡ length l = omega arith in rw m at (at .here)
+
+    map-formed : wellFormed (length h) e ≡ true
+    unfolding wellFormed
+    map-formed =
+        let kc = map-kind (kindOf k) in
+        let t : eqb (tagOf (p .0)) 0 || (eqb (mapKind (kindOf k)) 7 && leb (tagOf (p .0)) 2) ≡ true = rw (i .tagged) (tag-fits v k fs) in
+        rw (
+          kc .1,
+          t,
+          kc .0,
+          le-leb (start + length l) (length h) (at .inside),
+          le-leb (p .1 .start + (p .1 .end - p .1 .start)) (length l) (omega (arith, i .ordered, i .inside)),
+        )
+
+    map-id : idMeaning h e ≡ valueNamed v k (ascii "ID") fs
+    unfolding idIn
+    map-id =
+        let m : start + p .1 .end - (start + p .1 .start) ≡ p .1 .end - p .1 .start = omega (arith, i .ordered) in
+        rw (rw m at (part-part h start l (p .1 .start) (p .1 .end) (at .here) (i .inside))) (i .means)
+
+    map-fields : readRecord v l ≡ ok (fields k fs) → (n : ℕ) → PartOf h (nth fs n) (linePart h v n (some e))
+    map-fields r n =
+        rw (line-part h v n e (map-kind (kindOf k) .0) (rw map-line (at .utf8)), map-line, r, fields-part start (mapKind (kindOf k)) k fs n refl, shift-part start (fieldsStart k) fs n)
+        (header-part h start l (at .here) (at .inside) (nth fs n) (fieldPart (fieldsStart k) fs n) (field-part l (fieldsStart k) fs n (line-fields k fs)))
+
+    pub map-shown : readRecord v l ≡ ok (fields k fs) → ShowsMap k fs l e
+    map-shown r = record { formed = map-formed; kind = refl; line = map-line; tag = i .tagged; id = map-id; field = map-fields r }
+
+  pub shows-map : (k : Bytes) (fs : List Field) (e : Entry) (row : Row lim h v e (fields k fs)) → missing v k fs ≡ 0 → ShowsMap k fs (row .line) e
   unfolding recordEntry
-  map-words k fs start p i at t =
-      let kind = kindNumber (kindOf k) in
-      let len = length (writeRecord (fields k fs)) in
-      let kc = kind-cases (kindOf k) in
-      let hs : start < 2 ^ 20 = omega (arith, packed .header, at .inside) in
-      let hl : len < 2 ^ 16 = omega (arith, packed .line, at .short) in
-      let ho : p .1 .start < 2 ^ 16 = omega (arith, i .ordered, i .inside) in
-      let hn : p .1 .end - p .1 .start < 2 ^ 16 = omega (arith, i .inside) in
-      let ht : tagOf (p .0) < 4 = omega (arith, tag-small (p .0)) in
-      let w = well-id (length h) kind start len hs hl (at .inside) (p .1 .start) (p .1 .end - p .1 .start) (p .1 .quoted) (tagOf (p .0)) (kc .0) (kc .1) ho hn ht
-      (omega (arith, i .ordered, i .inside)) (rw (i .tagged) (tag-fits v k fs)) (kc .2) in
-      record {
-        found = entry-found h table n _ t (rw (i .is) w);
-        kind = place-kind kind start len (kc .1) hs hl;
-        starts = place-start kind start len (kc .1) hs hl;
-        long = place-length kind start len (kc .1) hs hl;
-        offset = rw (i .is) (identity-offset (p .1 .start) _ (p .1 .quoted) (tagOf (p .0)) ho hn ht);
-        idLong = rw (i .is) (identity-length (p .1 .start) _ (p .1 .quoted) (tagOf (p .0)) ho hn ht);
-        quotes = rw (i .is) (identity-quoted (p .1 .start) _ (p .1 .quoted) (tagOf (p .0)) ho hn ht);
-        tags = rw (i .is) (identity-tag (p .1 .start) _ (p .1 .quoted) (tagOf (p .0)) ho hn ht) ∙ i .tagged;
-      }
-
-  -- the calls on a map's entry: its line, its ID's text, its fields as written
-  pub record ShowsMap (k : Bytes) (fs : List Field) (start : ℕ) (l : Bytes) (e : Entry) : Type 0 where
-    pub entry : shownEntry h table n ≡ some (start, start + length l)
-    pub idStart : ℕ
-    pub idEnd : ℕ
-    pub quoted : Bool
-    pub id : shownId h table n ≡ some (idStart, idEnd)
-    pub quotes : bits 31 1 (e .1) ≡ bit quoted
-    pub means : meaning quoted (part h idStart idEnd) ≡ valueNamed v k (ascii "ID") fs
-    pub field : (i : ℕ) → PartOf h (nth fs i) (shownField h table n v i)
-
-  pub shows-map : (k : Bytes) (fs : List Field) (e : Entry) (row : Row lim h v e (fields k fs)) → missing v k fs ≡ 0 → InTable table n e → ShowsMap k fs (row .start) (row .line) e
-  shows-map k fs e row m t =
-      let s = row .start in
+  shows-map k fs e row m =
       let d = id-in v k fs m in
-      let p = d .0 in
-      let e′ : row .line ≡ writeRecord (fields k fs) = on-ok (LineOf (row .line)) (record-in v (row .line)) (row .read) in
-      let at : LineAt lim h s (writeRecord (fields k fs)) = rw e′ at (row .there) in
-      let t′ : InTable table n (recordEntry v s (writeRecord (fields k fs)) (fields k fs)) = rw e′ at (rw (row .entry) at t) in
-      let w : MapWords k fs s p e = rw (row .entry, e′) (map-words k fs s p (d .1) at t′) in
-      let len = length (writeRecord (fields k fs)) in
-      let o : p .1 .start + (p .1 .end - p .1 .start) ≡ p .1 .end = omega (arith, d .1 .ordered) in
-      let z : s + p .1 .start + (p .1 .end - p .1 .start) ≡ s + p .1 .end = omega (arith, d .1 .ordered) in
-      record {
-        entry = rw (w .found, w .starts, w .long, e′);
-        idStart = s + p .1 .start;
-        idEnd = s + p .1 .end;
-        quoted = p .1 .quoted;
-        id = rw (w .found) (id-part e (w .kind) (w .starts) (w .offset) (w .idLong) (kind-cases (kindOf k) .0) ∙ rw z);
-        quotes = w .quotes;
-        means = rw (part-part h s (writeRecord (fields k fs)) (p .1 .start) (p .1 .end) (at .here) (d .1 .inside)) (d .1 .means);
-        field = λ i.
-            let r : readRecord v (writeRecord (fields k fs)) ≡ ok (fields k fs) = rw e′ at (row .read) in
-            let q = line-part h v i e (w .kind) (w .starts) (w .long) (at .here) (kind-cases (kindOf k) .0) (at .utf8) in
-            rw (w .found, q, r, fields-part s (kindNumber (kindOf k)) k fs i refl, shift-part s (fieldsStart k) fs i)
-            (header-part h s (writeRecord (fields k fs)) (at .here) (at .inside) (nth fs i) (fieldPart (fieldsStart k) fs i)
-            (field-part (writeRecord (fields k fs)) (fieldsStart k) fs i (line-fields k fs)));
-      }
+      let w : row .line ≡ writeRecord (fields k fs) = on-ok (LineOf (row .line)) (record-in v (row .line)) (row .read) in
+      let at : LineAt lim h (row .start) (writeRecord (fields k fs)) = rw w at (row .there) in
+      let r : readRecord v (writeRecord (fields k fs)) ≡ ok (fields k fs) = rw w at (row .read) in
+      rw (row .entry, w, d .1 .is) (map-shown k fs (row .start) (d .0) (d .1) at r)
 
-  -- the calls on an entry without an ID: its part, and nothing else
-  pub record ShowsPlain (start len : ℕ) : Type 0 where
-    pub entry : shownEntry h table n ≡ some (start, start + len)
-    pub id : shownId h table n ≡ none
-    pub field : (w : Version) (i : ℕ) → shownField h table n w i ≡ none
+  -- of an entry without an ID: its part, and nothing else
+  pub record ShowsPlain (kind : ℕ) (l : Bytes) (e : Entry) : Type 0 where
+    pub formed : wellFormed (length h) e ≡ true
+    pub is-kind : e .kind ≡ kind
+    pub line : lineIn h e ≡ l
+    pub id : idPart (some e) ≡ none
+    pub field : (w : Version) (i : ℕ) → linePart h w i (some e) ≡ none
 
-  pub shows-plain : (kind start len : ℕ) → kind < 16 → leb 1 kind && leb kind 10 ≡ true → hasId kind ≡ false → start + len ≤ length h → len ≤ lim .line
-      → InTable table n (place kind start len, 0) → ShowsPlain start len
-  shows-plain kind start len hk k i fits short t =
-      let hs : start < 2 ^ 20 = omega (arith, packed .header) in
-      let hl : len < 2 ^ 16 = omega (arith, packed .line) in
-      let e = entry-found h table n (place kind start len, 0) t (well-plain (length h) kind start len hs hl fits hk k) in
-      let i′ : hasId (kindIn (place kind start len)) ≡ false = rw (place-kind kind start len hk hs hl) i in
-      record {
-        entry = rw (e, place-start kind start len hk hs hl, place-length kind start len hk hs hl);
-        id = rw e (rw (idPart, i′));
-        field = λ w j. rw e (rw (linePart, i′));
-      }
-
--- The table after a reading
-
--- entry n of a list
-abbrev pub entryOf : List Entry → ℕ → Option Entry
-entryOf [] n = none
-entryOf (e ∷ es) zero = some e
-entryOf (e ∷ es) (suc n) = entryOf es n
-
-words-at : (es : List Entry) (n : ℕ) {e : Entry} → entryOf es n ≡ some e → (2 * n + 1 < length (words es)) × (getD (words es) (2 * n) 0 ≡ e .0) × (getD (words es) (2 * n + 1) 0 ≡ e .1)
-unfolding words
-words-at [] n h = none-not h
-words-at (e ∷ es) zero h = let q = some-is h in (omega arith, ap (λ (x : Entry). x .0) q, ap (λ (x : Entry). x .1) q)
-words-at (e ∷ es) (suc n) h =
-    let d = words-at es n h in
-    let a : 2 * suc n ≡ suc (suc (2 * n)) = omega arith in
-    let b : 2 * suc n + 1 ≡ suc (suc (2 * n + 1)) = omega arith in
-    (omega (arith, d .0), rw a (d .1), rw b (d .2))
-
--- the table whose first words are those of the entries
-pub in-table : (table : List ℕ) (es : List Entry) (n : ℕ) {e : Entry} → length (words es) ≤ length table → entryOf es n ≡ some e → InTable (sets table 0 (words es)) n e
-in-table table es n r h =
-    let d = words-at es n h in
-    let z : 0 + length (words es) ≡ length (words es) = omega arith in
-    let t : sets table 0 (words es) ≡ words es ++ drop (0 + length (words es)) table = sets-eq (words es) table 0 (rw z r) in
-    record {
-      inside = rw (length-sets table 0 (words es)) (omega (arith, d .0));
-      one = rw (t, List·getD-append (words es) (drop (0 + length (words es)) table) 0 (2 * n) (omega (arith, d .0))) (d .1);
-      two = rw (t, List·getD-append (words es) (drop (0 + length (words es)) table) 0 (2 * n + 1) (d .0)) (d .2);
-    }
-
-pub words-count : (es : List Entry) → length (words es) ≡ 2 * length es
-unfolding words
-words-count [] = refl
-words-count (e ∷ es) = omega (arith, words-count es)
+  pub shows-plain : (kind start : ℕ) (l : Bytes) → leb 1 kind && leb kind 10 ≡ true → hasId kind ≡ false → part h start (start + length l) ≡ l → start + length l ≤ length h
+      → ShowsPlain kind l (plainEntry kind start (length l))
+  unfolding lineIn
+  shows-plain kind start l k i here fits = record {
+    formed = plain-formed kind start (length l) (length h) k i fits;
+    is-kind = refl;
+    line = let m : start + length l - start ≡ length l = omega arith in rw m at here;
+    id = rw (idPart, i);
+    field = λ w j. rw (linePart, i);
+  }

@@ -1,5 +1,5 @@
 -- What an accepted header has: every record is good, none clashes, and there is room. Assumes nothing.
-use Prim.Native.Nat.{ℕ, suc, _+_, _*_, _≤_}
+use Prim.Native.Nat.{ℕ, suc, _+_, _≤_}
 use native.Mathlib.Omega.{arith}
 use mathlib.Core.Path.{_≡_, refl, ap, _∙_}
 use mathlib.Core.Bool.{true, false}
@@ -115,21 +115,21 @@ module _ (lim : Limits) (imposed : Option Version) (room n start count : ℕ) (s
   run-refused a = rw (run, a)
 
   module _ {q : State × List Entry} (a : step lim imposed start s (lineOf p) ≡ ok q) where
-    pub run-full : leb (2 * (count + length (q .1))) room ≡ false → run lim imposed room n start count s (p ∷ ps) ≡ stop 24 (suc n) start s
+    pub run-full : leb (count + length (q .1)) room ≡ false → run lim imposed room n start count s (p ∷ ps) ≡ stop 24 (suc n) start s
     unfolding run
     run-full e = rw (run, a, e)
 
-    pub run-more : leb (2 * (count + length (q .1))) room ≡ true
+    pub run-more : leb (count + length (q .1)) room ≡ true
         → run lim imposed room n start count s (p ∷ ps) ≡ following (q .1) (run lim imposed room (suc n) (start + length p) (count + length (q .1)) (q .0) ps)
     unfolding run
     run-more e = rw (run, a, e)
 
 -- the end of a run: a good state, within the room
 abbrev pub Ended : ℕ → Reading → Type 0
-Ended room r = Inv (r .state) × (2 * entriesIn (r .state) ≤ room)
+Ended room r = Inv (r .state) × (entriesIn (r .state) ≤ room)
 
 pub run-good : (lim : Limits) (imposed : Option Version) (room n start count : ℕ) (s : State) (ps : List Bytes) → SizedOption imposed → Inv s → Pieces ps
-    → entriesIn s ≡ count → 2 * count ≤ room → Ended room (run lim imposed room n start count s ps)
+    → entriesIn s ≡ count → count ≤ room → Ended room (run lim imposed room n start count s ps)
 unfolding run
 run-good lim imposed room n start count s [] i inv p e h = at-end s inv e
   where
@@ -141,7 +141,7 @@ run-good lim imposed room n start count s (p ∷ ps) i inv w e h =
     elim (see (step lim imposed start s (lineOf p))) [
       | not-read m a ↦ rw (run-refused lim imposed room n start count s p ps a) (inv, rw e h)
       | was q a ↦ let g = on-ok (Stepped s) (step-good lim imposed start s (lineOf p) i inv (piece-line p (w .0))) a in
-          elim (test (leb (2 * (count + length (q .1))) room)) [
+          elim (test (leb (count + length (q .1)) room)) [
             | pass t ↦ rw (run-more lim imposed room n start count s p ps a t)
                 (run-good lim imposed room (suc n) (start + length p) (count + length (q .1)) (q .0) ps i (g .0) (w .1) (g .1 ∙ rw e) (leb-true _ room t))
             | fail t ↦ rw (run-full lim imposed room n start count s p ps a t) (inv, rw e h)

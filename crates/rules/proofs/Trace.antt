@@ -1,5 +1,5 @@
 -- An accepted header's entries, each with its line and its record. Assumes nothing.
-use Prim.Native.Nat.{ℕ, suc, _+_, _*_, _≤_}
+use Prim.Native.Nat.{ℕ, suc, _+_, _≤_}
 use native.Mathlib.Omega.{arith}
 use mathlib.Core.Path.{_≡_, refl, sym, ap, subst, _∙_}
 use mathlib.Core.Bool.{true}
@@ -189,7 +189,7 @@ traced lim imposed room h (p ∷ ps) n start count v rs l e {w} {rs′} {c} a =
     let f = first-line h start p ps l e in
     elim (see (step lim imposed start (ready v rs) (lineOf p))) [
       | not-read m b ↦ absurd (ready-not (sym (ap (λ (r : Reading). r .state) (run-refused lim imposed room n start count (ready v rs) p ps b)) ∙ a .state))
-      | was q b ↦ elim (test (leb (2 * (count + length (q .1))) room)) [
+      | was q b ↦ elim (test (leb (count + length (q .1)) room)) [
         | fail t ↦ absurd (ready-not (sym (ap (λ (r : Reading). r .state) (run-full lim imposed room n start count (ready v rs) p ps b t)) ∙ a .state))
         | pass t ↦
             let k = on-ok (Taken lim imposed start (ready v rs) (lineOf p)) (step-taken lim imposed start (ready v rs) (lineOf p)) b in
@@ -269,7 +269,7 @@ run-empty lim imposed room h (p ∷ ps) e {v} {rs} {c} a =
     let f = first-line h 0 p ps (omega arith) e in
     elim (see (step lim imposed 0 empty (lineOf p))) [
       | not-read m b ↦ absurd (empty-not (sym (ap (λ (r : Reading). r .state) (run-refused lim imposed room 0 0 0 empty p ps b)) ∙ a .state))
-      | was q b ↦ elim (test (leb (2 * (0 + length (q .1))) room)) [
+      | was q b ↦ elim (test (leb (0 + length (q .1)) room)) [
         | fail t ↦ absurd (empty-not (sym (ap (λ (r : Reading). r .state) (run-full lim imposed room 0 0 0 empty p ps b t)) ∙ a .state))
         | pass t ↦
             let k = on-ok (Taken lim imposed 0 empty (lineOf p)) (step-taken lim imposed 0 empty (lineOf p)) b in

@@ -1,5 +1,5 @@
--- Document 01, "Entries, most significant bit first". Assumes nothing.
-use Prim.Native.Nat.{ℕ, _+_, _-_, _*_, _^_}
+-- Document 01, "Entries": what an entry says, and which entries a line has. Assumes nothing.
+use Prim.Native.Nat.{ℕ, _+_, _-_}
 use mathlib.Core.Bool.{Bool, true, false}
 use mathlib.Core.List.{List, [], _∷_, _++_}
 use mathlib.Core.Option.{Option, none, some}
@@ -13,29 +13,42 @@ use Rattle.rules.specs.Known.{Kind, INFO, FILTER, FORMAT, ALT, contig, o
 use Rattle.rules.specs.Record.{Record, fileformat, fields, text}
 use Rattle.rules.specs.Columns.{Columns, TAB, columnNames}
 
--- two words
-abbrev pub Entry : Type 0
-Entry = ℕ × ℕ
+-- Kinds: 1 fileformat, 2 INFO, 3 FILTER, 4 FORMAT, 5 ALT, 6 contig, 7 other map, 8 other text, 9 column line, 10 sample
 
--- word one: kind 4, start 20, length 16, zero 24
-abbrev pub place : ℕ → ℕ → ℕ → ℕ
-place kind start len = kind * 2 ^ 60 + start * 2 ^ 40 + len * 2 ^ 24
+abbrev pub formatKind : ℕ
+formatKind = 1
 
-abbrev pub bit : Bool → ℕ
-bit true = 1
-bit false = 0
+abbrev pub mapKind : Kind → ℕ
+mapKind INFO = 2
+mapKind FILTER = 3
+mapKind FORMAT = 4
+mapKind ALT = 5
+mapKind contig = 6
+mapKind other = 7
 
--- word two: ID offset in the line 16, ID length 16, quoted 1, ID tag 2, zero 29
-abbrev pub identity : ℕ → ℕ → Bool → ℕ → ℕ
-identity offset len quoted tag = offset * 2 ^ 48 + len * 2 ^ 32 + bit quoted * 2 ^ 31 + tag * 2 ^ 29
+abbrev pub textKind : ℕ
+textKind = 8
 
-abbrev pub kindNumber : Kind → ℕ
-kindNumber INFO = 2
-kindNumber FILTER = 3
-kindNumber FORMAT = 4
-kindNumber ALT = 5
-kindNumber contig = 6
-kindNumber other = 7
+abbrev pub columnsKind : ℕ
+columnsKind = 9
+
+abbrev pub sampleKind : ℕ
+sampleKind = 10
+
+-- an entry: its kind, where its line stands, and where in the line the ID's text stands, without quotes; the crate `entries` says how it is stored
+pub record Entry : Type 0 where
+  pub kind : ℕ
+  pub start : ℕ
+  pub length : ℕ
+  pub offset : ℕ
+  pub idLength : ℕ
+  pub quoted : Bool
+  -- 0 ID, 1 Child, 2 Derived
+  pub tag : ℕ
+
+-- the kinds without an ID
+abbrev pub plainEntry : ℕ → ℕ → ℕ → Entry
+plainEntry kind start len = record { kind = kind; start = start; length = len; offset = 0; idLength = 0; quoted = false; tag = 0 }
 
 -- where the first field of a map under the key k stands: after `##`, the key, `=` and `<`
 abbrev pub fieldsStart : Bytes → ℕ
@@ -49,15 +62,24 @@ textNamed v k name at (f ∷ fs) = elim (same (nameOf v k (f .key)) name) [
   | false ↦ textNamed v k name (at + length (writtenField f) + 1) fs
 ]
 
-abbrev pub identityOf : Option (Bytes × Text) → ℕ
-identityOf none = 0
-identityOf (some p) = identity (p .1 .start) (p .1 .end - p .1 .start) (p .1 .quoted) (tagOf (p .0))
+-- with the ID's text, and the key that named it
+abbrev pub mapEntry : ℕ → ℕ → ℕ → Option (Bytes × Text) → Entry
+mapEntry kind start len none = plainEntry kind start len
+mapEntry kind start len (some p) = record {
+  kind = kind;
+  start = start;
+  length = len;
+  offset = p .1 .start;
+  idLength = p .1 .end - p .1 .start;
+  quoted = p .1 .quoted;
+  tag = tagOf (p .0);
+}
 
 -- the entry of a record on the line l, which stands at start; v is the version in force
 unfoldable pub recordEntry : Version → ℕ → Bytes → Record → Entry
-recordEntry v start l (fileformat w) = (place 1 start (length l), 0)
-recordEntry v start l (fields k fs) = (place (kindNumber (kindOf k)) start (length l), identityOf (textNamed v k (ascii "ID") (fieldsStart k) fs))
-recordEntry v start l (text k t) = (place 8 start (length l), 0)
+recordEntry v start l (fileformat w) = plainEntry formatKind start (length l)
+recordEntry v start l (fields k fs) = mapEntry (mapKind (kindOf k)) start (length l) (textNamed v k (ascii "ID") (fieldsStart k) fs)
+recordEntry v start l (text k t) = plainEntry textKind start (length l)
 
 -- each with a tab after it
 unfoldable pub tabbed : List Bytes → Bytes
@@ -72,13 +94,8 @@ samplesStart = length (tabbed (columnNames ++ ascii "FORMAT" ∷ []))
 -- the names stand at the place `at`, tab-parted
 unfoldable pub sampleEntries : ℕ → List Bytes → List Entry
 sampleEntries at [] = []
-sampleEntries at (x ∷ xs) = (place 10 at (length x), 0) ∷ sampleEntries (at + length x + 1) xs
+sampleEntries at (x ∷ xs) = plainEntry sampleKind at (length x) ∷ sampleEntries (at + length x + 1) xs
 
 -- samples follow their column line
 unfoldable pub columnEntries : ℕ → Bytes → Columns → List Entry
-columnEntries start l c = (place 9 start (length l), 0) ∷ sampleEntries (start + samplesStart) (c .samples)
-
--- the words of entries, in order
-unfoldable pub words : List Entry → List ℕ
-words [] = []
-words (e ∷ es) = e .0 ∷ e .1 ∷ words es
+columnEntries start l c = plainEntry columnsKind start (length l) ∷ sampleEntries (start + samplesStart) (c .samples)

@@ -1,6 +1,7 @@
 -- Document 01, "Lines on both sides": the starred cases as one table, computed by the checker. Assumes nothing.
 use Prim.Native.Nat.{ℕ}
 use mathlib.Core.Path.{_≡_, refl}
+use mathlib.Core.Bool.{Bool, true, false}
 use mathlib.Core.List.{List, [], _∷_, _++_, map}
 use mathlib.Core.Option.{Option, none, some}
 use Prim.Native.String.{String}
@@ -13,12 +14,12 @@ use Rattle.rules.specs.Answer.{first}
 use Rattle.rules.specs.Sizes.{limits}
 use Rattle.rules.specs.Lines.{pieces, ends, dropEnd, lineOf, writeLine, writeLines}
 use Rattle.rules.specs.Version.{Version, version, earlier, readParts, readVersion, writeVersion}
-use Rattle.rules.specs.Known.{isIn, isTyped, kindOf, alwaysMap, namesId, nameOf, letters, types, readNumber}
+use Rattle.rules.specs.Known.{INFO, FILTER, ALT, contig, other, isIn, isTyped, kindOf, alwaysMap, namesId, nameOf, letters, types, readNumber}
 use Rattle.rules.specs.Reserved.{lookRow, reserved}
 use Rattle.rules.specs.Map.{after, scan, readFields, fieldRefusal, checkFields, fieldNamed, missing, misdeclared, mapRefusal, readMap}
 use Rattle.rules.specs.Record.{looksMap, readValue as readRecordValue, readKeyed, readRecord}
 use Rattle.rules.specs.Columns.{split, afterColumns, distinct, readColumns}
-use Rattle.rules.specs.Entry.{textNamed, recordEntry, tabbed, samplesStart, sampleEntries, columnEntries, words}
+use Rattle.rules.specs.Entry.{Entry, formatKind, mapKind, textKind, columnsKind, sampleKind, plainEntry, textNamed, recordEntry, tabbed, samplesStart, sampleEntries, columnEntries}
 use Rattle.rules.specs.Reading.{beside, clash, stepText, step, run, reading}
 use Rattle.rules.specs.Meaning.{knownValue, others, saying, under, without, otherKeys, groups, meaning}
 use Rattle.rules.specs.House.{closes, isQuoted, knownFields, otherFields, recordOf, recordsOf, writeMore, writeFields, writeRecord, parted, writeColumns, houseLines, houseForm, tooLong, formOf, house}
@@ -26,42 +27,52 @@ use Rattle.rules.specs.Report.{report}
 
 -- what the definitions need to compute
 unfoldable pub opened : Unit {0}
-unfolding begins any before from same completes followers unsignedRead withoutSign numberOf decimal digitsOf written unescaped quotedText readValues readValue escape writtenField readKey readField first pieces ends dropEnd lineOf writeLine writeLines earlier starts readParts readVersion writeVersion isIn isTyped kindOf alwaysMap namesId nameOf letters types readNumber lookRow reserved after scan readFields fieldRefusal checkFields fieldNamed missing misdeclared mapRefusal readMap looksMap readRecordValue readKeyed readRecord split afterColumns distinct readColumns textNamed recordEntry tabbed samplesStart sampleEntries columnEntries words beside clash stepText step run reading knownValue others saying under without otherKeys groups meaning closes isQuoted knownFields otherFields recordOf recordsOf writeMore writeFields writeRecord parted writeColumns houseLines houseForm tooLong formOf house report
+unfolding begins any before from same completes followers unsignedRead withoutSign numberOf decimal digitsOf written unescaped quotedText readValues readValue escape writtenField readKey readField first pieces ends dropEnd lineOf writeLine writeLines earlier starts readParts readVersion writeVersion isIn isTyped kindOf alwaysMap namesId nameOf letters types readNumber lookRow reserved after scan readFields fieldRefusal checkFields fieldNamed missing misdeclared mapRefusal readMap looksMap readRecordValue readKeyed readRecord split afterColumns distinct readColumns textNamed recordEntry tabbed samplesStart sampleEntries columnEntries beside clash stepText step run reading knownValue others saying under without otherKeys groups meaning closes isQuoted knownFields otherFields recordOf recordsOf writeMore writeFields writeRecord parted writeColumns houseLines houseForm tooLong formOf house report
 opened = tt
 
--- a header, the version imposed, the table's words and the output's bytes
+-- a header, the version imposed, the entries that the table has room for and the output's bytes
 pub record Case : Type 0 where
   pub header : Bytes
   pub imposed : Option Version
   pub room : ℕ
   pub output : ℕ
 
--- number, line, start, the words kept, the form, and what the program prints
+-- number, line, start, the entries kept, the form, and what the program prints
 pub record Expected : Type 0 where
   pub number : ℕ
   pub line : ℕ
   pub start : ℕ
-  pub words : List ℕ
+  pub entries : List Entry
   pub form : Bytes
   pub printed : Bytes
 
--- a house-form call on a case, with the words of its reading and what the program prints of it
+-- a house-form call on a case, with the entries of its reading and what the program prints of it
 abbrev pub answer : Case → Expected
 answer c =
     let h = house limits (c .imposed) (c .room) (c .output) (c .header) in
     let r = reading limits (c .imposed) (c .room) (c .header) in
-    record { number = h .number; line = h .line; start = h .start; words = words (r .entries); form = h .form; printed = report r }
+    record { number = h .number; line = h .line; start = h .start; entries = r .entries; form = h .form; printed = report r }
 
 -- as document 01 has them: no version imposed, and the program's table and buffer
 abbrev pub given : Bytes → Case
-given h = record { header = h; imposed = none; room = 8192; output = 65536 }
+given h = record { header = h; imposed = none; room = 4096; output = 65536 }
 
 -- refused, with what the program prints
-abbrev pub refused : ℕ → ℕ → ℕ → List ℕ → String → Expected
-refused n l s ws p = record { number = n; line = l; start = s; words = ws; form = []; printed = ascii p ++ LF ∷ [] }
+abbrev pub refused : ℕ → ℕ → ℕ → List Entry → String → Expected
+refused n l s es p = record { number = n; line = l; start = s; entries = es; form = []; printed = ascii p ++ LF ∷ [] }
 
-abbrev pub accepted : ℕ → ℕ → List ℕ → Bytes → String → Expected
-accepted l s ws f p = record { number = 0; line = l; start = s; words = ws; form = f; printed = ascii p ++ LF ∷ [] }
+abbrev pub accepted : ℕ → ℕ → List Entry → Bytes → String → Expected
+accepted l s es f p = record { number = 0; line = l; start = s; entries = es; form = f; printed = ascii p ++ LF ∷ [] }
+
+-- an entry with its ID's text, bare or quoted, at an offset of its line
+abbrev pub identified : Bool → ℕ → ℕ → ℕ → ℕ → ℕ → Entry
+identified q kind start len offset n = record { kind = kind; start = start; length = len; offset = offset; idLength = n; quoted = q; tag = 0 }
+
+abbrev pub bareId : ℕ → ℕ → ℕ → ℕ → ℕ → Entry
+bareId = identified false
+
+abbrev pub quotedId : ℕ → ℕ → ℕ → ℕ → ℕ → Entry
+quotedId = identified true
 
 abbrev pub F : Bytes
 F = ascii "##fileformat=VCFv4.3\n"
@@ -72,9 +83,9 @@ F2 = ascii "##fileformat=VCFv4.2\n"
 abbrev pub COLS : Bytes
 COLS = ascii "#CHROM\tPOS\tID\tREF\tALT\tQUAL\tFILTER\tINFO\n"
 
--- the fileformat line's words
-abbrev pub W : List ℕ
-W = 0x1000000014000000 ∷ 0 ∷ []
+-- the fileformat line's entry
+abbrev pub W : List Entry
+W = plainEntry formatKind 0 20 ∷ []
 
 -- the 83 bytes
 abbrev pub cell : Bytes
@@ -88,30 +99,30 @@ abbrev pub starred : List (Case × Expected)
 starred =
     (given [], refused 25 0 0 [] "refused 25 line=0 offset=0")
     ∷ (given F, refused 26 1 21 W "refused 26 line=1 offset=21")
-    ∷ (given cell, accepted 3 83 (W ++ 0x7000150016000000 ∷ 0x000B000300000000 ∷ 0x90002C0026000000 ∷ 0 ∷ []) cell "ok version=4.3 entries=3 samples=0")
+    ∷ (given cell, accepted 3 83 (W ++ bareId (mapKind other) 21 22 11 3 ∷ plainEntry columnsKind 44 38 ∷ []) cell "ok version=4.3 entries=3 samples=0")
     ∷ (
       given (F ++ (ascii "##cell=<K=\"0.98\",ID=\"W07\">\n" ++ COLS)),
-      accepted 3 87 (W ++ 0x700015001A000000 ∷ 0x0015000380000000 ∷ 0x9000300026000000 ∷ 0 ∷ []) cell "ok version=4.3 entries=3 samples=0",
+      accepted 3 87 (W ++ quotedId (mapKind other) 21 26 21 3 ∷ plainEntry columnsKind 48 38 ∷ []) cell "ok version=4.3 entries=3 samples=0",
     )
     ∷ (
       given (F ++ (ascii "##contig=<ID=c,IDX=+5>\n" ++ COLS)),
-      accepted 3 83 (W ++ 0x6000150016000000 ∷ 0x000D000100000000 ∷ 0x90002C0026000000 ∷ 0 ∷ []) (F ++ (ascii "##contig=<ID=c,IDX=5>\n" ++ COLS)) "ok version=4.3 entries=3 samples=0",
+      accepted 3 83 (W ++ bareId (mapKind contig) 21 22 13 1 ∷ plainEntry columnsKind 44 38 ∷ []) (F ++ (ascii "##contig=<ID=c,IDX=5>\n" ++ COLS)) "ok version=4.3 entries=3 samples=0",
     )
     ∷ (given (F ++ (ascii "##contig=<ID=c,IDX=-0>\n" ++ COLS)), refused 13 2 21 W "refused 13 line=2 offset=21")
     ∷ (given (F ++ ascii "#CHROM\tPOS\tID\tREF\tALT\tQUAL\tFILTER\tINFO\tFORMAT\ta\ta\n"), refused 23 2 21 W "refused 23 line=2 offset=21")
     ∷ (
       given (F ++ ascii "#CHROM\tPOS\tID\tREF\tALT\tQUAL\tFILTER\tINFO\tFORMAT\n"),
-      accepted 2 67 (W ++ 0x900015002D000000 ∷ 0 ∷ []) (F ++ ascii "#CHROM\tPOS\tID\tREF\tALT\tQUAL\tFILTER\tINFO\tFORMAT\n") "ok version=4.3 entries=2 samples=0",
+      accepted 2 67 (W ++ plainEntry columnsKind 21 45 ∷ []) (F ++ ascii "#CHROM\tPOS\tID\tREF\tALT\tQUAL\tFILTER\tINFO\tFORMAT\n") "ok version=4.3 entries=2 samples=0",
     )
     ∷ (given (F ++ ascii "#CHROM\tPOS\tID\tREF\tALT\tQUAL\tFILTER\tINFO\t\n"), refused 22 2 21 W "refused 22 line=2 offset=21")
     ∷ (
       given (F ++ (ascii "##META=<ID=x,Values=[a,b]>\n" ++ COLS)),
-      accepted 3 87 (W ++ 0x700015001A000000 ∷ 0x000B000100000000 ∷ 0x9000300026000000 ∷ 0 ∷ []) (F ++ (ascii "##META=<ID=x,Values=[a,b]>\n" ++ COLS)) "ok version=4.3 entries=3 samples=0",
+      accepted 3 87 (W ++ bareId (mapKind other) 21 26 11 1 ∷ plainEntry columnsKind 48 38 ∷ []) (F ++ (ascii "##META=<ID=x,Values=[a,b]>\n" ++ COLS)) "ok version=4.3 entries=3 samples=0",
     )
     ∷ (given (F2 ++ (ascii "##META=<ID=x,Values=[a,b]>\n" ++ COLS)), refused 9 2 21 W "refused 9 line=2 offset=21")
     ∷ (given (F2 ++ (ascii "##PEDIGREE=<Child=x,Derived=y>\n" ++ COLS)), refused 10 2 21 W "refused 10 line=2 offset=21")
     ∷ (given (F ++ (ascii "##PEDIGREE=<Child=x,Derived=y>\n" ++ COLS)), refused 14 2 21 W "refused 14 line=2 offset=21")
-    ∷ (given filters, refused 19 3 51 (W ++ 0x300015001D000000 ∷ 0x000D000100000000 ∷ []) "refused 19 line=3 offset=51")
+    ∷ (given filters, refused 19 3 51 (W ++ bareId (mapKind FILTER) 21 29 13 1 ∷ []) "refused 19 line=3 offset=51")
     ∷ []
 
 pub starred-cases : map (λ (e : Case × Expected). answer (e .0)) starred ≡ map (λ (e : Case × Expected). e .1) starred
@@ -138,29 +149,29 @@ pinned =
     -- before 4.3 reserved IDs are unchecked
     ∷ (
       given (F2 ++ ascii "##INFO=<ID=DP,Number=2,Type=Integer,Description=x>\n"),
-      refused 26 2 72 (W ++ 0x2000150032000000 ∷ 0x000B000200000000 ∷ []) "refused 26 line=2 offset=72",
+      refused 26 2 72 (W ++ bareId (mapKind INFO) 21 50 11 2 ∷ []) "refused 26 line=2 offset=72",
     )
     -- IDs are compared by meaning
     ∷ (
       at2 (ascii "##a=<ID=x\\y>\n##a=<ID=\"x\\\\y\">\n"),
-      refused 21 3 34 (W ++ 0x700015000C000000 ∷ 0x0008000300000000 ∷ []) "refused 21 line=3 offset=34",
+      refused 21 3 34 (W ++ bareId (mapKind other) 21 12 8 3 ∷ []) "refused 21 line=3 offset=34",
     )
     -- room for one entry: the line's own check comes first, then 24
-    ∷ (record { header = F ++ COLS; imposed = none; room = 3; output = 0 }, refused 24 2 21 W "refused 24 line=2 offset=21")
+    ∷ (record { header = F ++ COLS; imposed = none; room = 1; output = 0 }, refused 24 2 21 W "refused 24 line=2 offset=21")
     -- an imposed version is in force, and the file's own is no part of the meaning
     ∷ (
-      record { header = F2 ++ COLS; imposed = some (version 4 10); room = 4; output = 99 },
-      accepted 2 60 (W ++ 0x9000150026000000 ∷ 0 ∷ []) (ascii "##fileformat=VCFv4.10\n" ++ COLS) "ok version=4.10 entries=2 samples=0",
+      record { header = F2 ++ COLS; imposed = some (version 4 10); room = 2; output = 99 },
+      accepted 2 60 (W ++ plainEntry columnsKind 21 38 ∷ []) (ascii "##fileformat=VCFv4.10\n" ++ COLS) "ok version=4.10 entries=2 samples=0",
     )
     -- a form that the output cannot hold
     ∷ (
-      record { header = cell; imposed = none; room = 6; output = 82 },
-      record { number = 28; line = 0; start = 0; words = W ++ 0x7000150016000000 ∷ 0x000B000300000000 ∷ 0x90002C0026000000 ∷ 0 ∷ []; form = []; printed = ascii "ok version=4.3 entries=3 samples=0\n" },
+      record { header = cell; imposed = none; room = 3; output = 82 },
+      record { number = 28; line = 0; start = 0; entries = W ++ bareId (mapKind other) 21 22 11 3 ∷ plainEntry columnsKind 44 38 ∷ []; form = []; printed = ascii "ok version=4.3 entries=3 samples=0\n" },
     )
     -- the form's order, quotes, Values, and a text that ends in CR
     ∷ (
       given (F ++ (ascii "##META=<Values=\"[a\",K=\"]\",ID=x>\n##n=t\r\r\n##ALT=<Description=d,ID=\"a,b\">\n#CHROM\tPOS\tID\tREF\tALT\tQUAL\tFILTER\tINFO\tFORMAT\ts")),
-      accepted 5 139 (W ++ 0x700015001F000000 ∷ 0x001D000100000000 ∷ 0x8000350006000000 ∷ 0 ∷ 0x50003D001E000000 ∷ 0x0019000380000000 ∷ 0x90005C002F000000 ∷ 0 ∷ 0xA0008A0001000000 ∷ 0 ∷ [])
+      accepted 5 139 (W ++ bareId (mapKind other) 21 31 29 1 ∷ plainEntry textKind 53 6 ∷ quotedId (mapKind ALT) 61 30 25 3 ∷ plainEntry columnsKind 92 47 ∷ plainEntry sampleKind 138 1 ∷ [])
           (F ++ ascii "##ALT=<ID=\"a,b\",Description=\"d\">\n##META=<ID=x,Values=\"[a\",K=]>\n##n=t\r\r\n#CHROM\tPOS\tID\tREF\tALT\tQUAL\tFILTER\tINFO\tFORMAT\ts\n") "ok version=4.3 entries=6 samples=1",
     )
     ∷ []

@@ -14,3 +14,4 @@ pub mod Meaning
 pub mod House
 pub mod Report
 pub mod Examples
+pub mod Numbered

@@ -1,5 +1,5 @@
 -- Document 01, "Lines" and "Refusal numbers": the line machine, and the reading of a whole header. Assumes nothing.
-use Prim.Native.Nat.{ℕ, suc, _+_, _*_}
+use Prim.Native.Nat.{ℕ, suc, _+_}
 use mathlib.Core.Bool.{Bool, true, false}
 use mathlib.Core.List.{List, [], _∷_, _++_}
 use mathlib.Core.Option.{Option}
@@ -115,12 +115,12 @@ atEnd n size empty = stop 25 0 0 empty
 atEnd n size (ready v rs) = stop 26 n size (ready v rs)
 atEnd n size (done v rs c) = stop 0 n size (done v rs c)
 
--- the pieces after n lines, `start` bytes and `count` entries; `room` is the table's words, two for each entry
+-- the pieces after n lines, `start` bytes and `count` entries; the table has room for `room` of these
 unfoldable pub run : Limits → Option Version → ℕ → ℕ → ℕ → ℕ → State → List Bytes → Reading
 run lim imposed room n start count s [] = atEnd n start s
 run lim imposed room n start count s (p ∷ ps) = elim (step lim imposed start s (lineOf p)) [
   | refuse m ↦ stop m (suc n) start s
-  | ok q ↦ elim (leb (2 * (count + length (q .1))) room) [
+  | ok q ↦ elim (leb (count + length (q .1)) room) [
     | true ↦ following (q .1) (run lim imposed room (suc n) (start + length p) (count + length (q .1)) (q .0) ps)
     | false ↦ stop 24 (suc n) start s
   ]

@@ -1,43 +1,19 @@
--- Document 01, "Entries" and refusal 29: what the calls on an entry number show. Assumes nothing.
-use Prim.Native.Nat.{ℕ, suc, _+_, _*_, _^_, _/_, _%_}
-use mathlib.Core.Bool.{Bool, true, false, _||_, _&&_}
+-- Document 01, "Entries" and refusal 29: which entries are well formed, and what the calls show of one. Assumes nothing.
+use Prim.Native.Nat.{ℕ, suc, _+_}
+use mathlib.Core.Bool.{Bool, true, false, not, _||_, _&&_}
 use mathlib.Core.List.{List, [], _∷_}
 use mathlib.Core.Option.{Option, none, some}
-use lib.Dec.{eqb, leb, ltb}
-use lib.ListN.{length, getD, take, drop}
+use lib.Dec.{eqb, leb}
+use lib.ListN.{length, take, drop}
 use Rattle.values.specs.Bytes.{Bytes}
 use Rattle.values.specs.Utf8.{isUtf8}
+use Rattle.values.specs.Value.{meaning}
 use Rattle.values.specs.Field.{Field, writtenField}
 use Rattle.rules.specs.Answer.{Answer, ok, refuse}
 use Rattle.rules.specs.Version.{Version}
 use Rattle.rules.specs.Known.{kindOf}
 use Rattle.rules.specs.Record.{Record, fileformat, fields, text, readRecord}
-use Rattle.rules.specs.Entry.{kindNumber, fieldsStart}
-
--- n bits of a word, above the k lowest
-abbrev pub bits : ℕ → ℕ → ℕ → ℕ
-bits k n w = w / 2 ^ k % 2 ^ n
-
-abbrev pub kindIn : ℕ → ℕ
-kindIn = bits 60 4
-
-abbrev pub startIn : ℕ → ℕ
-startIn = bits 40 20
-
-abbrev pub lengthIn : ℕ → ℕ
-lengthIn = bits 24 16
-
-abbrev pub offsetIn : ℕ → ℕ
-offsetIn = bits 48 16
-
-abbrev pub idLengthIn : ℕ → ℕ
-idLengthIn = bits 32 16
-
-abbrev pub quotedIn : ℕ → Bool
-quotedIn w = eqb (bits 31 1 w) 1
-
-abbrev pub tagIn : ℕ → ℕ
-tagIn = bits 29 2
+use Rattle.rules.specs.Entry.{Entry, mapKind, fieldsStart}
 
 -- a part of the header: its start and its end
 abbrev pub Part : Type 0
@@ -47,41 +23,40 @@ Part = ℕ × ℕ
 abbrev pub hasId : ℕ → Bool
 hasId kind = leb 2 kind && leb kind 7
 
--- an entry's words in a header of `size` bytes
-unfoldable pub wellFormed : ℕ → ℕ → ℕ → Bool
-wellFormed size w x =
-    leb 1 (kindIn w) && leb (kindIn w) 10
-    && eqb (bits 0 24 w) 0 && eqb (bits 0 29 x) 0
-    && (eqb (tagIn x) 0 || (eqb (kindIn w) 7 && leb (tagIn x) 2))
-    && (hasId (kindIn w) || eqb x 0)
-    && leb (startIn w + lengthIn w) size
-    && leb (offsetIn x + idLengthIn x) (lengthIn w)
+-- nothing is said of an ID
+unfoldable pub saysNoId : Entry → Bool
+saysNoId e = eqb (e .offset) 0 && (eqb (e .idLength) 0 && (not (e .quoted) && eqb (e .tag) 0))
 
--- the words of entry n, if they lie in the table and are well formed
-unfoldable pub entryAt : Bytes → List ℕ → ℕ → Option (ℕ × ℕ)
-entryAt h table n = elim (ltb (2 * n + 1) (length table) && wellFormed (length h) (getD table (2 * n) 0) (getD table (2 * n + 1) 0)) [
-  | true ↦ some (getD table (2 * n) 0, getD table (2 * n + 1) 0)
-  | false ↦ none
-]
+-- kind is 1 to 10, tag is 0 (in kind 7 at most 2), no ID but in its kinds; the line lies in a header of `size` bytes, and the ID in the line
+unfoldable pub wellFormed : ℕ → Entry → Bool
+wellFormed size e =
+    (leb 1 (e .kind) && leb (e .kind) 10)
+    && ((eqb (e .tag) 0 || (eqb (e .kind) 7 && leb (e .tag) 2))
+    && ((hasId (e .kind) || saysNoId e)
+    && (leb (e .start + e .length) size && leb (e .offset + e .idLength) (e .length))))
 
-abbrev pub entryPart : Option (ℕ × ℕ) → Option Part
-entryPart none = none
-entryPart (some e) = some (startIn (e .0), startIn (e .0) + lengthIn (e .0))
+-- the line of an entry, or the sample name
+unfoldable pub lineIn : Bytes → Entry → Bytes
+lineIn h e = take (e .length) (drop (e .start) h)
+
+-- the ID's text, without quotes, and what it means
+unfoldable pub idIn : Bytes → Entry → Bytes
+idIn h e = take (e .idLength) (drop (e .start + e .offset) h)
+
+abbrev pub idMeaning : Bytes → Entry → Bytes
+idMeaning h e = meaning (e .quoted) (idIn h e)
+
+-- What the calls show of an entry; none is refusal 29
 
 -- the entry call
-abbrev pub shownEntry : Bytes → List ℕ → ℕ → Option Part
-shownEntry h table n = entryPart (entryAt h table n)
+abbrev pub entryPart : Option Entry → Option Part
+entryPart none = none
+entryPart (some e) = some (e .start, e .start + e .length)
 
-abbrev pub idPart : Option (ℕ × ℕ) → Option Part
+-- the ID call
+abbrev pub idPart : Option Entry → Option Part
 idPart none = none
-idPart (some e) = elim (hasId (kindIn (e .0))) [
-  | true ↦ some (startIn (e .0) + offsetIn (e .1), startIn (e .0) + offsetIn (e .1) + idLengthIn (e .1))
-  | false ↦ none
-]
-
--- the ID call: the ID's text, without quotes
-abbrev pub shownId : Bytes → List ℕ → ℕ → Option Part
-shownId h table n = idPart (entryAt h table n)
+idPart (some e) = elim (hasId (e .kind)) [ true ↦ some (e .start + e .offset, e .start + e .offset + e .idLength) | false ↦ none ]
 
 -- field i of the fields that stand at the place `at`, parted by `,`: key through value
 unfoldable pub fieldPart : ℕ → List Field → ℕ → Option Part
@@ -94,14 +69,10 @@ abbrev pub fieldsPart : ℕ → ℕ → Answer Record → ℕ → Option Part
 fieldsPart start kind (refuse n) i = none
 fieldsPart start kind (ok (fileformat v)) i = none
 fieldsPart start kind (ok (text k t)) i = none
-fieldsPart start kind (ok (fields k fs)) i = elim (eqb (kindNumber (kindOf k)) kind) [ true ↦ fieldPart (start + fieldsStart k) fs i | false ↦ none ]
-
-abbrev pub linePart : Bytes → Version → ℕ → Option (ℕ × ℕ) → Option Part
-linePart h v i none = none
-linePart h v i (some e) =
-    let l = take (lengthIn (e .0)) (drop (startIn (e .0)) h) in
-    elim (hasId (kindIn (e .0)) && isUtf8 l) [ true ↦ fieldsPart (startIn (e .0)) (kindIn (e .0)) (readRecord v l) i | false ↦ none ]
+fieldsPart start kind (ok (fields k fs)) i = elim (eqb (mapKind (kindOf k)) kind) [ true ↦ fieldPart (start + fieldsStart k) fs i | false ↦ none ]
 
 -- the field call: field i, from 0, of the entry's line under the version given
-abbrev pub shownField : Bytes → List ℕ → ℕ → Version → ℕ → Option Part
-shownField h table n v i = linePart h v i (entryAt h table n)
+abbrev pub linePart : Bytes → Version → ℕ → Option Entry → Option Part
+linePart h v i none = none
+linePart h v i (some e) =
+    elim (hasId (e .kind) && isUtf8 (lineIn h e)) [ true ↦ fieldsPart (e .start) (e .kind) (readRecord v (lineIn h e)) i | false ↦ none ]

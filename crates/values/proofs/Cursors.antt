@@ -7,13 +7,13 @@ use mathlib.Core.List.{[], _∷_}
 use lib.Dec.{eqb}
 use lib.ListN.{length, getD, drop, drop-of-length-le}
 use borrow.Author.Tests.{eq-eqb, ne-eqb, eqb-true, eqb-false}
-use Rattle.values.specs.Bytes.{Bytes}
-use Rattle.values.specs.Value.{unescaped, meaning}
-use Rattle.values.specs.Places.{to, byteAt, unescapedFrom, unescapedAt}
+use Rattle.values.specs.Bytes.{Bytes, is}
+use Rattle.values.specs.Value.{isEscapable, unescaped, meaning}
+use Rattle.values.specs.Places.{to, byteAt, escapes, unescapedFrom, unescapedAt}
 use Rattle.values.specs.declared.cursor.Cursor.{Cursor}
 use Rattle.values.specs.declared.cursor.ByteRead.{ByteRead}
 use Rattle.values.specs.declared.cursor.ByteRead.the-variants.{Byte, End}
-use Rattle.values.proofs.Tests.{pass, fail, test, not-true, not-false, never}
+use Rattle.values.proofs.Tests.{pass, fail, test, or-r, not-true, not-false, both, never}
 use Rattle.values.proofs.Lists.{there, past, stands, drop-past, here}
 
 pub byte-there : (s : Bytes) (i : ℕ) → i < length s → Byte (getD s i 0) (to (i + 1)) ≡ byteAt s i
@@ -32,6 +32,15 @@ byte-read s i {b} {c} e = elim (stands s i) [
   | past h ↦ let f : End ≡ Byte b c = byte-past s i h ∙ e in never cc
 ]
 
+none-escapes : (s : Bytes) (i : ℕ) → byteAt s i ≡ End → escapes (drop i s) ≡ false
+none-escapes s i e = elim (stands s i) [
+  | there h ↦ let f : Byte (getD s i 0) (to (i + 1)) ≡ End = byte-there s i h ∙ e in cc
+  | past h ↦ rw (drop-past s i h)
+]
+
+one-escapes : (s : Bytes) (i : ℕ) {b : ℕ} {c : Cursor} → byteAt s i ≡ Byte b c → escapes (drop i s) ≡ isEscapable b
+one-escapes s i e = let r = byte-read s i e in let h = r .2 in rw (here s i, r .0)
+
 pub unescaped-past : (q : Bool) (s : Bytes) (i : ℕ) → length s ≤ i → unescapedAt q s i ≡ End
 unfolding unescapedAt
 unescaped-past true s i h = rw (drop-past s i h)
@@ -46,9 +55,14 @@ module _ (s : Bytes) (i : ℕ) (h : i < length s) where
   unfolding unescapedAt
   unescaped-plain ne = rw (here s i) (rw (ne-eqb (getD s i 0) 92 ne, unescapedFrom))
 
-  pub unescaped-slash : getD s i 0 ≡ 92 → unescapedAt true s i ≡ byteAt s (i + 1)
-  unfolding unescapedAt
-  unescaped-slash e = rw (here s i) (rw (eq-eqb (getD s i 0) 92 e, unescapedFrom))
+  module _ (e : getD s i 0 ≡ 92) where
+    pub unescaped-slash : escapes (drop (i + 1) s) ≡ true → unescapedAt true s i ≡ byteAt s (i + 1)
+    unfolding unescapedAt
+    unescaped-slash f = rw (here s i) (rw (eq-eqb (getD s i 0) 92 e, f, unescapedFrom))
+
+    pub unescaped-stray : escapes (drop (i + 1) s) ≡ false → unescapedAt true s i ≡ byteAt s i
+    unfolding unescapedAt
+    unescaped-stray f = rw (here s i) (rw (eq-eqb (getD s i 0) 92 e, f, unescapedFrom))
 
 -- r is the byte that the code read at i
 module _ (q : Bool) (s : Bytes) (i : ℕ) {r : ByteRead} (a : r ≡ byteAt s i) where
@@ -68,12 +82,27 @@ module _ (q : Bool) (s : Bytes) (i : ℕ) {r : ByteRead} (a : r ≡ byteAt s i) 
     pub quoted-byte : not q ≡ false → (b ≡ 92 → ⊥) → Byte b c ≡ unescapedAt q s i
     quoted-byte n ne = sym e ∙ a ∙ rw (not-false q n, unescaped-plain s i (read .2) (rw (read .0) ne))
 
-    pub slash-byte : not q ≡ false → b ≡ 92 → {r′ : ByteRead} → r′ ≡ byteAt s (c .at) → r′ ≡ unescapedAt q s i
-    slash-byte n w a′ =
-        a′ ∙ ap (λ (d : Cursor). byteAt s (d .at)) (read .1) ∙ rw (not-false q n, unescaped-slash s i (read .2) (read .0 ∙ w))
+    -- r′ is the one that the code read after a backslash
+    module _ (n : not q ≡ false) (w : b ≡ 92) {r′ : ByteRead} (a′ : r′ ≡ byteAt s (c .at)) where
+      after : r′ ≡ byteAt s (i + 1)
+      after = a′ ∙ ap (λ (d : Cursor). byteAt s (d .at)) (read .1)
+
+      stray : escapes (drop (i + 1) s) ≡ false → Byte b c ≡ unescapedAt q s i
+      stray f = sym e ∙ a ∙ rw (not-false q n, unescaped-stray s i (read .2) (read .0 ∙ w) f)
+
+      pub last-slash : r′ ≡ End → Byte b c ≡ unescapedAt q s i
+      last-slash z = stray (none-escapes s (i + 1) (sym after ∙ z))
+
+      module _ {x : ℕ} {d : Cursor} (z : r′ ≡ Byte x d) {t : Bool} (u : t ≡ isEscapable x) where
+        pub slash-byte : t ≡ true → Byte x d ≡ unescapedAt q s i
+        slash-byte y =
+            sym z ∙ after ∙ rw (not-false q n, unescaped-slash s i (read .2) (read .0 ∙ w) (one-escapes s (i + 1) (sym after ∙ z) ∙ sym u ∙ y))
+
+        pub stray-slash : t ≡ false → Byte b c ≡ unescapedAt q s i
+        stray-slash y = stray (one-escapes s (i + 1) (sym after ∙ z) ∙ sym u ∙ y)
 
 -- what answers the needs of `next_unescaped`
-pub ruleset unescapes = (no-byte, bare-byte, quoted-byte, slash-byte)
+pub ruleset unescapes = (no-byte, bare-byte, quoted-byte, last-slash, slash-byte, stray-slash)
 
 meaning-slash : (b : ℕ) (bs : Bytes) → b ≡ 92 → meaning true (b ∷ bs) ≡ unescaped true bs
 unfolding unescaped
@@ -82,6 +111,16 @@ meaning-slash b bs e = rw (eq-eqb b 92 e, unescaped)
 meaning-plain : (b : ℕ) (bs : Bytes) → (b ≡ 92 → ⊥) → meaning true (b ∷ bs) ≡ b ∷ meaning true bs
 unfolding unescaped
 meaning-plain b bs ne = rw (ne-eqb b 92 ne, unescaped)
+
+escaped-means : (b : ℕ) (bs : Bytes) → isEscapable b ≡ true → unescaped true (b ∷ bs) ≡ b ∷ meaning true bs
+unfolding unescaped
+escaped-means b bs e = rw (e, unescaped)
+
+-- a backslash before another byte, or at the end, means itself
+stray-means : (bs : Bytes) → escapes bs ≡ false → unescaped true bs ≡ 92 ∷ meaning true bs
+unfolding unescaped
+stray-means [] e = refl
+stray-means (b ∷ bs) e = rw (e, or-r (is 34 b) (is 92 b) e, unescaped)
 
 pub meaning-nil : (q : Bool) → meaning q [] ≡ []
 unfolding unescaped
@@ -101,10 +140,15 @@ shows-there true s i h = elim (test (eqb (getD s i 0) 92)) [
       rw (unescaped-plain s i h ne, ← byte-there s i h) (rw (here s i) (meaning-plain (getD s i 0) (drop (i + 1) s) ne), omega arith, omega arith)
   | pass e ↦ let w = eqb-true (getD s i 0) 92 e in
       let m : meaning true (drop i s) ≡ unescaped true (drop (i + 1) s) = rw (here s i) (meaning-slash (getD s i 0) (drop (i + 1) s) w) in
-      rw (unescaped-slash s i h w) (elim (stands s (i + 1)) [
-        | there l ↦ rw (← byte-there s (i + 1) l) (m ∙ rw (here s (i + 1)), omega arith, omega arith)
-        | past l ↦ rw (← byte-past s (i + 1) l) (m ∙ rw (drop-past s (i + 1) l))
-      ])
+      elim (test (escapes (drop (i + 1) s))) [
+        | fail f ↦ rw (unescaped-stray s i h w f, ← byte-there s i h) (m ∙ stray-means (drop (i + 1) s) f ∙ rw w, omega arith, omega arith)
+        | pass f ↦ rw (unescaped-slash s i h w f) (elim (stands s (i + 1)) [
+          | there l ↦
+              let x : isEscapable (getD s (i + 1) 0) ≡ true = rw (here s (i + 1)) at f in
+              rw (← byte-there s (i + 1) l) (m ∙ rw (here s (i + 1)) (escaped-means (getD s (i + 1) 0) (drop (i + 1 + 1) s) x), omega arith, omega arith)
+          | past l ↦ both f (rw (drop-past s (i + 1) l))
+        ])
+      ]
 ]
 
 pub shows : (q : Bool) (s : Bytes) (i : ℕ) → Shows q s i (unescapedAt q s i)

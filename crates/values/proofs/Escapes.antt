@@ -29,12 +29,20 @@ pub unescaped-plain : (b : ℕ) (bs : Bytes) → is 92 b ≡ false → unescaped
 unfolding unescaped
 unescaped-plain b bs e = rw (e, unescaped)
 
+pub unescaped-escaped : (b : ℕ) (bs : Bytes) → isEscapable b ≡ true → unescaped true (b ∷ bs) ≡ b ∷ unescaped false bs
+unfolding unescaped
+unescaped-escaped b bs e = rw (e, unescaped)
+
+pub unescaped-stray : (b : ℕ) (bs : Bytes) → isEscapable b ≡ false → unescaped true (b ∷ bs) ≡ 92 ∷ b ∷ unescaped false bs
+unfolding unescaped
+unescaped-stray b bs e = rw (e, unescaped)
+
 -- what is escaped is unescaped to itself
 pub unescaped-escape : (v : Bytes) → unescaped false (escape v) ≡ v
 unfolding escape unescaped
 unescaped-escape [] = refl
 unescaped-escape (b ∷ v) = elim (test (isEscapable b)) [
-  | pass e ↦ rw (escape-slash b v e) (ap (b ∷_) (unescaped-escape v))
+  | pass e ↦ rw (escape-slash b v e) (unescaped-escaped b (escape v) e ∙ ap (b ∷_) (unescaped-escape v))
   | fail e ↦ rw (escape-plain b v e, unescaped-plain b (escape v) (or-r (is 34 b) (is 92 b) e)) (ap (b ∷_) (unescaped-escape v))
 ]
 
@@ -58,15 +66,22 @@ any-escape t (b ∷ v) s h = elim (test (isEscapable b)) [
   | fail e ↦ rw (escape-plain b v e, or-l (t b) (any t v) h) (any-escape t v s (or-r (t b) (any t v) h))
 ]
 
-pub any-unescaped : (t : ℕ → Bool) (e : Bool) (bs : Bytes) → any t bs ≡ false → any t (unescaped e bs) ≡ false
+any-unescaped-after : (t : ℕ → Bool) (e : Bool) (bs : Bytes) → (e ≡ true → t 92 ≡ false) → any t bs ≡ false → any t (unescaped e bs) ≡ false
 unfolding any unescaped
-any-unescaped t true [] h = refl
-any-unescaped t false [] h = refl
-any-unescaped t true (b ∷ bs) h = rw (or-l (t b) (any t bs) h) (any-unescaped t false bs (or-r (t b) (any t bs) h))
-any-unescaped t false (b ∷ bs) h = elim (test (is 92 b)) [
-  | pass e ↦ rw (unescaped-slash b bs e) (any-unescaped t true bs (or-r (t b) (any t bs) h))
-  | fail e ↦ rw (unescaped-plain b bs e, or-l (t b) (any t bs) h) (any-unescaped t false bs (or-r (t b) (any t bs) h))
+any-unescaped-after t true [] s h = rw (s refl)
+any-unescaped-after t false [] s h = refl
+any-unescaped-after t true (b ∷ bs) s h = elim (test (isEscapable b)) [
+  | pass e ↦ rw (unescaped-escaped b bs e, or-l (t b) (any t bs) h) (any-unescaped-after t false bs (λ x. cc) (or-r (t b) (any t bs) h))
+  | fail e ↦ rw (unescaped-stray b bs e, s refl, or-l (t b) (any t bs) h) (any-unescaped-after t false bs (λ x. cc) (or-r (t b) (any t bs) h))
 ]
+any-unescaped-after t false (b ∷ bs) s h = elim (test (is 92 b)) [
+  | pass e ↦ rw (unescaped-slash b bs e)
+      (any-unescaped-after t true bs (λ x. rw (eqb-true b 92 e) at (or-l (t b) (any t bs) h)) (or-r (t b) (any t bs) h))
+  | fail e ↦ rw (unescaped-plain b bs e, or-l (t b) (any t bs) h) (any-unescaped-after t false bs (λ x. cc) (or-r (t b) (any t bs) h))
+]
+
+pub any-unescaped : (t : ℕ → Bool) (bs : Bytes) → any t bs ≡ false → any t (unescaped false bs) ≡ false
+any-unescaped t bs h = any-unescaped-after t false bs (λ x. cc) h
 
 -- a byte that is due is no ASCII byte
 due-high : (r : Range) (b c : ℕ) → 128 ≤ r .low → within r b ≡ true → c < 128 → is c b ≡ false
@@ -108,10 +123,14 @@ utf8-escape v c = escape-due [] v tt c
 
 unescaped-due : (e : Bool) (due : List Range) (bs : Bytes) → (e ≡ true → due ≡ []) → High due → completes due bs ≡ true → completes due (unescaped e bs) ≡ true
 unfolding unescaped
-unescaped-due true due [] n h c = c
+unescaped-due true due [] n h c = rw (n refl) (utf8-ascii 92 [] (omega arith) ∙ rw (n refl) at c)
 unescaped-due false due [] n h c = c
 unescaped-due true due (b ∷ bs) n h c =
-    rw (n refl) (first-kept (unescaped false) b bs (λ p hp cp. unescaped-due false p bs (λ x. cc) hp cp) (rw (n refl) at c))
+    let k : completes [] (b ∷ unescaped false bs) ≡ true = first-kept (unescaped false) b bs (λ p hp cp. unescaped-due false p bs (λ x. cc) hp cp) (rw (n refl) at c) in
+    rw (n refl) (elim (test (isEscapable b)) [
+      | pass e ↦ rw (unescaped-escaped b bs e) k
+      | fail e ↦ rw (unescaped-stray b bs e) (utf8-ascii 92 (b ∷ unescaped false bs) (omega arith) ∙ k)
+    ])
 unescaped-due false [] (b ∷ bs) n h c = elim (test (is 92 b)) [
   | pass e ↦ rw (unescaped-slash b bs e) (unescaped-due true [] bs (λ x. refl) tt (sym (utf8-ascii 92 bs (omega arith)) ∙ rw (eqb-true b 92 e) at c))
   | fail e ↦ rw (unescaped-plain b bs e) (first-kept (unescaped false) b bs (λ p hp cp. unescaped-due false p bs (λ x. cc) hp cp) c)

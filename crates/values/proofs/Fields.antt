@@ -10,7 +10,7 @@ use lib.Seq.{take-at, drop-at, drop-drop}
 use borrow.Author.Tests.{eq-eqb, ne-eqb, eqb-true}
 use Rattle.values.specs.Bytes.{Bytes, ascii, is, empty, begins, any, before, from, same}
 use Rattle.values.specs.Value.{Value, written, readValue}
-use Rattle.values.specs.Field.{Field, writtenField, isForbidden, endsKey, isKey, readKey, withValue, mayBracket, withKey, readField}
+use Rattle.values.specs.Field.{writtenField, isForbidden, endsKey, isKey, readKey, withValue, mayBracket, withKey, readField}
 use Rattle.values.specs.Places.{to, valuePlaced, valueAt, keyPlaced, keyAt, fieldPlaced, fieldAt, separatorPlaced, separatorAt}
 use Rattle.values.specs.declared.cursor.Cursor.{Cursor}
 use Rattle.values.specs.declared.string.Text.{Text}

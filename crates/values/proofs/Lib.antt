@@ -10,6 +10,7 @@ pub mod Outputs
 pub mod Scans
 pub mod Cursors
 pub mod Meanings
+pub mod Hashes
 pub mod Markings
 pub mod Values
 pub mod Fields

@@ -1,113 +1,148 @@
--- Marks: a turn of the hash's loop on plain values, a slot, and what stays marked. Assumes nothing.
-use Prim.Native.Nat.{ℕ, _+_, _*_, _%_, _<_}
+-- Marks: a byte and its bit, and what stays marked. Assumes nothing.
+use Prim.Native.Nat.{ℕ, _-_, _*_, _/_, _%_, _^_, _≤_, _<_, min, max}
 use native.Mathlib.Omega.{arith}
-use native.Mathlib.Nat.{mod-lt}
-use mathlib.Core.Path.{_≡_, refl, sym, _∙_}
-use mathlib.Core.Bool.{Bool, true, false, _&&_}
+use native.Mathlib.Nat.{mod-lt, mul-le-mul, div-lt-iff-lt-mul, min-le-left, min-eq-left, min-eq-right}
+use mathlib.Core.Path.{_≡_, refl}
+use mathlib.Core.Bool.{Bool, true, false, not, _&&_}
 use mathlib.Core.List.{[], _∷_}
+use lib.Arith.{bin-ind}
+use lib.Bits.{bitAnd, bitOr, and-step, or-step, or-comm, and-self}
 use lib.Dec.{eqb}
-use lib.ListN.{length, getD, drop, set, length-set}
+use lib.ListN.{length, getD, set, length-set}
+use lib.Pow.{pow-pos, pow-lt}
 use lib.Seq.{getD-set-same, getD-set-other}
 use borrow.Author.Tests.{ne-eqb, eqb-true, eqb-false}
 use Rattle.values.specs.Bytes.{Bytes}
-use Rattle.values.specs.Value.{meaning}
-use Rattle.values.specs.Places.{unescapedAt}
-use Rattle.values.specs.Marks.{hashed, hashOf, isMarked, mark}
-use Rattle.values.specs.declared.cursor.Cursor.{Cursor}
-use Rattle.values.specs.declared.cursor.ByteRead.{ByteRead}
-use Rattle.values.specs.declared.cursor.ByteRead.the-variants.{Byte, End}
+use Rattle.values.specs.Hash.{hashOf}
+use Rattle.values.specs.Marks.{markByte, markBit, hasBit, isMarked, setBit, mark}
 use Rattle.values.proofs.Tests.{pass, fail, test}
-use Rattle.values.proofs.Meanings.{told-end, told-byte, told-less}
+use Rattle.values.proofs.Hashes.{hash-small, product-fits}
 
--- The hash of what is left of a text, from here on, is the whole hash
+-- Bits: what `or` adds takes none away
 
-pub record Hashing (seed : ℕ) (text : Bytes) (quoted : Bool) (hash i : ℕ) : Type 0 where
-  pub bound : hash < 4294967296
-  pub still : hashOf seed (meaning quoted text) ≡ hashed hash (meaning quoted (drop i text))
+bits-kept : (x y z : ℕ) → bitAnd x z ≤ bitAnd (bitOr x y) z
+bits-kept = bin-ind (λ (x : ℕ). (y z : ℕ) → bitAnd x z ≤ bitAnd (bitOr x y) z) (λ y z. omega arith) step
+  where
+    step : (x : ℕ) → ((y z : ℕ) → bitAnd (x / 2) z ≤ bitAnd (bitOr (x / 2) y) z) → (y z : ℕ) → bitAnd x z ≤ bitAnd (bitOr x y) z
+    step x ih y z =
+        let o = or-step x y in
+        let half : bitOr x y / 2 ≡ bitOr (x / 2) (y / 2) = omega arith in
+        let odd : bitOr x y % 2 ≡ max (x % 2) (y % 2) = omega arith in
+        rw (and-step x z, and-step (bitOr x y) z, half, odd) (omega (arith, ih (y / 2) (z / 2)))
 
-pub hash-start : (seed : ℕ) (text : Bytes) (quoted : Bool) → Hashing seed text quoted (seed % 4294967296) 0
-hash-start seed text quoted = record { bound = omega arith; still = refl }
+bit-set : (byte bit : ℕ) → 0 < bit → hasBit (bitOr byte bit) bit ≡ true
+unfolding hasBit
+bit-set byte bit h = rw (ne-eqb (bitAnd (bitOr byte bit) bit) 0 (λ e. omega (arith, rw (and-self bit, or-comm bit byte, e) at (bits-kept bit byte bit))))
 
-module _ {seed : ℕ} {text : Bytes} {quoted : Bool} {hash i : ℕ} (g : Hashing seed text quoted hash i) where
-  pub hash-small : hash < 4294967296
-  hash-small = g .bound
+bit-kept : (byte bit other : ℕ) → hasBit byte bit ≡ true → hasBit (bitOr byte other) bit ≡ true
+unfolding hasBit
+bit-kept byte bit other a = elim (test (eqb (bitAnd byte bit) 0)) [
+  | pass e ↦ let z : not true ≡ true = rw e at a in cc
+  | fail e ↦ rw (ne-eqb (bitAnd (bitOr byte other) bit) 0 (λ z. eqb-false (bitAnd byte bit) 0 e (omega (arith, bits-kept byte other bit))))
+]
 
-  module _ {r : ByteRead} (a : r ≡ unescapedAt quoted text i) where
-    pub hash-end : r ≡ End → hash ≡ hashOf seed (meaning quoted text)
-    unfolding hashed
-    hash-end e = sym (g .still ∙ rw (told-end quoted text i a e))
+bit-some : (hash : ℕ) → 0 < markBit hash
+unfolding markBit
+bit-some hash = pow-pos (hash % 8)
 
-    pub hash-next : {b : ℕ} {c : Cursor} → r ≡ Byte b c → Hashing seed text quoted ((hash * 16777619 + b) % 4294967296) (c .at)
-    unfolding hashed
-    hash-next e = record { bound = omega arith; still = g .still ∙ rw (told-byte quoted text i a e) }
+-- A byte of the marks
 
-pub ruleset hashes = (hash-start, hash-small, hash-end, hash-next, told-less)
+pub byte-inside : (n hash : ℕ) → 0 < n → hash < 2 ^ 32 → markByte n hash < n
+unfolding markByte
+byte-inside n hash h l =
+    div-lt-iff-lt-mul {k = 2 ^ 32} (omega arith) .1
+    (omega (arith, mul-le-mul {n₁ = hash} {m₁ = min n (2 ^ 32 - 1)} {n₂ = 2 ^ 32 - 1} {m₂ = n} (omega arith) (min-le-left n (2 ^ 32 - 1))))
 
--- A slot
+-- what answers the needs of `byte_of` and `bit_of`
+module _ (n hash : ℕ) where
+  pub byte-of-few : n < 2 ^ 32 - 1 → hash * n / 2 ^ 32 ≡ markByte n hash
+  unfolding markByte
+  byte-of-few h = rw (min-eq-left {n = n} {m = 2 ^ 32 - 1} (omega arith))
 
-module _ (ms : Bytes) (seed : ℕ) (text : Bytes) where
-  pub none-marked : length ms ≡ 0 → true ≡ isMarked ms seed text
+  pub byte-of-many : 2 ^ 32 - 1 ≤ n → hash * (2 ^ 32 - 1) / 2 ^ 32 ≡ markByte n hash
+  unfolding markByte
+  byte-of-many h = rw (min-eq-right {n = 2 ^ 32 - 1} {m = n} h)
+
+  pub few-fit : hash < 2 ^ 32 → n < 2 ^ 32 - 1 → hash * n < 2 ^ 64
+  few-fit l h = product-fits hash n l (omega arith)
+
+pub ruleset bytes = (byte-of-few, byte-of-many, few-fit)
+
+pub bit-is : (hash : ℕ) → 1 * 2 ^ (hash % 8) % 256 ≡ markBit hash
+unfolding markBit
+bit-is hash = omega (arith, pow-lt {i = hash % 8} {j = 8} (mod-lt hash (omega arith)))
+
+module _ (ms : Bytes) (kind : ℕ) (text : Bytes) where
+  abbrev hash : ℕ
+  hash = hashOf kind text
+
+  pub none-marked : length ms ≡ 0 → true ≡ isMarked ms kind text
   unfolding isMarked
   none-marked e = rw e
 
-  pub none-to-mark : length ms ≡ 0 → ms ≡ mark ms seed text
+  pub none-to-mark : length ms ≡ 0 → ms ≡ mark ms kind text
   unfolding mark
   none-to-mark e = go ms e
     where
-      go : (ns : Bytes) → length ns ≡ 0 → ns ≡ set ns (hashOf seed text % length ns) 1
+      go : (ns : Bytes) → length ns ≡ 0 → ns ≡ setBit ns (markByte (length ns) hash) (markBit hash)
       go [] e = refl
       go (n ∷ ns) e = absurd (omega arith)
 
-  module _ (some : length ms ≡ 0 → ⊥) {at : ℕ} (e : at ≡ hashOf seed text % length ms) where
-    pub slot-inside : at < length ms
-    slot-inside = rw e (mod-lt (hashOf seed text) (omega (arith, some)))
+  -- what the code computed
+  module _ {h at : ℕ} (eh : h ≡ hash) (ea : at ≡ markByte (length ms) h) where
+    pub mark-inside : (length ms ≡ 0 → ⊥) → at < length ms
+    mark-inside some = rw (ea, eh) (byte-inside (length ms) hash (omega (arith, some)) (hash-small kind text))
 
-    pub slot-marked : eqb (getD ms at 0) 1 ≡ isMarked ms seed text
-    unfolding isMarked
-    slot-marked = rw (e, ne-eqb (length ms) 0 some)
+    module _ {bit : ℕ} (eb : bit ≡ markBit h) where
+      pub looked-up : (length ms ≡ 0 → ⊥) → not (eqb (bitAnd (getD ms at 0) bit) 0) ≡ isMarked ms kind text
+      unfolding isMarked hasBit
+      looked-up some = rw (ea, eb, eh, ne-eqb (length ms) 0 some)
 
-  pub slot-mark : {at : ℕ} → at ≡ hashOf seed text % length ms → set ms at 1 ≡ mark ms seed text
-  unfolding mark
-  slot-mark e = rw e
+      pub marked : set ms at (bitOr (getD ms at 0) bit) ≡ mark ms kind text
+      unfolding mark
+      marked = rw (ea, eb, eh)
 
-pub slot-some : {n : ℕ} → (n ≡ 0 → ⊥) → 0 < n
-slot-some ne = omega (arith, ne)
-
-pub slot-is : {hash : ℕ} (n : ℕ) {other : ℕ} → hash ≡ other → hash % n ≡ other % n
-slot-is n e = rw e
-
-pub ruleset slots = (none-marked, none-to-mark, slot-inside, slot-marked, slot-mark, slot-some, slot-is)
-
-pub mark-length : (ms : Bytes) (seed : ℕ) (text : Bytes) → length (mark ms seed text) ≡ length ms
-unfolding mark
-mark-length ms seed text = length-set ms (hashOf seed text % length ms) 1
+pub ruleset looks = (none-marked, none-to-mark, mark-inside, looked-up, marked)
 
 -- What is marked stays so
 
-pub mark-own : (ms : Bytes) (seed : ℕ) (text : Bytes) → isMarked (mark ms seed text) seed text ≡ true
-unfolding isMarked mark
-mark-own ms seed text = elim (test (eqb (length ms) 0)) [
-  | pass e ↦ rw (length-set ms (hashOf seed text % length ms) 1, e)
-  | fail e ↦
-      let i = hashOf seed text % length ms in
-      let l : i < length ms = mod-lt (hashOf seed text) (omega (arith, eqb-false (length ms) 0 e)) in
-      rw (length-set ms i 1, e, getD-set-same ms i 1 0 l)
-]
+pub mark-length : (ms : Bytes) (kind : ℕ) (text : Bytes) → length (mark ms kind text) ≡ length ms
+unfolding mark
+mark-length ms kind text = length-set ms _ _
 
-pub mark-kept : (ms : Bytes) (seed : ℕ) (text : Bytes) (j : ℕ) (t : Bytes) → isMarked ms j t ≡ true → isMarked (mark ms seed text) j t ≡ true
-unfolding isMarked mark
-mark-kept ms seed text j t a = elim (test (eqb (length ms) 0)) [
-  | pass e ↦ rw (length-set ms (hashOf seed text % length ms) 1, e)
-  | fail e ↦
-      let i = hashOf seed text % length ms in
-      let n = hashOf j t % length ms in
-      let l : i < length ms = mod-lt (hashOf seed text) (omega (arith, eqb-false (length ms) 0 e)) in
-      let b : eqb (getD ms n 0) 1 ≡ true = rw e at a in
-      rw (length-set ms i 1, e) (elim (test (eqb n i)) [
-        | pass f ↦ rw (eqb-true n i f, getD-set-same ms i 1 0 l)
-        | fail f ↦ rw (getD-set-other ms i n 1 0 (eqb-false n i f)) b
-      ])
-]
+-- at is a place of the marks
+module _ (ms : Bytes) (at bit : ℕ) where
+  own-bit : at < length ms → 0 < bit → hasBit (getD (setBit ms at bit) at 0) bit ≡ true
+  own-bit l h = rw (getD-set-same ms at (bitOr (getD ms at 0) bit) 0 l) (bit-set (getD ms at 0) bit h)
+
+  other-bit : at < length ms → (place other : ℕ) → hasBit (getD ms place 0) other ≡ true → hasBit (getD (setBit ms at bit) place 0) other ≡ true
+  other-bit l place other a = elim (test (eqb place at)) [
+    | pass f ↦
+        let e = eqb-true place at f in
+        rw (e, getD-set-same ms at (bitOr (getD ms at 0) bit) 0 l) (bit-kept (getD ms at 0) other bit (rw e at a))
+    | fail f ↦ rw (getD-set-other ms at place (bitOr (getD ms at 0) bit) 0 (eqb-false place at f)) a
+  ]
+
+module _ (ms : Bytes) (kind : ℕ) (text : Bytes) where
+  abbrev at : ℕ
+  at = markByte (length ms) (hashOf kind text)
+
+  inside : eqb (length ms) 0 ≡ false → at < length ms
+  inside e = byte-inside (length ms) (hashOf kind text) (omega (arith, eqb-false (length ms) 0 e)) (hash-small kind text)
+
+  pub mark-own : isMarked (mark ms kind text) kind text ≡ true
+  unfolding isMarked mark
+  mark-own = elim (test (eqb (length ms) 0)) [
+    | pass e ↦ rw (length-set ms at _, e)
+    | fail e ↦ rw (length-set ms at _, e) (own-bit ms at (markBit (hashOf kind text)) (inside e) (bit-some (hashOf kind text)))
+  ]
+
+  pub mark-kept : (j : ℕ) (t : Bytes) → isMarked ms j t ≡ true → isMarked (mark ms kind text) j t ≡ true
+  unfolding isMarked mark
+  mark-kept j t a = elim (test (eqb (length ms) 0)) [
+    | pass e ↦ rw (length-set ms at _, e)
+    | fail e ↦ rw (length-set ms at _, e) (other-bit ms at (markBit (hashOf kind text)) (inside e) (markByte (length ms) (hashOf j t)) (markBit (hashOf j t)) (rw e at a))
+  ]
 
 -- where all that is there is marked, nothing is lost by not looking for what is not
 pub sure : (q t : Bool) → (t ≡ true → q ≡ true) → (q && t) ≡ t

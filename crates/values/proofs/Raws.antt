@@ -13,7 +13,7 @@ use Rattle.values.specs.declared.integer.IntegerRead.the-variants.{Refus
 use Rattle.values.proofs.Tests.{pass, fail, test, or-l, or-r, or-on, and-r}
 use Rattle.values.proofs.Lists.{OnSome}
 use Rattle.values.proofs.Values.{bracketed-is, bracketed-not}
-use Rattle.values.proofs.Escapes.{unescaped-slash, unescaped-plain}
+use Rattle.values.proofs.Escapes.{unescaped-slash, unescaped-plain, unescaped-escaped}
 
 -- a text with a backslash has a byte in its meaning that stood escaped; `true`: a backslash stood just before
 abbrev Slashed : Bool → Bytes × Bytes → Type 0
@@ -21,9 +21,9 @@ Slashed true p = any isEscapable (unescaped true (p .0)) ≡ true
 Slashed false p = any (is 92) (p .0) ≡ true → any isEscapable (unescaped false (p .0)) ≡ true
 
 put-escaped : (b : ℕ) → isEscapable b ≡ true → (a : Option (Bytes × Bytes)) → OnSome (Slashed true) (put b a)
-unfolding any unescaped
+unfolding any
 put-escaped b e none = tt
-put-escaped b e (some p) = rw (any, unescaped, e)
+put-escaped b e (some p) = rw (unescaped-escaped b (p .0) e, any, e)
 
 put-slash : (b : ℕ) → is 92 b ≡ true → (a : Option (Bytes × Bytes)) → OnSome (Slashed true) a → OnSome (Slashed false) (put b a)
 put-slash b e none h = tt

@@ -130,9 +130,23 @@ pub ruleset prefixes = (too-short, start-same, start-differs, start-agrees, star
 
 -- A part of a slice, as far as there is any
 
+module _ (s : Bytes) (start n : ℕ) where
+  pub piece-past : length s ≤ start → take 0 s ≡ take n (drop start s)
+  piece-past h = rw (drop-of-length-le s h, take-nil n)
+
+  pub piece-rest : length s - start < n → take (length s - start) (drop start s) ≡ take n (drop start s)
+  piece-rest h =
+      let l = length-drop start s in
+      take-all (length s - start) (drop start s) (omega arith) ∙ sym (take-all n (drop start s) (omega arith))
+
+  pub piece-whole : take (start + n - start) (drop start s) ≡ take n (drop start s)
+  piece-whole = let e : start + n - start ≡ n = omega arith in rw e
+
+pub ruleset pieces = (piece-past, piece-rest, piece-whole)
+
 module _ (s : Bytes) (start end : ℕ) where
   pub part-past : length s ≤ start → take 0 s ≡ take (end - start) (drop start s)
-  part-past h = rw (drop-of-length-le s h, take-nil (end - start))
+  part-past h = piece-past s start (end - start) h
 
   pub part-none : end ≤ start → take 0 s ≡ take (end - start) (drop start s)
   part-none h = let z : end - start ≡ 0 = omega arith in rw z

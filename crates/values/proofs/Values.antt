@@ -9,7 +9,7 @@ use lib.Dec.{eqb}
 use lib.ListN.{length, getD, drop, length-append}
 use borrow.Author.Tests.{eq-eqb, ne-eqb}
 use Rattle.values.specs.Bytes.{Bytes, is, begins, before, from}
-use Rattle.values.specs.Value.{Value, quoted, written, put, isEscapable, quotedText, inQuotes, readQuoted, isStop, readBare, isBracketed, readBracketed, readValues, readUnquoted, readValue}
+use Rattle.values.specs.Value.{quoted, written, put, isEscapable, quotedText, inQuotes, readQuoted, isStop, readBare, isBracketed, readBracketed, readValues, readUnquoted, readValue}
 use Rattle.values.specs.Places.{to, byteAt, closing, valuePlaced, escapedFrom, valueAt}
 use Rattle.values.specs.declared.cursor.Cursor.{Cursor}
 use Rattle.values.specs.declared.cursor.ByteRead.{ByteRead}

@@ -9,6 +9,7 @@ use Rattle.values.specs.Utf8.{isUtf8, isAscii, completes, followers}
 use Rattle.values.specs.Integer.{u32Read, u64Read, unsignedRead, withoutSign, numberOf, decimal, digitsOf}
 use Rattle.values.specs.Value.{Value, written, quotedText, readValues, readValue, unescaped, meaning, escape, writeValue}
 use Rattle.values.specs.Field.{readKey, readField, writtenField}
+use Rattle.values.specs.Hash.{offsetBasis, hashByte, hashed, hashOf}
 use Rattle.values.specs.Places.{to, unescapedAt, fieldAt}
 use Rattle.values.specs.declared.cursor.ByteRead.{ByteRead}
 use Rattle.values.specs.declared.cursor.ByteRead.the-variants.{Byte, End}
@@ -23,7 +24,7 @@ Table {A} {B} f rows = map (λ (r : A × B). f (r .0)) rows ≡ map (λ (r : A �
 
 -- what the definitions need to compute
 unfoldable pub opened : Unit {0}
-unfolding begins any before from same completes followers isAscii unsignedRead withoutSign numberOf decimal digitsOf written quotedText readValues readValue unescaped escape readKey readField writtenField unescapedAt fieldAt
+unfolding hashed hashOf hashByte begins any before from same completes followers isAscii unsignedRead withoutSign numberOf decimal digitsOf written quotedText readValues readValue unescaped escape readKey readField writtenField unescapedAt fieldAt
 opened = tt
 
 -- RFC 3629, section 7; then an overlong form, a surrogate, more than 10FFFF, lone and missing tails, and a cut last character
@@ -137,7 +138,10 @@ unescape p = unescapedAt (p .0 .0) (p .0 .1) (p .1)
 unescape-table : Table unescape (
     (((true, ascii "a\\\"b"), 0), Byte 97 (to 1))
     ∷ (((true, ascii "a\\\"b"), 1), Byte 34 (to 3))
-    ∷ (((true, ascii "a\\"), 1), End)
+    ∷ (((true, ascii "a\\"), 1), Byte 92 (to 2))
+    ∷ (((true, ascii "a\\b"), 1), Byte 92 (to 2))
+    ∷ (((true, ascii "\\\\\""), 0), Byte 92 (to 2))
+    ∷ (((true, ascii "\\\\\""), 2), Byte 34 (to 3))
     ∷ (((false, ascii "a\\"), 1), Byte 92 (to 2))
     ∷ (((true, ascii "a"), 1), End)
     ∷ (((false, ascii "a"), 7), End)
@@ -145,6 +149,28 @@ unescape-table : Table unescape (
     )
 unfolding opened
 unescape-table = refl
+
+-- what quoted bytes mean: only a backslash before `"` or a backslash goes
+meaning-table : Table (meaning true) (
+    (ascii "a\\\"b", ascii "a\"b")
+    ∷ (ascii "\\\\\"", ascii "\\\"")
+    ∷ (ascii "\\n", ascii "\\n")
+    ∷ (ascii "\\\\n", ascii "\\n")
+    ∷ (ascii "a\\", ascii "a\\")
+    ∷ []
+    )
+unfolding opened
+meaning-table = refl
+
+-- the published hashes of the empty text, `a` and `foobar`
+hash-table : Table (hashed offsetBasis) (
+    ([], 0x811C9DC5)
+    ∷ (ascii "a", 0xE40C292C)
+    ∷ (ascii "foobar", 0xBF9CF968)
+    ∷ []
+    )
+unfolding opened
+hash-table = refl
 
 abbrev pub same? : (Bool × Bytes) × (Bool × Bytes) → Bool
 same? p = same (meaning (p .0 .0) (p .0 .1)) (meaning (p .1 .0) (p .1 .1))

@@ -6,5 +6,6 @@ pub mod Value
 pub mod Field
 pub mod Places
 pub mod Written
+pub mod Hash
 pub mod Marks
 pub mod Examples

@@ -1,11 +1,11 @@
 -- Where the code's answers stand: each place is a sum of lengths of what was read. Assumes nothing.
 use Prim.Native.Nat.{ℕ, _+_}
-use mathlib.Core.Bool.{Bool, true, false}
+use mathlib.Core.Bool.{Bool, true, false, _&&_}
 use mathlib.Core.List.{[], _∷_, tail}
 use mathlib.Core.Option.{Option, none, some}
 use lib.ListN.{length, drop}
 use Rattle.values.specs.Bytes.{Bytes, is, begins}
-use Rattle.values.specs.Value.{Value, quoted, bare, written, readQuoted, readValue}
+use Rattle.values.specs.Value.{Value, quoted, bare, written, isEscapable, readQuoted, readValue}
 use Rattle.values.specs.Field.{Field, writtenField, readKey, readField}
 use Rattle.values.specs.declared.cursor.Cursor.{Cursor}
 use Rattle.values.specs.declared.cursor.ByteRead.{ByteRead}
@@ -33,11 +33,16 @@ byteFrom i (b ∷ bs) = Byte b (to (i + 1))
 abbrev pub byteAt : Bytes → ℕ → ByteRead
 byteAt s i = byteFrom i (drop i s)
 
--- the first byte of their meaning: the one after a backslash stands for itself
+-- a byte that a backslash may stand before is the first
+abbrev pub escapes : Bytes → Bool
+escapes [] = false
+escapes (b ∷ bs) = isEscapable b
+
+-- the first byte of their meaning: a backslash before such a byte is passed over
 abbrev pub unescapedFrom : Bool → ℕ → Bytes → ByteRead
 unescapedFrom false i bs = byteFrom i bs
 unescapedFrom true i [] = End
-unescapedFrom true i (b ∷ bs) = elim (is 92 b) [ true ↦ byteFrom (i + 1) bs | false ↦ Byte b (to (i + 1)) ]
+unescapedFrom true i (b ∷ bs) = elim (is 92 b && escapes bs) [ true ↦ byteFrom (i + 1) bs | false ↦ Byte b (to (i + 1)) ]
 
 unfoldable pub unescapedAt : Bool → Bytes → ℕ → ByteRead
 unescapedAt q s i = unescapedFrom q i (drop i s)

@@ -23,10 +23,15 @@ unfoldable pub written : Value → Bytes
 written (quoted t) = 34 ∷ t ++ 34 ∷ []
 written (bare t) = t
 
--- a backslash is dropped and the byte after it kept; `true`: a backslash stood just before
+-- what a backslash may stand before
+abbrev pub isEscapable : ℕ → Bool
+isEscapable b = is 34 b || is 92 b
+
+-- a backslash just before `"` or a backslash is dropped, and that byte kept; any other stays, a last one too; `true`: one stood just before
 unfoldable pub unescaped : Bool → Bytes → Bytes
-unescaped after [] = []
-unescaped true (b ∷ bs) = b ∷ unescaped false bs
+unescaped true [] = 92 ∷ []
+unescaped false [] = []
+unescaped true (b ∷ bs) = elim (isEscapable b) [ true ↦ b ∷ unescaped false bs | false ↦ 92 ∷ b ∷ unescaped false bs ]
 unescaped false (b ∷ bs) = elim (is 92 b) [ true ↦ unescaped true bs | false ↦ b ∷ unescaped false bs ]
 
 -- what a text means, between quotes or bare
@@ -41,10 +46,6 @@ meaningOf v = meaning (isQuoted v) (textOf v)
 abbrev pub put : ℕ → Option (Bytes × Bytes) → Option (Bytes × Bytes)
 put b none = none
 put b (some p) = some (b ∷ p .0, p .1)
-
--- what a backslash may stand before
-abbrev pub isEscapable : ℕ → Bool
-isEscapable b = is 34 b || is 92 b
 
 -- up to the next unescaped `"`, and past it; a backslash stands only before `"` or a backslash
 unfoldable pub quotedText : Bool → Bytes → Option (Bytes × Bytes)

@@ -51,6 +51,19 @@ pub fn same(a: &[u8], b: &[u8]) -> bool
     true
 }
 
+// At most n bytes from `start` on.
+pub fn piece(s: &[u8], start: usize, n: usize) -> &[u8]
+    ensures { λ r. ⌜ now r ≡ take n (drop start (now (s .entry))) ⌝ }
+{
+    if s.len() <= start {
+        return &s[..0];
+    }
+    if s.len() - start < n {
+        return &s[start..];
+    }
+    &s[start..start + n]
+}
+
 // The bytes from `start` to `end`, as far as there are any.
 pub fn part(s: &[u8], start: usize, end: usize) -> &[u8]
     ensures { λ r. ⌜ now r ≡ take (end - start) (drop start (now (s .entry))) ⌝ }

@@ -1,5 +1,6 @@
 // A place in a slice, by value: each step hands the moved cursor back with its answer.
 ghost use mathlib.Core.Path.{_≡_};
+ghost use Rattle.values.specs.Value.{isEscapable};
 ghost use Rattle.values.specs.Places.{byteAt, unescapedAt};
 
 pub struct Cursor {
@@ -9,6 +10,13 @@ pub struct Cursor {
 pub enum ByteRead {
     Byte(u8, Cursor),
     End,
+}
+
+// What a backslash may stand before between quotes.
+pub fn is_escapable(b: u8) -> bool
+    ensures { λ r. ⌜ r ≡ isEscapable b ⌝ }
+{
+    b == b'"' || b == b'\\'
 }
 
 impl Cursor {
@@ -33,8 +41,14 @@ impl Cursor {
         if !quoted {
             return ByteRead::Byte(b, next);
         }
-        if b == b'\\' {
-            return next.next_byte(s);
+        if b != b'\\' {
+            return ByteRead::Byte(b, next);
+        }
+        let ByteRead::Byte(e, after) = next.next_byte(s) else {
+            return ByteRead::Byte(b, next);
+        };
+        if is_escapable(e) {
+            return ByteRead::Byte(e, after);
         }
         ByteRead::Byte(b, next)
     }

@@ -2,6 +2,7 @@
 pub mod bytes;
 pub mod cursor;
 pub mod field;
+pub mod hash;
 pub mod integer;
 pub mod marks;
 pub mod output;

@@ -2,6 +2,7 @@
 use crate::bytes;
 use crate::cursor::ByteRead;
 use crate::cursor::Cursor;
+use crate::cursor::is_escapable;
 use crate::output;
 ghost use mathlib.Core.Path.{_≡_};
 ghost use mathlib.Core.Bool.{false};
@@ -9,7 +10,7 @@ ghost use mathlib.Core.List.{[], _∷_};
 ghost use Prim.Native.Nat.{_+_};
 ghost use lib.ListN.{length, drop};
 ghost use Rattle.values.specs.Bytes.{before, same};
-ghost use Rattle.values.specs.Value.{isStop, isEscapable, quotedText, readBare, readValues, meaning, spelling, writeValue};
+ghost use Rattle.values.specs.Value.{isStop, quotedText, readBare, readValues, meaning, spelling, writeValue};
 ghost use Rattle.values.specs.Places.{closing, escapedFrom, valuePlaced};
 ghost use Rattle.values.specs.Written.{Wrote};
 
@@ -35,12 +36,6 @@ fn is_stop(b: u8) -> bool
     ensures { λ r. ⌜ r ≡ isStop b ⌝ }
 {
     b == b',' || b == b'>'
-}
-
-fn is_escapable(b: u8) -> bool
-    ensures { λ r. ⌜ r ≡ isEscapable b ⌝ }
-{
-    b == b'"' || b == b'\\'
 }
 
 fn find_stop(s: &[u8], start: usize) -> usize

@@ -1,31 +1,32 @@
 // The entries of a header, a line for each.
 use crate::say;
-use entries::word;
+use entries::kind;
+use entries::table;
 use header::shown;
 use values::bytes;
 
-fn say_kind(kind: u64) {
+fn say_kind(kind: u8) {
     match kind {
-        1 => say::cell(b"fileformat", 10),
-        2 => say::cell(b"INFO", 10),
-        3 => say::cell(b"FILTER", 10),
-        4 => say::cell(b"FORMAT", 10),
-        5 => say::cell(b"ALT", 10),
-        6 => say::cell(b"contig", 10),
-        7 => say::cell(b"map", 10),
-        8 => say::cell(b"text", 10),
-        9 => say::cell(b"columns", 10),
+        kind::FILE_FORMAT => say::cell(b"fileformat", 10),
+        kind::INFO => say::cell(b"INFO", 10),
+        kind::FILTER => say::cell(b"FILTER", 10),
+        kind::FORMAT => say::cell(b"FORMAT", 10),
+        kind::ALTERNATIVE_ALLELE => say::cell(b"ALT", 10),
+        kind::CONTIG => say::cell(b"contig", 10),
+        kind::OTHER_MAP => say::cell(b"map", 10),
+        kind::OTHER_TEXT => say::cell(b"text", 10),
+        kind::COLUMNS => say::cell(b"columns", 10),
         _ => say::cell(b"sample", 10),
     }
 }
 
 // A sample's name stands where a map has its ID.
-fn say_id(header: &[u8], table: &[u64], n: usize, kind: u64, l: &[u8]) {
-    if kind == 10 {
+fn say_id(header: &[u8], table: &[u64], n: usize, kind: u8, l: &[u8]) {
+    if kind == kind::SAMPLE {
         say::cell(l, 16);
         return;
     }
-    if !entries::shown::has_id(kind) {
+    if !kind::has_id(kind) {
         say::cell(b"-", 16);
         return;
     }
@@ -33,8 +34,8 @@ fn say_id(header: &[u8], table: &[u64], n: usize, kind: u64, l: &[u8]) {
 }
 
 // A record's key stands between `##` and the first `=`.
-fn say_key(kind: u64, l: &[u8]) {
-    if 8 < kind {
+fn say_key(kind: u8, l: &[u8]) {
+    if kind::OTHER_TEXT < kind {
         say::text(1, b"-\n");
         return;
     }
@@ -42,7 +43,7 @@ fn say_key(kind: u64, l: &[u8]) {
     say::text(1, b"\n");
 }
 
-fn say_entry(header: &[u8], table: &[u64], n: usize, kind: u64, line: usize) {
+fn say_entry(header: &[u8], table: &[u64], n: usize, kind: u8, line: usize) {
     let l = shown::bytes_of(header, shown::entry(header, table, n));
     say::number_cell(n as u64, 6);
     say_kind(kind);
@@ -52,8 +53,8 @@ fn say_entry(header: &[u8], table: &[u64], n: usize, kind: u64, line: usize) {
 }
 
 // Each line has one entry, and the samples stand in the last line.
-fn line_of(kind: u64, own: usize, last: usize) -> usize {
-    if kind == 10 {
+fn line_of(kind: u8, own: usize, last: usize) -> usize {
+    if kind == kind::SAMPLE {
         return last;
     }
     own
@@ -64,12 +65,8 @@ pub fn say_entries(header: &[u8], table: &[u64], count: usize) {
     let mut line = 0;
     let mut n = 0;
     while n < count {
-        if table.len() / 2 <= n {
-            return;
-        }
         let own = n + 1;
-        let w = table[2 * n];
-        let kind = word::kind_in(w);
+        let kind = table::get(table, n).kind;
         line = line_of(kind, own, line);
         say_entry(header, table, n, kind, line);
         n = own;

@@ -1,5 +1,5 @@
 -- A step, and the walk of all steps: it shows, in order, what the plain calls show. Assumes nothing.
-use Prim.Native.Nat.{ℕ, zero, suc, _+_, _-_, _*_, _^_, _≤_, _<_}
+use Prim.Native.Nat.{ℕ, zero, suc, _+_, _-_, _^_, _≤_, _<_}
 use native.Mathlib.Omega.{arith}
 use mathlib.Core.Path.{_≡_, refl, sym, ap, _∙_}
 use mathlib.Core.Bool.{_&&_}
@@ -13,7 +13,8 @@ use mir.Val.{Fits}
 use Rattle.values.specs.Bytes.{Bytes}
 use Rattle.values.proofs.Tests.{pass, fail, test, and-l, never}
 use Rattle.values.proofs.Lists.{none-not}
-use Rattle.rules.specs.Shown.{Part as RulePart, wellFormed, entryAt, shownEntry}
+use Rattle.rules.specs.Shown.{Part as RulePart, wellFormed}
+use Rattle.entries.specs.Tables.{room, wordsClear, entryIn, entryAt, shownEntry}
 use Rattle.entries.specs.declared.shown.Shown.{Shown}
 use Rattle.entries.specs.declared.shown.Shown.the-variants.{Part, Refused}
 use Rattle.entries.specs.Shown.{shownAs}
@@ -23,10 +24,10 @@ use Rattle.view.specs.declared.Stepped.{Stepped}
 -- A step
 
 -- an entry that is shown lies in the table
-shown-near : (h : Bytes) (table : List ℕ) (n : ℕ) {p : RulePart} → shownEntry h table n ≡ some p → 2 * n + 1 < length table
-unfolding entryAt
-shown-near h table n e = elim (test (ltb (2 * n + 1) (length table) && wellFormed (length h) (getD table (2 * n) 0) (getD table (2 * n + 1) 0))) [
-  | pass f ↦ ltb-true (2 * n + 1) (length table) (and-l (ltb (2 * n + 1) (length table)) _ f)
+shown-near : (h : Bytes) (table : List ℕ) (n : ℕ) {p : RulePart} → shownEntry h table n ≡ some p → n < room table
+unfolding entryAt wordsClear
+shown-near h table n e = elim (test (wordsClear table n && wellFormed (length h) (entryIn table n))) [
+  | pass f ↦ ltb-true n (room table) (and-l (ltb n (room table)) _ (and-l (wordsClear table n) _ f))
   | fail f ↦ none-not (rw (entryAt, f) at e)
 ]
 
@@ -48,6 +49,7 @@ module _ (h : Bytes) (table : List ℕ) (at : ℕ) {r : Shown} (a : r ≡ shownA
     step-shown = rw (← a, b)
 
     pub step-fits : length table < 2 ^ 64 → Fits w64 (at + 1)
+    unfolding room
     step-fits l = let n = shown-near h table at (shown-part (shownEntry h table at) (sym b ∙ a)) in record { fits = omega arith }
 
 pub ruleset one-step = (step-refused, step-shown, step-fits)
@@ -82,12 +84,12 @@ steps-end (suc n) h table at e = rw (steps, e)
 -- what is left to be counted
 pub record Counting (h : Bytes) (table : List ℕ) (first at : ℕ) : Type 0 where
   pub fuel : ℕ
-  pub enough : length table ≤ at + fuel
+  pub enough : room table ≤ at + fuel
   pub from : first ≤ at
   pub counted : length (shownFrom h table first) ≡ at - first + length (steps fuel h table at)
 
 pub count-all : (h : Bytes) (table : List ℕ) (first : ℕ) → Counting h table first first
-count-all h table first = record { fuel = length table; enough = omega arith; from = omega arith; counted = omega arith }
+count-all h table first = record { fuel = room table; enough = omega arith; from = omega arith; counted = omega arith }
 
 module _ {h : Bytes} {table : List ℕ} {first at : ℕ} (g : Counting h table first at) {p : Stepped} (a : p ≡ stepAt h table at) where
   pub count-end : p .found ≡ Refused → at - first ≡ length (shownFrom h table first)
@@ -97,13 +99,13 @@ module _ {h : Bytes} {table : List ℕ} {first at : ℕ} (g : Counting h table f
       omega arith
 
   module _ {s e : ℕ} (b : p .found ≡ Part s e) where
-    pub count-less : length table - p .at < length table - at
+    pub count-less : room table - p .at < room table - at
     count-less = let q = on h table at a b in let n = shown-near h table at (q .1) in omega (arith, q .0)
 
     pub count-more : Counting h table first (p .at)
     count-more = go (g .fuel) (g .enough) (g .counted)
       where
-        go : (n : ℕ) → length table ≤ at + n → length (shownFrom h table first) ≡ at - first + length (steps n h table at) → Counting h table first (p .at)
+        go : (n : ℕ) → room table ≤ at + n → length (shownFrom h table first) ≡ at - first + length (steps n h table at) → Counting h table first (p .at)
         go zero l c = let q = on h table at a b in let n = shown-near h table at (q .1) in absurd (omega arith)
         go (suc n) l c =
             let q = on h table at a b in
@@ -127,7 +129,7 @@ steps-shown (suc n) h table at k l = go (λ k l. steps-shown n h table (at + 1) 
     go next (some p) e zero l = let z : at + zero ≡ at = omega arith in rw z e
     go next (some p) e (suc k) l = let z : at + suc k ≡ at + 1 + k = omega arith in rw z (next k (omega arith))
 
-steps-ended : (n : ℕ) (h : Bytes) (table : List ℕ) (at : ℕ) → length table ≤ at + n → shownEntry h table (at + length (steps n h table at)) ≡ none
+steps-ended : (n : ℕ) (h : Bytes) (table : List ℕ) (at : ℕ) → room table ≤ at + n → shownEntry h table (at + length (steps n h table at)) ≡ none
 unfolding steps
 steps-ended zero h table at l = let z : at + zero ≡ at = omega arith in rw z (past (shownEntry h table at) refl)
   where
@@ -143,11 +145,11 @@ steps-ended (suc n) h table at l = go (steps-ended n h table (at + 1) (omega ari
 
 -- the walk's parts are, in order, what the entry call shows of the numbers from the first on
 pub walk-shown : (h : Bytes) (table : List ℕ) (first k : ℕ) → k < length (shownFrom h table first) → shownEntry h table (first + k) ≡ some (getD (shownFrom h table first) k (0, 0))
-walk-shown h table first k l = steps-shown (length table) h table first k l
+walk-shown h table first k l = steps-shown (room table) h table first k l
 
 -- and it ends where that call refuses
 pub walk-ended : (h : Bytes) (table : List ℕ) (first : ℕ) → shownEntry h table (first + length (shownFrom h table first)) ≡ none
-walk-ended h table first = steps-ended (length table) h table first (omega arith)
+walk-ended h table first = steps-ended (room table) h table first (omega arith)
 
 steps-moved : (n : ℕ) (h : Bytes) (table : List ℕ) (at k : ℕ) → k ≤ length (steps n h table at) → after k h table at ≡ at + k
 unfolding steps after
@@ -162,7 +164,7 @@ steps-moved (suc n) h table at (suc k) l = go (λ m. steps-moved n h table (at +
 
 -- until then each step leads to the next number
 pub walk-moved : (h : Bytes) (table : List ℕ) (first k : ℕ) → k ≤ length (shownFrom h table first) → after k h table first ≡ first + k
-walk-moved h table first k l = steps-moved (length table) h table first k l
+walk-moved h table first k l = steps-moved (room table) h table first k l
 
 -- so the view's step number k shows what the entry call shows of entry first + k
 pub walk-found : (h : Bytes) (table : List ℕ) (first k : ℕ) → k ≤ length (shownFrom h table first) → stepAt h table (after k h table first) .found ≡ shownAs (shownEntry h table (first + k))

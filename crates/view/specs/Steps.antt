@@ -2,9 +2,9 @@
 use Prim.Native.Nat.{ℕ, zero, suc, _+_}
 use mathlib.Core.List.{List, [], _∷_}
 use mathlib.Core.Option.{none, some}
-use lib.ListN.{length}
 use Rattle.values.specs.Bytes.{Bytes}
-use Rattle.rules.specs.Shown.{Part as RulePart, shownEntry}
+use Rattle.rules.specs.Shown.{Part as RulePart}
+use Rattle.entries.specs.Tables.{room, shownEntry}
 use Rattle.entries.specs.declared.shown.Shown.{Shown}
 use Rattle.entries.specs.declared.shown.Shown.the-variants.{Part, Refused}
 use Rattle.entries.specs.Shown.{shownAs}
@@ -29,9 +29,8 @@ unfoldable pub steps : ℕ → Bytes → List ℕ → ℕ → List RulePart
 steps zero h table at = []
 steps (suc n) h table at = elim (shownEntry h table at) [ none ↦ [] | some p ↦ p ∷ steps n h table (at + 1) ]
 
--- a table has fewer entries than words
 abbrev pub shownFrom : Bytes → List ℕ → ℕ → List RulePart
-shownFrom h table first = steps (length table) h table first
+shownFrom h table first = steps (room table) h table first
 
 -- where k steps lead
 unfoldable pub after : ℕ → Bytes → List ℕ → ℕ → ℕ

@@ -1,5 +1,5 @@
 use Prim.Native.Nat.{_-_}
-use lib.ListN.{length}
+use Rattle.entries.specs.Tables.{room}
 use Rattle.view.proofs.Walks.{Counting, counts}
 use borrow.Author.Needs.{needs}
 use Rattle.view.proofs.count_from.Statement.{statement}
@@ -9,7 +9,7 @@ abbrev Inv-loop : tie.InvT-loop
 Inv-loop h table first at₀ at = Counting h table first at
 
 abbrev μ-loop : tie.MeasureT-loop
-μ-loop h table first at₀ at = length table - at
+μ-loop h table first at₀ at = room table - at
 
 loop-holds : tie.Need-loop-holds Inv-loop μ-loop
 loop-holds c = search (counts, needs)

@@ -41,9 +41,6 @@ same-length-2 c = search (counts, needs)
 returns-2 : tie.Need-returns-2 Inv-loop μ-loop
 returns-2 c = search (counts, needs)
 
-mark-requires : tie.Need-mark-requires Inv-loop μ-loop
-mark-requires c κs = search (counts, needs)
-
 add-at : tie.Need-add-at Inv-loop μ-loop
 add-at c = search (counts, needs)
 
@@ -69,7 +66,6 @@ count-samples-spec =
     add-n
     same-length-2
     returns-2
-    mark-requires
     add-at
     loop-less
     loop-again)

@@ -3,8 +3,11 @@ use borrow.Author.Needs.{needs}
 use Rattle.columns.proofs.header_line.is_repeated.Statement.{statement}
 use Rattle.columns.proofs.header_line.is_repeated.Tie as tie
 
-is-marked-requires : tie.Need-is-marked-requires
-is-marked-requires c κs = search (repeats, needs)
+meet-requires : tie.Need-meet-requires
+meet-requires c κs = search (repeats, needs)
+
+same-length : tie.Need-same-length
+same-length c = search (repeats, needs)
 
 returns : tie.Need-returns
 returns c = search (repeats, needs)
@@ -12,8 +15,13 @@ returns c = search (repeats, needs)
 is-among-requires : tie.Need-is-among-requires
 is-among-requires c κs = search (repeats, needs)
 
+same-length-2 : tie.Need-same-length-2
+same-length-2 c = search (repeats, needs)
+
 returns-2 : tie.Need-returns-2
 returns-2 c = search (repeats, needs)
 
 pub is-repeated-spec : {M : Type 1} → statement M
-is-repeated-spec = tie.close (tie.spec is-marked-requires returns is-among-requires returns-2)
+is-repeated-spec =
+    tie.close
+    (tie.spec meet-requires same-length returns is-among-requires same-length-2 returns-2)

@@ -4,11 +4,14 @@ use borrow.Author.Needs.{needs}
 use Rattle.columns.proofs.header_line.write_columns.Statement.{statement}
 use Rattle.columns.proofs.header_line.write_columns.Tie as tie
 
-place-requires : tie.Need-place-requires
-place-requires c κs = search (columns, next-fits, needs)
+part-requires : tie.Need-part-requires
+part-requires c κs = search (columns, next-fits, needs)
 
-put-entry-requires : tie.Need-put-entry-requires
-put-entry-requires c κs = search (columns, next-fits, needs)
+plain-requires : tie.Need-plain-requires
+plain-requires c κs = search (columns, next-fits, needs)
+
+put-requires : tie.Need-put-requires
+put-requires c κs = search (columns, next-fits, needs)
 
 same-length : tie.Need-same-length
 same-length c = search (columns, next-fits, needs)
@@ -32,8 +35,9 @@ pub write-columns-spec : {M : Type 1} → statement M
 write-columns-spec =
     tie.close
     (tie.spec
-    place-requires
-    put-entry-requires
+    part-requires
+    plain-requires
+    put-requires
     same-length
     returns
     add-write-samples

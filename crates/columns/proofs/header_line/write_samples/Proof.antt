@@ -1,22 +1,22 @@
+use Rattle.entries.proofs.Tables.{next-fits}
 use Prim.Native.Nat.{_-_}
 use lib.ListN.{length}
-use Rattle.entries.proofs.Tables.{next-fits}
 use Rattle.columns.proofs.Stores.{Storing, stores}
 use borrow.Author.Needs.{needs}
 use Rattle.columns.proofs.header_line.write_samples.Statement.{statement}
 use Rattle.columns.proofs.header_line.write_samples.Tie as tie
 
 abbrev Inv-loop : tie.InvT-loop
-Inv-loop s start at table₀ from₀ k₀ table from k = Storing s start at table₀ table from k
+Inv-loop h start end n table₀ line from₀ k₀ table from k = Storing h start end line n table₀ table from k
 
 abbrev μ-loop : tie.MeasureT-loop
-μ-loop s start at table₀ from₀ k₀ table from k = length s - from
+μ-loop h start end n table₀ line from₀ k₀ table from k = length line - from
+
+part-requires : tie.Need-part-requires Inv-loop μ-loop
+part-requires c κs = search (stores, next-fits, needs)
 
 returns : tie.Need-returns Inv-loop μ-loop
 returns c = search (stores, next-fits, needs)
-
-returns-2 : tie.Need-returns-2 Inv-loop μ-loop
-returns-2 c = search (stores, next-fits, needs)
 
 loop-holds : tie.Need-loop-holds Inv-loop μ-loop
 loop-holds c = search (stores, next-fits, needs)
@@ -24,29 +24,29 @@ loop-holds c = search (stores, next-fits, needs)
 find-requires : tie.Need-find-requires Inv-loop μ-loop
 find-requires c κs = search (stores, next-fits, needs)
 
-add-place : tie.Need-add-place Inv-loop μ-loop
-add-place c = search (stores, next-fits, needs)
+add-plain : tie.Need-add-plain Inv-loop μ-loop
+add-plain c = search (stores, next-fits, needs)
 
-sub-place : tie.Need-sub-place Inv-loop μ-loop
-sub-place c = search (stores, next-fits, needs)
+sub-plain : tie.Need-sub-plain Inv-loop μ-loop
+sub-plain c = search (stores, next-fits, needs)
 
-place-requires : tie.Need-place-requires Inv-loop μ-loop
-place-requires c κs = search (stores, next-fits, needs)
+plain-requires : tie.Need-plain-requires Inv-loop μ-loop
+plain-requires c κs = search (stores, next-fits, needs)
 
-put-entry-requires : tie.Need-put-entry-requires Inv-loop μ-loop
-put-entry-requires c κs = search (stores, next-fits, needs)
+put-requires : tie.Need-put-requires Inv-loop μ-loop
+put-requires c κs = search (stores, next-fits, needs)
 
 same-length : tie.Need-same-length Inv-loop μ-loop
 same-length c = search (stores, next-fits, needs)
 
-returns-3 : tie.Need-returns-3 Inv-loop μ-loop
-returns-3 c = search (stores, next-fits, needs)
+returns-2 : tie.Need-returns-2 Inv-loop μ-loop
+returns-2 c = search (stores, next-fits, needs)
 
 same-length-2 : tie.Need-same-length-2 Inv-loop μ-loop
 same-length-2 c = search (stores, next-fits, needs)
 
-returns-4 : tie.Need-returns-4 Inv-loop μ-loop
-returns-4 c = search (stores, next-fits, needs)
+returns-3 : tie.Need-returns-3 Inv-loop μ-loop
+returns-3 c = search (stores, next-fits, needs)
 
 add-from : tie.Need-add-from Inv-loop μ-loop
 add-from c = search (stores, next-fits, needs)
@@ -66,18 +66,18 @@ write-samples-spec =
     (tie.spec
     Inv-loop
     μ-loop
+    part-requires
     returns
-    returns-2
     loop-holds
     find-requires
-    add-place
-    sub-place
-    place-requires
-    put-entry-requires
+    add-plain
+    sub-plain
+    plain-requires
+    put-requires
     same-length
-    returns-3
+    returns-2
     same-length-2
-    returns-4
+    returns-3
     add-from
     add-k
     loop-less

@@ -3,9 +3,6 @@ use borrow.Author.Needs.{needs}
 use Rattle.entries.proofs.shown.has_known_kind.Statement.{statement}
 use Rattle.entries.proofs.shown.has_known_kind.Tie as tie
 
-kind-in-requires : tie.Need-kind-in-requires
-kind-in-requires c κs = search (ranges, needs)
-
 returns : tie.Need-returns
 returns c = search (ranges, needs)
 
@@ -13,4 +10,4 @@ returns-2 : tie.Need-returns-2
 returns-2 c = search (ranges, needs)
 
 pub has-known-kind-spec : {M : Type 1} → statement M
-has-known-kind-spec = tie.close (tie.spec kind-in-requires returns returns-2)
+has-known-kind-spec = tie.close (tie.spec returns returns-2)

@@ -9,26 +9,26 @@ has-known-kind-requires c κs = search (wells, needs)
 returns : tie.Need-returns
 returns c = search (wells, needs)
 
-has-zero-bits-requires : tie.Need-has-zero-bits-requires
-has-zero-bits-requires c κs = search (wells, needs)
+has-known-tag-requires : tie.Need-has-known-tag-requires
+has-known-tag-requires c κs = search (wells, needs)
 
 returns-2 : tie.Need-returns-2
 returns-2 c = search (wells, needs)
 
-has-known-tag-requires : tie.Need-has-known-tag-requires
-has-known-tag-requires c κs = search (wells, needs)
+has-due-id-requires : tie.Need-has-due-id-requires
+has-due-id-requires c κs = search (wells, needs)
 
 returns-3 : tie.Need-returns-3
 returns-3 c = search (wells, needs)
 
-has-due-id-requires : tie.Need-has-due-id-requires
-has-due-id-requires c κs = search (wells, needs)
+lies-inside-requires : tie.Need-lies-inside-requires
+lies-inside-requires c κs = search (wells, needs)
 
 returns-4 : tie.Need-returns-4
 returns-4 c = search (wells, needs)
 
-lies-inside-requires : tie.Need-lies-inside-requires
-lies-inside-requires c κs = search (wells, needs)
+lies-inside-requires-2 : tie.Need-lies-inside-requires-2
+lies-inside-requires-2 c κs = search (wells, needs)
 
 returns-5 : tie.Need-returns-5
 returns-5 c = search (wells, needs)
@@ -39,11 +39,11 @@ is-well-formed-spec =
     (tie.spec
     has-known-kind-requires
     returns
-    has-zero-bits-requires
-    returns-2
     has-known-tag-requires
-    returns-3
+    returns-2
     has-due-id-requires
-    returns-4
+    returns-3
     lies-inside-requires
+    returns-4
+    lies-inside-requires-2
     returns-5)

@@ -1,17 +1,17 @@
-use native.Mathlib.Omega.{arith}
 use Prim.Native.Nat.{_-_}
-use lib.ListN.{length, length-take}
+use lib.ListN.{length}
+use Rattle.entries.specs.Values.{limitsOf}
 use Rattle.header.specs.Verdicts.{imposedOf}
-use Rattle.header.proofs.Parsers.{Going, kept-room, whole}
+use Rattle.header.proofs.Parsers.{Going, whole}
 use borrow.Author.Needs.{needs}
 use Rattle.header.proofs.parser.read_lines.Statement.{statement}
 use Rattle.header.proofs.parser.read_lines.Tie as tie
 
 abbrev Inv-loop : tie.InvT-loop
-Inv-loop header imposed table₀ marks₀ ascii marked₀ parser₀ table marks marked parser = Going (imposedOf imposed) header table₀ ascii marks₀ table parser marked marks
+Inv-loop header table₀ marks₀ options parser₀ table marks parser = Going (limitsOf (options .limits)) (imposedOf (options .imposed)) header table₀ (options .ascii) marks₀ marks table parser
 
 abbrev μ-loop : tie.MeasureT-loop
-μ-loop header imposed table₀ marks₀ ascii marked₀ parser₀ table marks marked parser = length header - parser .at
+μ-loop header table₀ marks₀ options parser₀ table marks parser = length header - parser .at
 
 refuse-requires : tie.Need-refuse-requires Inv-loop μ-loop
 refuse-requires c κs = search (whole, needs)
@@ -24,18 +24,6 @@ is-ascii-requires c κs = search (whole, needs)
 
 loop-holds : tie.Need-loop-holds Inv-loop μ-loop
 loop-holds c = search (whole, needs)
-
-mul-mark-entries : tie.Need-mul-mark-entries Inv-loop μ-loop
-mul-mark-entries c = search (whole, needs)
-
-slice-reshare-prefix-mark-entries : tie.Need-slice-reshare-prefix-mark-entries Inv-loop μ-loop
-slice-reshare-prefix-mark-entries c = search (whole, needs)
-
-slice-aggregate-mark-entries : tie.Need-slice-aggregate-mark-entries Inv-loop μ-loop
-slice-aggregate-mark-entries c = simp length-take (omega (arith, kept-room _ _ _ (c .before .before .before .loop .inv)))
-
-mark-entries-requires : tie.Need-mark-entries-requires Inv-loop μ-loop
-mark-entries-requires c κs = search (whole, needs)
 
 parse-partial-requires : tie.Need-parse-partial-requires Inv-loop μ-loop
 parse-partial-requires c κs = search (whole, needs)
@@ -89,10 +77,6 @@ read-lines-spec =
     returns
     is-ascii-requires
     loop-holds
-    mul-mark-entries
-    slice-reshare-prefix-mark-entries
-    slice-aggregate-mark-entries
-    mark-entries-requires
     parse-partial-requires
     enum-known-next
     loop-less

@@ -1,3 +1,5 @@
+use native.Mathlib.Omega.{arith}
+use Rattle.entries.proofs.Calls.{found-inside}
 use Rattle.header.proofs.Fields.{all-fields}
 use borrow.Author.Needs.{needs}
 use Rattle.header.proofs.shown.field.Statement.{statement}
@@ -6,8 +8,8 @@ use Rattle.header.proofs.shown.field.Tie as tie
 entry-at-requires : tie.Need-entry-at-requires
 entry-at-requires c κs = search (all-fields, needs)
 
-enum-known-w : tie.Need-enum-known-w
-enum-known-w c = search (all-fields, needs)
+enum-known-e : tie.Need-enum-known-e
+enum-known-e c = search (all-fields, needs)
 
 enum-told : tie.Need-enum-told
 enum-told c = search (all-fields, needs)
@@ -15,23 +17,17 @@ enum-told c = search (all-fields, needs)
 returns : tie.Need-returns
 returns c = search (all-fields, needs)
 
-kind-in-requires : tie.Need-kind-in-requires
-kind-in-requires c κs = search (all-fields, needs)
-
 has-id-requires : tie.Need-has-id-requires
 has-id-requires c κs = search (all-fields, needs)
 
 returns-2 : tie.Need-returns-2
 returns-2 c = search (all-fields, needs)
 
-start-in-requires : tie.Need-start-in-requires
-start-in-requires c κs = search (all-fields, needs)
-
-length-in-requires : tie.Need-length-in-requires
-length-in-requires c κs = search (all-fields, needs)
-
 add-field-at : tie.Need-add-field-at
-add-field-at c = search (all-fields, needs)
+add-field-at c =
+    let k = c .before .before .before in
+    let i = found-inside _ _ _ (k .before .before .before .entry-at .ensures) (k .before .e .given .1) in
+    omega arith
 
 field-at-requires : tie.Need-field-at-requires
 field-at-requires c κs = search (all-fields, needs)
@@ -44,14 +40,11 @@ field-spec =
     tie.close
     (tie.spec
     entry-at-requires
-    enum-known-w
+    enum-known-e
     enum-told
     returns
-    kind-in-requires
     has-id-requires
     returns-2
-    start-in-requires
-    length-in-requires
     add-field-at
     field-at-requires
     returns-3)

@@ -18,14 +18,26 @@ enum-told-3 c = search (ids, needs)
 enum-told-4 : tie.Need-enum-told-4
 enum-told-4 c = search (ids, needs)
 
+same-length : tie.Need-same-length
+same-length c = search (ids, needs)
+
 returns : tie.Need-returns
 returns c = search (ids, needs)
+
+same-length-2 : tie.Need-same-length-2
+same-length-2 c = search (ids, needs)
 
 returns-2 : tie.Need-returns-2
 returns-2 c = search (ids, needs)
 
+same-length-3 : tie.Need-same-length-3
+same-length-3 c = search (ids, needs)
+
 returns-3 : tie.Need-returns-3
 returns-3 c = search (ids, needs)
+
+same-length-4 : tie.Need-same-length-4
+same-length-4 c = search (ids, needs)
 
 returns-4 : tie.Need-returns-4
 returns-4 c = search (ids, needs)
@@ -39,7 +51,11 @@ judge-id-spec =
     enum-told-2
     enum-told-3
     enum-told-4
+    same-length
     returns
+    same-length-2
     returns-2
+    same-length-3
     returns-3
+    same-length-4
     returns-4)

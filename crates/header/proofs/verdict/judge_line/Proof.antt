@@ -9,6 +9,9 @@ is-done-requires c κs = search (all-lines, needs)
 returns : tie.Need-returns
 returns c = search (all-lines, needs)
 
+part-requires : tie.Need-part-requires
+part-requires c κs = search (all-lines, needs)
+
 returns-2 : tie.Need-returns-2
 returns-2 c = search (all-lines, needs)
 
@@ -21,6 +24,9 @@ returns-3 c = search (all-lines, needs)
 judge-text-requires : tie.Need-judge-text-requires
 judge-text-requires c κs = search (all-lines, needs)
 
+same-length : tie.Need-same-length
+same-length c = search (all-lines, needs)
+
 returns-4 : tie.Need-returns-4
 returns-4 c = search (all-lines, needs)
 
@@ -30,8 +36,10 @@ judge-line-spec =
     (tie.spec
     is-done-requires
     returns
+    part-requires
     returns-2
     is-utf8-requires
     returns-3
     judge-text-requires
+    same-length
     returns-4)

@@ -9,14 +9,17 @@ part-requires c κs = search (map-judged, needs)
 part-requires-2 : tie.Need-part-requires-2
 part-requires-2 c κs = search (map-judged, needs)
 
-identity-requires : tie.Need-identity-requires
-identity-requires c κs = search (map-judged, needs)
+part-requires-3 : tie.Need-part-requires-3
+part-requires-3 c κs = search (map-judged, needs)
 
 kind-requires : tie.Need-kind-requires
 kind-requires c κs = search (map-judged, needs)
 
 judge-id-requires : tie.Need-judge-id-requires
 judge-id-requires c κs = search (map-judged, needs)
+
+same-length : tie.Need-same-length
+same-length c = search (map-judged, needs)
 
 returns : tie.Need-returns
 returns c = search (map-judged, needs)
@@ -27,7 +30,8 @@ judge-map-spec =
     (tie.spec
     part-requires
     part-requires-2
-    identity-requires
+    part-requires-3
     kind-requires
     judge-id-requires
+    same-length
     returns)

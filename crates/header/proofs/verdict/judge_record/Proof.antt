@@ -3,6 +3,9 @@ use borrow.Author.Needs.{needs}
 use Rattle.header.proofs.verdict.judge_record.Statement.{statement}
 use Rattle.header.proofs.verdict.judge_record.Tie as tie
 
+part-requires : tie.Need-part-requires
+part-requires c κs = search (records, needs)
+
 parse-record-requires : tie.Need-parse-record-requires
 parse-record-requires c κs = search (records, needs)
 
@@ -18,11 +21,11 @@ judge-map-requires c κs = search (records, needs)
 enum-known-value : tie.Need-enum-known-value
 enum-known-value c = search (records, needs)
 
-part-requires : tie.Need-part-requires
-part-requires c κs = search (records, needs)
+plain-requires : tie.Need-plain-requires
+plain-requires c κs = search (records, needs)
 
-slice-aggregate-judge-id : tie.Need-slice-aggregate-judge-id
-slice-aggregate-judge-id c = search (records, needs)
+part-requires-2 : tie.Need-part-requires-2
+part-requires-2 c κs = search (records, needs)
 
 judge-id-requires : tie.Need-judge-id-requires
 judge-id-requires c κs = search (records, needs)
@@ -33,8 +36,14 @@ enum-known-x c = search (records, needs)
 returns : tie.Need-returns
 returns c = search (records, needs)
 
+same-length : tie.Need-same-length
+same-length c = search (records, needs)
+
 returns-2 : tie.Need-returns-2
 returns-2 c = search (records, needs)
+
+same-length-2 : tie.Need-same-length-2
+same-length-2 c = search (records, needs)
 
 returns-3 : tie.Need-returns-3
 returns-3 c = search (records, needs)
@@ -46,16 +55,19 @@ pub judge-record-spec : {M : Type 1} → statement M
 judge-record-spec =
     tie.close
     (tie.spec
+    part-requires
     parse-record-requires
     enum-told
     enum-known-key
     judge-map-requires
     enum-known-value
-    part-requires
-    slice-aggregate-judge-id
+    plain-requires
+    part-requires-2
     judge-id-requires
     enum-known-x
     returns
+    same-length
     returns-2
+    same-length-2
     returns-3
     returns-4)

@@ -3,6 +3,9 @@ use borrow.Author.Needs.{needs}
 use Rattle.header.proofs.verdict.judge_text.Statement.{statement}
 use Rattle.header.proofs.verdict.judge_text.Tie as tie
 
+part-requires : tie.Need-part-requires
+part-requires c κs = search (texts, needs)
+
 enum-told : tie.Need-enum-told
 enum-told c = search (texts, needs)
 
@@ -33,6 +36,9 @@ enum-told-2 c = search (texts, needs)
 returns-2 : tie.Need-returns-2
 returns-2 c = search (texts, needs)
 
+same-length : tie.Need-same-length
+same-length c = search (texts, needs)
+
 returns-3 : tie.Need-returns-3
 returns-3 c = search (texts, needs)
 
@@ -43,6 +49,7 @@ pub judge-text-spec : {M : Type 1} → statement M
 judge-text-spec =
     tie.close
     (tie.spec
+    part-requires
     enum-told
     judge-first-requires
     enum-known-phase
@@ -53,5 +60,6 @@ judge-text-spec =
     judge-record-requires
     enum-told-2
     returns-2
+    same-length
     returns-3
     returns-4)

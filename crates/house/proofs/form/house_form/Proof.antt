@@ -1,4 +1,4 @@
-use Rattle.house.proofs.Answers.{form-told, form-output, houses}
+use Rattle.house.proofs.Answers.{houses}
 use borrow.Author.Needs.{needs}
 use Rattle.house.proofs.form.house_form.Statement.{statement}
 use Rattle.house.proofs.form.house_form.Tie as tie
@@ -15,14 +15,8 @@ refuse-requires c κs = search (houses, needs)
 enum-known-outcome-2 : tie.Need-enum-known-outcome-2
 enum-known-outcome-2 c = search (houses, needs)
 
-mul-answer-accepted : tie.Need-mul-answer-accepted
-mul-answer-accepted c = search (houses, needs)
-
-slice-reshare-prefix-answer-accepted : tie.Need-slice-reshare-prefix-answer-accepted
-slice-reshare-prefix-answer-accepted c = search (houses, needs)
-
-slice-aggregate-answer-accepted : tie.Need-slice-aggregate-answer-accepted
-slice-aggregate-answer-accepted c = search (houses, needs)
+kept-requires : tie.Need-kept-requires
+kept-requires c κs = search (houses, needs)
 
 answer-accepted-requires : tie.Need-answer-accepted-requires
 answer-accepted-requires c κs = search (houses, needs)
@@ -40,7 +34,7 @@ same-length-3 : tie.Need-same-length-3
 same-length-3 c = search (houses, needs)
 
 returns-2 : tie.Need-returns-2
-returns-2 c = (search form-told, (search needs, search form-output))
+returns-2 c = search (houses, needs)
 
 pub house-form-spec : {M : Type 1} → statement M
 house-form-spec =
@@ -50,9 +44,7 @@ house-form-spec =
     enum-known-outcome
     refuse-requires
     enum-known-outcome-2
-    mul-answer-accepted
-    slice-reshare-prefix-answer-accepted
-    slice-aggregate-answer-accepted
+    kept-requires
     answer-accepted-requires
     same-length
     returns

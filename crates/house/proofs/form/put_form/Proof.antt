@@ -9,11 +9,8 @@ put-version-requires c κs = search (form-put, needs)
 put-records-requires : tie.Need-put-records-requires
 put-records-requires c κs = search (form-put, needs)
 
-column-word-requires : tie.Need-column-word-requires
-column-word-requires c κs = search (form-put, needs)
-
-line-part-requires : tie.Need-line-part-requires
-line-part-requires c κs = search (form-put, needs)
+column-line-requires : tie.Need-column-line-requires
+column-line-requires c κs = search (form-put, needs)
 
 put-plain-requires : tie.Need-put-plain-requires
 put-plain-requires c κs = search (form-put, needs)
@@ -30,8 +27,7 @@ put-form-spec =
     (tie.spec
     put-version-requires
     put-records-requires
-    column-word-requires
-    line-part-requires
+    column-line-requires
     put-plain-requires
     same-length
     returns)

@@ -3,9 +3,6 @@ use borrow.Author.Needs.{needs}
 use Rattle.house.proofs.keys.is_first.Statement.{statement}
 use Rattle.house.proofs.keys.is_first.Tie as tie
 
-kind-in-requires : tie.Need-kind-in-requires
-kind-in-requires c κs = search (firsts, needs)
-
 returns : tie.Need-returns
 returns c = search (firsts, needs)
 
@@ -23,5 +20,4 @@ returns-3 c = search (firsts, needs)
 
 pub is-first-spec : {M : Type 1} → statement M
 is-first-spec =
-    tie.close
-    (tie.spec kind-in-requires returns returns-2 prefix-part-requires is-seen-requires returns-3)
+    tie.close (tie.spec returns returns-2 prefix-part-requires is-seen-requires returns-3)

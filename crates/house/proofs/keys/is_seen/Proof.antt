@@ -1,27 +1,24 @@
 use Prim.Native.Nat.{_-_}
-use lib.ListN.{length}
+use Rattle.entries.specs.Tables.{room}
 use Rattle.house.proofs.Others.{Seens, seens}
 use borrow.Author.Needs.{needs}
 use Rattle.house.proofs.keys.is_seen.Statement.{statement}
 use Rattle.house.proofs.keys.is_seen.Tie as tie
 
 abbrev Inv-loop : tie.InvT-loop
-Inv-loop h words prefix k₀ k = Seens h prefix words k
+Inv-loop h kept prefix k₀ k = Seens h prefix kept k
 
 abbrev μ-loop : tie.MeasureT-loop
-μ-loop h words prefix k₀ k = length words - k
+μ-loop h kept prefix k₀ k = room kept - k
 
 loop-holds : tie.Need-loop-holds Inv-loop μ-loop
 loop-holds c = search (seens, needs)
 
-add-loop : tie.Need-add-loop Inv-loop μ-loop
-add-loop c = search (seens, needs)
+count-requires : tie.Need-count-requires Inv-loop μ-loop
+count-requires c κs = search (seens, needs)
 
-mul-w : tie.Need-mul-w Inv-loop μ-loop
-mul-w c = search (seens, needs)
-
-shared-slice-read-w : tie.Need-shared-slice-read-w Inv-loop μ-loop
-shared-slice-read-w c = search (seens, needs)
+get-requires : tie.Need-get-requires Inv-loop μ-loop
+get-requires c κs = search (seens, needs)
 
 add-k : tie.Need-add-k Inv-loop μ-loop
 add-k c = search (seens, needs)
@@ -48,9 +45,8 @@ is-seen-spec =
     Inv-loop
     μ-loop
     loop-holds
-    add-loop
-    mul-w
-    shared-slice-read-w
+    count-requires
+    get-requires
     add-k
     is-under-requires
     returns

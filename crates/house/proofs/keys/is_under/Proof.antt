@@ -3,9 +3,6 @@ use borrow.Author.Needs.{needs}
 use Rattle.house.proofs.keys.is_under.Statement.{statement}
 use Rattle.house.proofs.keys.is_under.Tie as tie
 
-kind-in-requires : tie.Need-kind-in-requires
-kind-in-requires c κs = search (unders, needs)
-
 returns : tie.Need-returns
 returns c = search (unders, needs)
 
@@ -23,5 +20,4 @@ returns-3 c = search (unders, needs)
 
 pub is-under-spec : {M : Type 1} → statement M
 is-under-spec =
-    tie.close
-    (tie.spec kind-in-requires returns returns-2 line-part-requires starts-with-requires returns-3)
+    tie.close (tie.spec returns returns-2 line-part-requires starts-with-requires returns-3)

@@ -1,28 +1,25 @@
 use Prim.Native.Nat.{_-_}
-use lib.ListN.{length}
 use Rattle.records.specs.Formats.{versionOf}
+use Rattle.entries.specs.Tables.{room}
 use Rattle.house.proofs.Picks.{Picking, pick-start, picks}
 use borrow.Author.Needs.{needs}
 use Rattle.house.proofs.keys.put_key.Statement.{statement}
 use Rattle.house.proofs.keys.put_key.Tie as tie
 
 abbrev Inv-loop : tie.InvT-loop
-Inv-loop h words prefix version out₀ progress₀ k₀ out progress k = Picking (versionOf version) h words prefix out₀ progress₀ out progress k
+Inv-loop h kept prefix version out₀ progress₀ k₀ out progress k = Picking (versionOf version) h kept prefix out₀ progress₀ out progress k
 
 abbrev μ-loop : tie.MeasureT-loop
-μ-loop h words prefix version out₀ progress₀ k₀ out progress k = length words - k
+μ-loop h kept prefix version out₀ progress₀ k₀ out progress k = room kept - k
 
 loop-holds : tie.Need-loop-holds Inv-loop μ-loop
 loop-holds c = pick-start _ _ _ _ _ _ (search needs) (search needs) (search needs)
 
-add-loop : tie.Need-add-loop Inv-loop μ-loop
-add-loop c = search (picks, needs)
+count-requires : tie.Need-count-requires Inv-loop μ-loop
+count-requires c κs = search (picks, needs)
 
-mul-w : tie.Need-mul-w Inv-loop μ-loop
-mul-w c = search (picks, needs)
-
-shared-slice-read-w : tie.Need-shared-slice-read-w Inv-loop μ-loop
-shared-slice-read-w c = search (picks, needs)
+get-requires : tie.Need-get-requires Inv-loop μ-loop
+get-requires c κs = search (picks, needs)
 
 add-k : tie.Need-add-k Inv-loop μ-loop
 add-k c = search (picks, needs)
@@ -58,9 +55,8 @@ put-key-spec =
     Inv-loop
     μ-loop
     loop-holds
-    add-loop
-    mul-w
-    shared-slice-read-w
+    count-requires
+    get-requires
     add-k
     is-under-requires
     put-entry-requires

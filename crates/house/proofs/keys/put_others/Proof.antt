@@ -1,36 +1,31 @@
-use native.Mathlib.Omega.{arith}
-use lib.ListN.{length-take}
 use Prim.Native.Nat.{_-_}
-use lib.ListN.{length}
 use Rattle.records.specs.Formats.{versionOf}
+use Rattle.entries.specs.Tables.{room}
 use Rattle.house.proofs.Others.{Othering, other-start, others}
 use borrow.Author.Needs.{needs}
 use Rattle.house.proofs.keys.put_others.Statement.{statement}
 use Rattle.house.proofs.keys.put_others.Tie as tie
 
 abbrev Inv-loop : tie.InvT-loop
-Inv-loop h words version out₀ progress₀ k₀ out progress k = Othering (versionOf version) h words out₀ progress₀ out progress k
+Inv-loop h kept version out₀ progress₀ k₀ out progress k = Othering (versionOf version) h kept out₀ progress₀ out progress k
 
 abbrev μ-loop : tie.MeasureT-loop
-μ-loop h words version out₀ progress₀ k₀ out progress k = length words - k
+μ-loop h kept version out₀ progress₀ k₀ out progress k = room kept - k
 
 loop-holds : tie.Need-loop-holds Inv-loop μ-loop
 loop-holds c = other-start _ _ _ _ _ (search needs) (search needs) (search needs)
 
-add-loop : tie.Need-add-loop Inv-loop μ-loop
-add-loop c = search (others, needs)
+count-requires : tie.Need-count-requires Inv-loop μ-loop
+count-requires c κs = search (others, needs)
 
-mul-w : tie.Need-mul-w Inv-loop μ-loop
-mul-w c = search (others, needs)
+get-requires : tie.Need-get-requires Inv-loop μ-loop
+get-requires c κs = search (others, needs)
 
-shared-slice-read-w : tie.Need-shared-slice-read-w Inv-loop μ-loop
-shared-slice-read-w c = search (others, needs)
+kept-requires : tie.Need-kept-requires Inv-loop μ-loop
+kept-requires c κs = search (others, needs)
 
 add-k : tie.Need-add-k Inv-loop μ-loop
 add-k c = search (others, needs)
-
-slice-aggregate-is-first : tie.Need-slice-aggregate-is-first Inv-loop μ-loop
-slice-aggregate-is-first c = simp length-take (omega arith)
 
 is-first-requires : tie.Need-is-first-requires Inv-loop μ-loop
 is-first-requires c κs = search (others, needs)
@@ -66,11 +61,10 @@ put-others-spec =
     Inv-loop
     μ-loop
     loop-holds
-    add-loop
-    mul-w
-    shared-slice-read-w
+    count-requires
+    get-requires
+    kept-requires
     add-k
-    slice-aggregate-is-first
     is-first-requires
     prefix-part-requires
     put-key-requires

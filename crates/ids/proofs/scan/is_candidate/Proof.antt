@@ -3,9 +3,6 @@ use borrow.Author.Needs.{needs}
 use Rattle.ids.proofs.scan.is_candidate.Statement.{statement}
 use Rattle.ids.proofs.scan.is_candidate.Tie as tie
 
-kind-in-requires : tie.Need-kind-in-requires
-kind-in-requires c κs = search (candidates, needs)
-
 returns : tie.Need-returns
 returns c = search (candidates, needs)
 
@@ -23,5 +20,4 @@ returns-3 c = search (candidates, needs)
 
 pub is-candidate-spec : {M : Type 1} → statement M
 is-candidate-spec =
-    tie.close
-    (tie.spec kind-in-requires returns may-equal-requires returns-2 is-under-requires returns-3)
+    tie.close (tie.spec returns may-equal-requires returns-2 is-under-requires returns-3)

@@ -1,33 +1,27 @@
 use Prim.Native.Nat.{_-_}
-use lib.ListN.{length}
+use Rattle.entries.specs.Tables.{room}
 use Rattle.ids.proofs.Seen.{Keys, keys}
 use borrow.Author.Needs.{needs}
 use Rattle.ids.proofs.scan.key_seen.Statement.{statement}
 use Rattle.ids.proofs.scan.key_seen.Tie as tie
 
 abbrev Inv-loop : tie.InvT-loop
-Inv-loop h words prefix kind k₀ k = Keys h prefix kind words k
+Inv-loop h kept prefix kind k₀ k = Keys h prefix kind kept k
 
 abbrev μ-loop : tie.MeasureT-loop
-μ-loop h words prefix kind k₀ k = length words - k
+μ-loop h kept prefix kind k₀ k = room kept - k
 
 loop-holds : tie.Need-loop-holds Inv-loop μ-loop
 loop-holds c = search (keys, needs)
 
-add-loop : tie.Need-add-loop Inv-loop μ-loop
-add-loop c = search (keys, needs)
+count-requires : tie.Need-count-requires Inv-loop μ-loop
+count-requires c κs = search (keys, needs)
 
-mul-w : tie.Need-mul-w Inv-loop μ-loop
-mul-w c = search (keys, needs)
-
-shared-slice-read-w : tie.Need-shared-slice-read-w Inv-loop μ-loop
-shared-slice-read-w c = search (keys, needs)
+get-requires : tie.Need-get-requires Inv-loop μ-loop
+get-requires c κs = search (keys, needs)
 
 add-k : tie.Need-add-k Inv-loop μ-loop
 add-k c = search (keys, needs)
-
-kind-in-requires : tie.Need-kind-in-requires Inv-loop μ-loop
-kind-in-requires c κs = search (keys, needs)
 
 line-part-requires : tie.Need-line-part-requires Inv-loop μ-loop
 line-part-requires c κs = search (keys, needs)
@@ -60,11 +54,9 @@ key-seen-spec =
     Inv-loop
     μ-loop
     loop-holds
-    add-loop
-    mul-w
-    shared-slice-read-w
+    count-requires
+    get-requires
     add-k
-    kind-in-requires
     line-part-requires
     starts-with-requires
     returns

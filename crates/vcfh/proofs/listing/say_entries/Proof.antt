@@ -18,23 +18,11 @@ text-requires c κs = search needs
 loop-holds : tie.Need-loop-holds Inv-loop μ-loop
 loop-holds c = search needs
 
-returns : tie.Need-returns Inv-loop μ-loop
-returns c = search needs
-
 add-own : tie.Need-add-own Inv-loop μ-loop
 add-own c = search needs
 
-mul-w : tie.Need-mul-w Inv-loop μ-loop
-mul-w c = search needs
-
-mul-w-2 : tie.Need-mul-w-2 Inv-loop μ-loop
-mul-w-2 c = search needs
-
-shared-slice-read-w : tie.Need-shared-slice-read-w Inv-loop μ-loop
-shared-slice-read-w c = search needs
-
-kind-in-requires : tie.Need-kind-in-requires Inv-loop μ-loop
-kind-in-requires c κs = search needs
+get-requires : tie.Need-get-requires Inv-loop μ-loop
+get-requires c κs = search needs
 
 line-of-requires : tie.Need-line-of-requires Inv-loop μ-loop
 line-of-requires c κs = search needs
@@ -48,8 +36,8 @@ loop-less c = search needs
 loop-again : tie.Need-loop-again Inv-loop μ-loop
 loop-again c = search needs
 
-returns-2 : tie.Need-returns-2 Inv-loop μ-loop
-returns-2 c = search needs
+returns : tie.Need-returns Inv-loop μ-loop
+returns c = search needs
 
 pub say-entries-spec : {M : Type 1} → statement M
 say-entries-spec =
@@ -60,14 +48,10 @@ say-entries-spec =
     slice-aggregate-text
     text-requires
     loop-holds
-    returns
     add-own
-    mul-w
-    mul-w-2
-    shared-slice-read-w
-    kind-in-requires
+    get-requires
     line-of-requires
     say-entry-requires
     loop-less
     loop-again
-    returns-2)
+    returns)

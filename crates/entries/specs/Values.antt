@@ -1,0 +1,19 @@
+-- The code's entry and limits, as the rules have them. Assumes nothing.
+use Rattle.rules.specs.Sizes.{Limits as RuleLimits}
+use Rattle.rules.specs.Entry.{Entry as RuleEntry}
+use Rattle.entries.specs.declared.entry.Entry.{Entry}
+use Rattle.entries.specs.declared.limits.Limits.{Limits}
+
+abbrev pub entryOf : Entry → RuleEntry
+entryOf e = record {
+  kind = e .kind;
+  start = e .start;
+  length = e .length;
+  offset = e .offset;
+  idLength = e .«id_length»;
+  quoted = e .quoted;
+  tag = e .tag;
+}
+
+abbrev pub limitsOf : Limits → RuleLimits
+limitsOf l = record { header = l .header; line = l .line }

@@ -1,0 +1,15 @@
+// How long a header and a line may be.
+
+// In bytes; a line's without its ending.
+pub struct Limits {
+    pub header: usize,
+    pub line: usize,
+}
+
+impl Limits {
+    // An entry's start has 20 bits, a length 16.
+    pub const FIRST: Limits = Limits {
+        header: 0xF_FFFF,
+        line: 0xFFFF,
+    };
+}

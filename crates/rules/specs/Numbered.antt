@@ -1,0 +1,126 @@
+-- Document 01, "Refusal numbers": for each number the smallest header that is refused by it, with its place, computed by the checker. Assumes nothing.
+use Prim.Native.Nat.{ℕ}
+use mathlib.Core.Path.{_≡_, refl}
+use mathlib.Core.List.{List, [], _∷_, _++_, map}
+use mathlib.Core.Option.{none}
+use Prim.Native.String.{String}
+use Rattle.values.specs.Bytes.{Bytes, ascii}
+use Rattle.rules.specs.Sizes.{Limits, limits}
+use Rattle.rules.specs.House.{HouseReading, house}
+use Rattle.rules.specs.Examples.{opened, F, COLS, filters}
+
+-- a house-form call without a version imposed: the limits, the entries and the bytes that there is room for, and the header
+pub record Call : Type 0 where
+  pub limits : Limits
+  pub entries : ℕ
+  pub output : ℕ
+  pub header : Bytes
+
+abbrev pub given : Bytes → Call
+given h = record { limits = limits; entries = 9; output = 999; header = h }
+
+-- after the fileformat line
+abbrev pub second : String → Call
+second l = given (F ++ ascii l)
+
+-- number, line and start
+abbrev pub Place : Type 0
+Place = ℕ × ℕ × ℕ
+
+abbrev pub placed : HouseReading → Place
+placed r = (r .number, r .line, r .start)
+
+abbrev pub answer : Call → Place
+answer c = placed (house (c .limits) none (c .entries) (c .output) (c .header))
+
+abbrev pub numbered : List (Call × Place)
+numbered =
+    (given (F ++ COLS ++ ascii "\n"), (1, 3, 60))
+    ∷ (record { limits = record { header = 99; line = 20 }; entries = 9; output = 999; header = F ++ ascii "##a=45678901234567890" }, (2, 2, 21))
+    ∷ (given (F ++ 0xFF ∷ []), (3, 2, 21))
+    ∷ (given (ascii "##a=b"), (4, 1, 0))
+    ∷ (given (F ++ F), (5, 2, 21))
+    ∷ (second "#", (6, 2, 21))
+    ∷ (second "##=x", (6, 2, 21))
+    ∷ (second "##a", (6, 2, 21))
+    ∷ (given (ascii "##fileformat=VCFv4."), (7, 1, 0))
+    ∷ (second "##INFO=", (8, 2, 21))
+    ∷ (second "##a=<ID=x", (8, 2, 21))
+    ∷ (second "##a=<x>", (9, 2, 21))
+    ∷ (second "##a=<K=,K=>", (10, 2, 21))
+    ∷ (second "##INFO=<Number=Q>", (11, 2, 21))
+    ∷ (given (ascii "##fileformat=VCFv4.4\n##FORMAT=<Number=LA>"), (11, 2, 21))
+    ∷ (second "##INFO=<Type=Q>", (12, 2, 21))
+    ∷ (second "##FORMAT=<Type=Flag>", (12, 2, 21))
+    ∷ (second "##FILTER=<IDX=->", (13, 2, 21))
+    ∷ (second "##contig=<length=->", (13, 2, 21))
+    ∷ (second "##a=<>", (14, 2, 21))
+    ∷ (second "##INFO=<ID=x>", (15, 2, 21))
+    ∷ (second "##INFO=<ID=x,Number=1>", (16, 2, 21))
+    ∷ (second "##ALT=<ID=x>", (17, 2, 21))
+    ∷ (second "##FORMAT=<ID=GT,Number=2,Type=String,Description=>", (18, 2, 21))
+    ∷ (given filters, (19, 3, 51))
+    ∷ (second "##a=\n##a=<ID=x>", (20, 3, 26))
+    ∷ (second "##a=<ID=x>\n##a=", (20, 3, 32))
+    ∷ (second "##a=<ID=x>\n##a=<ID=x>", (21, 3, 32))
+    ∷ (second "#CHROM", (22, 2, 21))
+    ∷ (second "#CHROM\tPOS\tID\tREF\tALT\tQUAL\tFILTER\tINFO\tFORMAT\t\t", (23, 2, 21))
+    ∷ (record { limits = limits; entries = 1; output = 999; header = F ++ COLS }, (24, 2, 21))
+    ∷ (given [], (25, 0, 0))
+    ∷ (given F, (26, 1, 21))
+    ∷ (record { limits = record { header = 20; line = 20 }; entries = 9; output = 999; header = F }, (27, 0, 0))
+    ∷ (record { limits = limits; entries = 9; output = 59; header = F ++ COLS }, (28, 0, 0))
+    ∷ []
+
+pub numbered-cases : map (λ (c : Call × Place). answer (c .0)) numbered ≡ map (λ (c : Call × Place). c .1) numbered
+unfolding opened
+numbered-cases = refl
+
+-- a description that the form puts into quotes: two bytes more than the header
+abbrev pub quoting : Bytes
+quoting = F ++ ascii "##ALT=<ID=x,Description=y234567890123>\n" ++ COLS
+
+-- 27 and 2 of the form, where the header itself keeps the limits; 27 and 2 come before 28
+abbrev pub overlong : List (Call × Place)
+overlong =
+    (record { limits = record { header = 100; line = 99 }; entries = 9; output = 0; header = quoting }, (27, 0, 0))
+    ∷ (record { limits = record { header = 999; line = 39 }; entries = 9; output = 0; header = quoting }, (2, 2, 21))
+    ∷ []
+
+pub overlong-cases : map (λ (c : Call × Place). answer (c .0)) overlong ≡ map (λ (c : Call × Place). c .1) overlong
+unfolding opened
+overlong-cases = refl
+
+-- an accepted header between its fileformat line and its column line, and the form's lines between these
+abbrev pub between : String → String → Bytes
+between version lines = ascii version ++ ascii lines ++ COLS
+
+abbrev pub formed : List (Bytes × Bytes)
+formed =
+    -- FORMAT has five more letters from 4.5
+    (
+      between "##fileformat=VCFv4.5\n" "##FORMAT=<ID=a,Number=LA,Type=String,Description=>\n##FORMAT=<ID=b,Number=LR,Type=String,Description=>\n##FORMAT=<ID=c,Number=LG,Type=String,Description=>\n##FORMAT=<ID=d,Number=P,Type=String,Description=>\n##FORMAT=<ID=e,Number=M,Type=String,Description=>\n",
+      between "##fileformat=VCFv4.5\n" "##FORMAT=<ID=a,Number=LA,Type=String,Description=\"\">\n##FORMAT=<ID=b,Number=LR,Type=String,Description=\"\">\n##FORMAT=<ID=c,Number=LG,Type=String,Description=\"\">\n##FORMAT=<ID=d,Number=P,Type=String,Description=\"\">\n##FORMAT=<ID=e,Number=M,Type=String,Description=\"\">\n",
+    )
+    -- Child names the ID before 4.3, is kept as its tag, and stands first
+    ∷ (between "##fileformat=VCFv4.2\n" "##PEDIGREE=<K=1,Child=x>\n", between "##fileformat=VCFv4.2\n" "##PEDIGREE=<Child=x,K=1>\n")
+    -- the order of known fields, and integers without sign or zeros
+    ∷ (
+      between "##fileformat=VCFv4.3\n" "##contig=<IDX=+1,URL=u,K=v,md5=m,length=007,ID=c>\n",
+      between "##fileformat=VCFv4.3\n" "##contig=<ID=c,length=7,md5=m,URL=u,IDX=1,K=v>\n",
+    )
+    -- typed kinds first, then other keys by first appearance, each with its lines in order
+    ∷ (
+      between "##fileformat=VCFv4.3\n" "##b=1\n##a=2\n##contig=<ID=c>\n##b=1\n##FILTER=<ID=q,Description=x>\n",
+      between "##fileformat=VCFv4.3\n" "##FILTER=<ID=q,Description=\"x\">\n##contig=<ID=c>\n##b=1\n##b=1\n##a=2\n",
+    )
+    -- a value that has to be quoted, and one that need not be
+    ∷ (
+      between "##fileformat=VCFv4.3\n" "##a=<ID=\"x\",K=\"\\\\\",L=\"<\",M=\"a>\",N=\"\\\"\">\n",
+      between "##fileformat=VCFv4.3\n" "##a=<ID=x,K=\\,L=<,M=\"a>\",N=\"\\\"\">\n",
+    )
+    ∷ []
+
+pub formed-cases : map (λ (c : Bytes × Bytes). house limits none 9 999 (c .0) .form) formed ≡ map (λ (c : Bytes × Bytes). c .1) formed
+unfolding opened
+formed-cases = refl

@@ -1,0 +1,16 @@
+use Rattle.values.proofs.Markings.{bit-is}
+use borrow.Author.Needs.{needs}
+use Rattle.values.proofs.marks.bit_of.Statement.{statement}
+use Rattle.values.proofs.marks.bit_of.Tie as tie
+
+cast-result : tie.Need-cast-result
+cast-result c = search (bit-is, needs)
+
+shl-result : tie.Need-shl-result
+shl-result c = search (bit-is, needs)
+
+returns : tie.Need-returns
+returns c = search (bit-is, needs)
+
+pub bit-of-spec : {M : Type 1} → statement M
+bit-of-spec = tie.close (tie.spec cast-result shl-result returns)

@@ -1,7 +1,7 @@
 #!/usr/bin/env python3
-"""Makes the recorded cases of crates/calls from model.py: what the calls show of the entries that reading leaves, and of forged
-ones. The words of a case are the version of its field calls, the table's words, the entry and the field (each: all of them,
-and one past the last), and its file, whose first line forges words (-: the word that reading left)."""
+"""Makes the recorded calls, crates/cases/data/calls, from model.py: what the calls show of the entries that reading leaves, and
+of forged ones. Asked are the version of the field calls, the table's words, the entry and the field (each: all of them, and one
+past the last), and the words forged (-: the word that reading left)."""
 import model
 import record
 from pieces import COLS, EXAMPLE, F, FILTER_CASE, QUOTED_EXAMPLE, text, words
@@ -32,12 +32,12 @@ def add(name, header, version=(4, 3), size=SIZE, entry=None, field=None, forged=
     forged = forged or {}
     left = [word for pair in model.read(header, None, size).entries for word in pair]
     table = [forged.get(k, word) for k, word in enumerate(left + [0] * (size - len(left)))]
-    line = ' '.join(str(forged.get(k, '-')) for k in range(max(forged, default=-1) + 1)).encode()
+    words_forged = [str(forged.get(k, '-')) for k in range(max(forged, default=-1) + 1)]
     entries = range(size // 2 + 1) if entry is None else [entry]
-    steps = [b' steps=%d' % steps_over(header, table)] if entry is None else []
-    shown = [name.encode()] + steps + [entry_line(header, table, n, version, field) for n in entries]
-    CASES[name] = (words(version, size, 'each' if entry is None else entry, 'each' if field is None else field, name),
-                   line + b'\n' + header, b'\n'.join(shown))
+    steps = [b'steps=%d' % steps_over(header, table)] if entry is None else []
+    shown = steps + [entry_line(header, table, n, version, field) for n in entries]
+    asked = words('show', version, size, 'each' if entry is None else entry, 'each' if field is None else field, *words_forged)
+    CASES[name] = (name, asked, record.escaped(header), b'\n'.join(shown))
 
 
 def steps_over(header, table):
@@ -52,7 +52,7 @@ def entry_line(header, table, n, version, field):
     id_ = part(model.entry_id, header, table, n)
     fields = [part(model.entry_field, header, table, n, field, version)] if field is not None else all_fields(header, table, n, version)
     bytes_ = header[id_[0]:id_[1]] if id_ else b''
-    return b' %d entry=%s id=%s %s fields: %s' % (n, said(part(model.entry, header, table, n)), said(id_), bytes_,
+    return b'%d entry=%s id=%s %s fields: %s' % (n, said(part(model.entry, header, table, n)), said(id_), bytes_,
                                                   b' '.join(said(f) for f in fields))
 
 

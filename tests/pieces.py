@@ -30,13 +30,14 @@ def map_line(key, fields):
 
 
 def stretched(data, length):
-    """As the programs do it: the bytes from 512 to 1,024 are repeated at their place, up to the length."""
+    """The bytes from 512 to 1,024 are repeated at their place, up to the length."""
     if length is None:
         return data
     more = length - len(data)
+    assert more >= 0
     return data[:1024] + (data[512:1024] * (more // 512 + 1))[:more] + data[1024:]
 
 
 def words(*options):
-    """The words of a case's arguments: a version, a number or None."""
+    """The words of what is asked: a version, a number, a word, or None."""
     return ' '.join('own' if o is None else 'VCFv%d.%d' % o if isinstance(o, tuple) else str(o) for o in options)

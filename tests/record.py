@@ -1,43 +1,47 @@
-"""Writes recorded cases: data/NAME for each case, args with the words of each, stdout with what the program must print.
-With --check it writes nothing, and fails if a file isn't what it would have written."""
+"""Writes recorded cases: crates/cases/data/NAME has a line for each, of its name, what is asked, the input and what must come,
+parted by tabs and escaped. With --check it writes nothing, and fails if a file isn't what it would have written."""
 import os
-import shutil
 import sys
 
 CRATES = os.path.join(os.path.dirname(os.path.abspath(__file__)), '..', 'crates')
+CASES = os.path.join(CRATES, 'cases')
+LETTERS = {b'\\'[0]: '\\\\', b'\n'[0]: '\\n', b'\r'[0]: '\\r', b'\t'[0]: '\\t'}
 
 
-def write(crate, cases):
-    """cases: (the words of its arguments, the last of which names its file; bytes of the file; expected line without its LF)."""
-    files = {'data/' + words.split()[-1]: data for words, data, _ in cases}
-    if len(files) < len(cases):
-        sys.exit(f'{crate}: two cases have one name')
-    files['args'] = ''.join(word + '\n' for words, _, _ in cases for word in words.split()).encode()
-    files['stdout'] = b''.join(expected + b'\n' for _, _, expected in cases)
-    keep(crate, files)
-    print(f'{crate}: {len(cases)} cases')
+def escaped(data):
+    return ''.join(LETTERS.get(b) or (chr(b) if 32 <= b < 127 else f'\\x{b:02x}') for b in data)
+
+
+def stretched(data, length):
+    """The escaped input: `\\+N;` stands for the 512 bytes before it, over and over, N bytes of them."""
+    return escaped(data) if length is None else f'{escaped(data[:1024])}\\+{length - len(data)};{escaped(data[1024:])}'
+
+
+def write(name, cases):
+    """cases: (name, what is asked, the escaped input, what must come)."""
+    if len({case[0] for case in cases}) < len(cases):
+        sys.exit(f'{name}: two cases have one name')
+    lines = ['\t'.join([case, asked, given, escaped(expected)]) for case, asked, given, expected in cases]
+    keep('cases', {'data/' + name: ''.join(line + '\n' for line in lines).encode('ascii')})
+    names = sorted(os.listdir(os.path.join(CASES, 'data')))
+    counts = ''.join(f'{each}: {read(CASES, "data/" + each).count(10)} cases, 0 wrong\n' for each in names)
+    keep('cases', {'args': ''.join(each + '\n' for each in names).encode(), 'stdout': counts.encode()})
+    print(f'{name}: {len(cases)} cases')
 
 
 def keep(crate, files):
-    """files: name in the crate -> bytes. A file of data/ that isn't among them goes."""
+    """files: name in the crate -> bytes."""
     root = os.path.join(CRATES, crate)
     if '--check' in sys.argv[1:]:
-        differ = sorted(name for name in files.keys() | stored(root) if read(root, name) != files.get(name))
+        differ = sorted(name for name, data in files.items() if read(root, name) != data)
         if differ:
             sys.exit(f'{crate}: not as the script has it: {" ".join(differ)}')
         return
-    shutil.rmtree(os.path.join(root, 'data'), ignore_errors=True)
     for name, data in files.items():
         path = os.path.join(root, name)
         os.makedirs(os.path.dirname(path), exist_ok=True)
         with open(path, 'wb') as f:
             f.write(data)
-
-
-def stored(root):
-    """The names of the recorded files that are there."""
-    data = os.path.join(root, 'data')
-    return {'data/' + name for name in (os.listdir(data) if os.path.isdir(data) else [])}
 
 
 def read(root, name):

@@ -1,6 +1,6 @@
 #!/usr/bin/env python3
-"""Makes the recorded cases of crates/valuecheck. A file's first letter says what is asked of its bytes:
-u UTF-8, n a 64-bit number, p a version's part, f a field, m a field of a META."""
+"""Makes the recorded cases of the crate `values`, crates/cases/data/values, from model.py. Asked is what the bytes are: utf8, u64 a
+number, u32 a version's part, field, meta a field of a META."""
 import random
 
 import model
@@ -37,26 +37,21 @@ def field_cases():
 def field_line(data, meta):
     f = model.field(data, 0, meta)
     if f is None:
-        return b' refused'
-    places = f' equals={f.equals} start={f.text_start} end={f.text_end} next={f.end} {"quoted" if f.quoted else "bare"}'
+        return b'refused'
+    places = f'equals={f.equals} start={f.text_start} end={f.text_end} next={f.end} {"quoted" if f.quoted else "bare"}'
     return places.encode() + b' means ' + f.value + b' written ' + model.quote(f.value)
 
 
 def number_line(number):
-    return b' refused' if number is None else b' value=%d' % number
+    return b'refused' if number is None else b'value=%d' % number
 
 
-def numbered(letter, inputs, expect):
-    return [(f'{letter}{i:03}', data, f'{letter}{i:03}'.encode() + expect(data)) for i, data in enumerate(inputs)]
+def numbered(asked, inputs, expect):
+    return [(f'{asked}-{i:03}', asked, record.escaped(data), expect(data)) for i, data in enumerate(inputs)]
 
 
-def spelled(data):
-    number = model.u64(data)
-    return number_line(number) + (b'' if number is None else b' decimal=%d' % number)
-
-
-record.write('valuecheck', numbered('u', utf8_cases(), lambda d: b' utf8' if model.is_utf8(d) else b' refused')
-             + numbered('n', number_cases(), spelled)
-             + numbered('p', number_cases(), lambda d: number_line(model.u32(d)))
-             + numbered('f', field_cases(), lambda d: field_line(d, False))
-             + numbered('m', field_cases(), lambda d: field_line(d, True)))
+record.write('values', numbered('utf8', utf8_cases(), lambda d: b'utf8' if model.is_utf8(d) else b'refused')
+             + numbered('u64', number_cases(), lambda d: number_line(model.u64(d)))
+             + numbered('u32', number_cases(), lambda d: number_line(model.u32(d)))
+             + numbered('field', field_cases(), lambda d: field_line(d, False))
+             + numbered('meta', field_cases(), lambda d: field_line(d, True)))

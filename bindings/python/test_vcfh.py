@@ -45,6 +45,22 @@ class Reading(unittest.TestCase):
         self.assertEqual(len(vcfh.Header(meta)), 3)
         self.assertEqual(self.refused(meta, (4, 2)).number, 9)
 
+    def test_major_and_minor_of_the_version_imposed_are_told_apart(self):
+        meta = b"##fileformat=VCFv4.2\n##META=<ID=x,Values=[a,b]>\n" + COLUMNS + b"\n"
+        self.assertEqual(len(vcfh.Header(meta, (4, 3))), 3)
+        self.assertEqual([self.refused(meta, version).number for version in (None, (3, 4))], [9, 9])
+        self.assertEqual(vcfh.house_form(meta, (4, 3)), meta.replace(b"4.2", b"4.3"))
+        self.assertEqual(vcfh.Header(meta, (4, 3))[1].fields, [b"ID=x", b"Values=[a,b]"])
+
+    def test_a_refused_house_form_has_its_line_and_start(self):
+        with self.assertRaises(vcfh.Refused) as caught:
+            vcfh.house_form(b'##fileformat=VCFv4.3\n##FILTER=<ID=q,Description=x>\n##FILTER=<ID="q",Description=x>\n')
+        self.assertEqual((caught.exception.number, caught.exception.line, caught.exception.start), (19, 3, 51))
+
+    def test_entry_and_field_are_told_apart(self):
+        header = vcfh.Header(b'##fileformat=VCFv4.3\n##b=text\n##c=<K=1,L="2,3",ID="W07">\n' + COLUMNS + b"\n")
+        self.assertEqual([entry.fields for entry in header], [[], [], [b"K=1", b'L="2,3"', b'ID="W07"'], []])
+
     def test_every_number_has_its_own_words(self):
         self.assertEqual(sorted(vcfh.WORDS), list(range(1, 30)))
         self.assertEqual(len(set(vcfh.WORDS.values())), 29)

@@ -67,6 +67,32 @@ fn the_version_imposed_is_the_one_in_force() {
 }
 
 #[test]
+fn major_and_minor_of_the_version_imposed_are_told_apart() {
+    let bytes = format!("##fileformat=VCFv4.2\n##META=<ID=x,Values=[a,b]>\n{COLUMNS}\n");
+    let by = |major, minor| Some(Version { major, minor });
+    assert!(Header::read(bytes.as_bytes(), by(4, 3)).is_ok());
+    assert_eq!(Header::read(bytes.as_bytes(), None).unwrap_err().number, 9);
+    assert_eq!(Header::read(bytes.as_bytes(), by(3, 4)).unwrap_err().number, 9);
+    assert_eq!(vcfh::house_form(bytes.as_bytes(), by(4, 3)).unwrap(), bytes.replace("4.2", "4.3").as_bytes());
+    assert_eq!(vcfh::house_form(bytes.as_bytes(), by(3, 4)).unwrap_err().number, 9);
+}
+
+#[test]
+fn a_refused_house_form_has_its_line_and_start() {
+    let bytes = b"##fileformat=VCFv4.3\n##FILTER=<ID=q,Description=x>\n##FILTER=<ID=\"q\",Description=x>\n";
+    assert_eq!(vcfh::house_form(bytes, None).unwrap_err(), Refused { number: 19, line: 3, start: 51 });
+}
+
+#[test]
+fn entry_and_field_are_told_apart() {
+    let bytes = format!("##fileformat=VCFv4.3\n##b=text\n##c=<K=1,L=\"2,3\",ID=\"W07\">\n{COLUMNS}\n");
+    let header = Header::read(bytes.as_bytes(), None).unwrap();
+    let fields: Vec<Vec<&[u8]>> = header.entries().map(|entry| entry.fields().collect()).collect();
+    let none: Vec<&[u8]> = vec![];
+    assert_eq!(fields, [none.clone(), none.clone(), vec![&b"K=1"[..], b"L=\"2,3\"", b"ID=\"W07\""], none]);
+}
+
+#[test]
 fn every_number_has_its_own_words() {
     let mut words: Vec<&str> = (1..=29).map(|number| Refused { number, line: 0, start: 0 }.words()).collect();
     let none = Refused { number: 30, line: 0, start: 0 }.words();

@@ -15,18 +15,20 @@ use Rattle.rules.specs.Shown.{Part}
 use Rattle.entries.specs.Tables.{room, stored as storedIn, shownField}
 use Rattle.records.specs.Refusals.{number}
 use Rattle.records.specs.declared.refusal.Refusal.{Refusal}
+use Rattle.records.specs.declared.refusal.Refusal.the-variants as refusal
 use Rattle.records.specs.Formats.{versionOf}
 use Rattle.records.specs.declared.file_format.FileFormat.{FileFormat}
-use Rattle.entries.specs.Shown.{shownAs, Inside}
+use Rattle.entries.specs.Shown.{answered, orRefused, shownAs, Inside}
 use Rattle.entries.specs.declared.shown.Shown.{Shown}
 use Rattle.entries.specs.declared.shown.Shown.the-variants as shown
-use Rattle.header.specs.Parsers.{Told, told, tells, outcomeNumber}
+use Rattle.entries.proofs.Calls.{answer-is}
+use Rattle.header.specs.Parsers.{AnswerMeaning, answerMeans, readingMeans, outcomeNumber}
 use Rattle.header.specs.declared.parser.Outcome.{Outcome}
 use Rattle.header.specs.declared.parser.Outcome.the-variants as outcome
 use Rattle.header.specs.declared.parser.ReadAnswer.{ReadAnswer}
-use Rattle.house.specs.Answers.{ToldForm, toldForm, tellsForm}
+use Rattle.house.specs.Answers.{FormMeaning, formAnswerMeans, houseMeans}
 use Rattle.house.specs.declared.form.HouseAnswer.{HouseAnswer}
-use Rattle.capi.specs.Answers.{flag, imposedBy, answerOf, formOf, partOf, partAs, Ordered}
+use Rattle.capi.specs.Answers.{flag, imposedBy, answerInC, formInC, partOf, partAs, Ordered}
 use Rattle.capi.specs.declared.VcfhAnswer.{VcfhAnswer}
 use Rattle.capi.specs.declared.VcfhForm.{VcfhForm}
 use Rattle.capi.specs.declared.VcfhPart.{VcfhPart}
@@ -42,12 +44,12 @@ as-shown none = refl
 as-shown (some p) = refl
 
 module _ (s : Shown) (o : Option Part) {r : VcfhPart} where
-  pub shows : s ≡ shownAs o → r ≡ partAs s → r ≡ partOf o
-  shows a e = e ∙ ap partAs a ∙ as-shown o
+  pub shows : answered s ≡ orRefused o → r ≡ partAs s → r ≡ partOf o
+  shows a e = e ∙ ap partAs (answer-is s o a) ∙ as-shown o
 
 module _ (h t : List ℕ) (n major minor i : ℕ) {f : FileFormat} (s : Shown) {r : VcfhPart} where
-  pub shows-field : f ≡ record { major = major; minor = minor } → s ≡ shownAs (shownField h t n (versionOf f) i) → r ≡ partAs s → r ≡ partOf (shownField h t n (version major minor) i)
-  shows-field e a b = b ∙ ap partAs a ∙ as-shown (shownField h t n (versionOf f) i) ∙ ap (λ g. partOf (shownField h t n (versionOf g) i)) e
+  pub shows-field : f ≡ record { major = major; minor = minor } → answered s ≡ orRefused (shownField h t n (versionOf f) i) → r ≡ partAs s → r ≡ partOf (shownField h t n (version major minor) i)
+  shows-field e a b = b ∙ ap partAs (answer-is s (shownField h t n (versionOf f) i) a) ∙ as-shown (shownField h t n (versionOf f) i) ∙ ap (λ g. partOf (shownField h t n (versionOf g) i)) e
 
 module _ (s : Shown) (start end : ℕ) (e : s ≡ shown.Part start end) where
   pub part-ordered : Ordered s → start ≤ end
@@ -57,34 +59,34 @@ module _ (s : Shown) (start end : ℕ) (e : s ≡ shown.Part start end) where
   part-numbers = sym (ap partAs e)
 
 module _ (s : Shown) where
-  pub no-part : s ≡ shown.Refused → record { number = 29; start = 0; length = 0 } ≡ partAs s
-  no-part e = sym (ap partAs e)
+  pub no-part : s ≡ shown.Refused → {n : ℕ} → n ≡ number refusal.InvalidEntry → record { number = n; start = 0; length = 0 } ≡ partAs s
+  no-part e q = rw (q, e)
 
 pub ruleset parts = (ordered, shows, shows-field, part-ordered, part-numbers, no-part)
 
 -- Readings
 
-abbrev numbers : Told → VcfhAnswer
+abbrev numbers : AnswerMeaning → VcfhAnswer
 numbers t = record { number = t .number; line = t .line; start = t .start; entries = t .entries }
 
 module _ {imposed wanted : Option Version} (e : imposed ≡ wanted) (h : List ℕ) (a : ReadAnswer) {n : ℕ} (room : ℕ) where
-  pub answers : n ≡ outcomeNumber (a .outcome) → told a ≡ tells (reading limits imposed room h) → record { number = n; line = a .line; start = a .start; entries = a .entries } ≡ answerOf (reading limits wanted room h)
-  answers c d = ap (λ k. record { number = k; line = a .line; start = a .start; entries = a .entries }) c ∙ ap numbers d ∙ ap (λ i. answerOf (reading limits i room h)) e
+  pub answers : n ≡ outcomeNumber (a .outcome) → answerMeans a ≡ readingMeans (reading limits imposed room h) → record { number = n; line = a .line; start = a .start; entries = a .entries } ≡ answerInC (reading limits wanted room h)
+  answers c d = ap (λ k. record { number = k; line = a .line; start = a .start; entries = a .entries }) c ∙ ap numbers d ∙ ap (λ i. answerInC (reading limits i room h)) e
 
 module _ {imposed wanted : Option Version} (e : imposed ≡ wanted) (h t : List ℕ) {t′ : List ℕ} where
   pub stored : t′ ≡ storedIn t 0 (reading limits imposed (room t) h .entries) → t′ ≡ storedIn t 0 (reading limits wanted (room t) h .entries)
   stored s = s ∙ ap (λ i. storedIn t 0 (reading limits i (room t) h .entries)) e
 
-abbrev form-numbers : ToldForm → VcfhForm
+abbrev form-numbers : FormMeaning → VcfhForm
 form-numbers t = record { number = t .number; line = t .line; start = t .start; entries = t .entries; length = t .size }
 
 module _ {imposed wanted : Option Version} (e : imposed ≡ wanted) (h : List ℕ) (a : HouseAnswer) {n : ℕ} (room space : ℕ) where
-  pub form-answers : n ≡ outcomeNumber (a .outcome) → toldForm a ≡ tellsForm (reading limits imposed room h) (house limits imposed room space h)
-      → record { number = n; line = a .line; start = a .start; entries = a .entries; length = a .length } ≡ formOf (reading limits wanted room h) (house limits wanted room space h)
+  pub form-answers : n ≡ outcomeNumber (a .outcome) → formAnswerMeans a ≡ houseMeans (reading limits imposed room h) (house limits imposed room space h)
+      → record { number = n; line = a .line; start = a .start; entries = a .entries; length = a .length } ≡ formInC (reading limits wanted room h) (house limits wanted room space h)
   form-answers c d =
       ap (λ k. record { number = k; line = a .line; start = a .start; entries = a .entries; length = a .length }) c
       ∙ ap form-numbers d
-      ∙ ap (λ i. formOf (reading limits i room h) (house limits i room space h)) e
+      ∙ ap (λ i. formInC (reading limits i room h) (house limits i room space h)) e
 
 module _ {imposed wanted : Option Version} (e : imposed ≡ wanted) (h t o : List ℕ) {o′ : List ℕ} where
   pub written : o′ ≡ sets o 0 (house limits imposed (room t) (length o) h .form) → o′ ≡ sets o 0 (house limits wanted (room t) (length o) h .form)

@@ -22,12 +22,12 @@ flag false = 0
 abbrev pub imposedBy : ℕ → ℕ → ℕ → Option Version
 imposedBy imposed major minor = elim (eqb imposed 0) [ true ↦ none | false ↦ some (version major minor) ]
 
-abbrev pub answerOf : Reading → VcfhAnswer
-answerOf r = record { number = r .number; line = r .line; start = r .start; entries = length (r .entries) }
+abbrev pub answerInC : Reading → VcfhAnswer
+answerInC r = record { number = r .number; line = r .line; start = r .start; entries = length (r .entries) }
 
 -- of a reading, and of the form of what was read
-abbrev pub formOf : Reading → HouseReading → VcfhForm
-formOf r f = record { number = f .number; line = f .line; start = f .start; entries = length (r .entries); length = length (f .form) }
+abbrev pub formInC : Reading → HouseReading → VcfhForm
+formInC r f = record { number = f .number; line = f .line; start = f .start; entries = length (r .entries); length = length (f .form) }
 
 -- nothing to show is refusal 29
 abbrev pub partOf : Option Part → VcfhPart

@@ -3,6 +3,7 @@ use entries::shown::Shown;
 use header::file_format_option::FileFormatOption;
 use header::parser::Outcome;
 use records::file_format::FileFormat;
+use records::refusal::Refusal;
 ghost use mathlib.Core.Path.{_≡_};
 ghost use lib.ListN.{length};
 ghost use lib.Seq.{sets};
@@ -13,7 +14,7 @@ ghost use Rattle.rules.specs.House.{house};
 ghost use Rattle.entries.specs.Tables.{room, stored, shownEntry, shownId, shownField};
 ghost use Rattle.header.specs.Verdicts.{imposedOf};
 ghost use Rattle.header.specs.Parsers.{outcomeNumber, readInto};
-ghost use Rattle.capi.specs.Answers.{flag, imposedBy, answerOf, formOf, partOf, partAs, Ordered};
+ghost use Rattle.capi.specs.Answers.{flag, imposedBy, answerInC, formInC, partOf, partAs, Ordered};
 
 // Document 01's number, 0 if accepted; the line and its start; how many entries the table keeps.
 #[repr(C)]
@@ -71,11 +72,14 @@ fn part_of(shown: Shown) -> VcfhPart
             start: start as u64,
             length: (end - start) as u64,
         },
-        Shown::Refused => VcfhPart {
-            number: 29,
-            start: 0,
-            length: 0,
-        },
+        Shown::Refused => {
+            let refusal = Refusal::InvalidEntry;
+            VcfhPart {
+                number: refusal.number(),
+                start: 0,
+                length: 0,
+            }
+        }
     }
 }
 
@@ -99,8 +103,9 @@ pub extern "C" fn vcfh_read(
     minor: u32,
     table: &mut [u64],
 ) -> VcfhAnswer
-    ensures answer { λ r. ⌜ r ≡ answerOf (readInto limits (imposedBy imposed major minor) (now (table .entry)) (now (header .entry))) ⌝ }
-    ensures table { λ _. ⌜ now (table .exit) ≡ stored (now (table .entry)) 0 (readInto limits (imposedBy imposed major minor) (now (table .entry)) (now (header .entry)) .entries) ⌝ }
+    ensures answer { λ r. ⌜ r ≡ answerInC (readInto limits (imposedBy imposed major minor) (now (table .entry)) (now (header .entry))) ⌝ }
+    ensures table { λ _. ⌜ now (table .exit) ≡ stored (now (table .entry)) 0
+        (readInto limits (imposedBy imposed major minor) (now (table .entry)) (now (header .entry)) .entries) ⌝ }
 {
     let version = imposed_by(imposed, major, minor);
     let answer = header::parser::read(header, version, table);
@@ -124,9 +129,12 @@ pub extern "C" fn vcfh_house(
     table: &mut [u64],
     out: &mut [u8],
 ) -> VcfhForm
-    ensures answer { λ r. ⌜ r ≡ formOf (readInto limits (imposedBy imposed major minor) (now (table .entry)) (now (header .entry))) (house limits (imposedBy imposed major minor) (room (now (table .entry))) (length (now (out .entry))) (now (header .entry))) ⌝ }
-    ensures table { λ _. ⌜ now (table .exit) ≡ stored (now (table .entry)) 0 (readInto limits (imposedBy imposed major minor) (now (table .entry)) (now (header .entry)) .entries) ⌝ }
-    ensures output { λ _. ⌜ now (out .exit) ≡ sets (now (out .entry)) 0 (house limits (imposedBy imposed major minor) (room (now (table .entry))) (length (now (out .entry))) (now (header .entry)) .form) ⌝ }
+    ensures answer { λ r. ⌜ r ≡ formInC (readInto limits (imposedBy imposed major minor) (now (table .entry)) (now (header .entry)))
+        (house limits (imposedBy imposed major minor) (room (now (table .entry))) (length (now (out .entry))) (now (header .entry))) ⌝ }
+    ensures table { λ _. ⌜ now (table .exit) ≡ stored (now (table .entry)) 0
+        (readInto limits (imposedBy imposed major minor) (now (table .entry)) (now (header .entry)) .entries) ⌝ }
+    ensures output { λ _. ⌜ now (out .exit) ≡ sets (now (out .entry)) 0
+        (house limits (imposedBy imposed major minor) (room (now (table .entry))) (length (now (out .entry))) (now (header .entry)) .form) ⌝ }
 {
     let version = imposed_by(imposed, major, minor);
     let answer = house::form::house_form(header, version, table, out);

@@ -7,12 +7,12 @@ use mathlib.Core.List.{List, [], _∷_, _++_}
 use lib.ListN.{length, drop, take, length-drop, drop-of-length-le}
 use lib.Seq.{drop-drop}
 use borrow.Author.Tests.{eqb-true}
-use Rattle.values.specs.Bytes.{Bytes, ascii, is, any, before, from, starts, same}
+use Rattle.values.specs.Bytes.{Bytes, ascii, is, any, before, from, starts, same, TAB}
 use Rattle.values.proofs.Tests.{Test, pass, fail, test, both, not-true, not-false, never}
 use Rattle.values.proofs.Lists.{rest}
 use Rattle.values.proofs.Sames.{same-self, same-sound}
 use Rattle.rules.specs.Answer.{ok, refuse, unless, judged}
-use Rattle.rules.specs.Columns.{Columns, TAB, split, distinct, formatted, readColumns}
+use Rattle.rules.specs.Columns.{Columns, split, distinct, formatted, readColumns}
 use Rattle.rules.specs.House.{parted}
 use Rattle.rules.proofs.Records.{starts-is}
 use Rattle.rules.proofs.Samples.{columns, split-in}

@@ -6,7 +6,7 @@ use mathlib.Core.Bool.{Bool, true, false, not, _||_, false≢true}
 use mathlib.Core.List.{List, [], _∷_, _++_}
 use lib.ListN.{length, drop, take, length-append, take-append-drop}
 use lib.Seq.{drop-drop}
-use Rattle.values.specs.Bytes.{Bytes, is, before, same}
+use Rattle.values.specs.Bytes.{Bytes, is, before, same, TAB}
 use Rattle.values.specs.Marks.{isMarked, mark}
 use Rattle.values.proofs.Tests.{pass, fail, test, both, or-l, or-r, or-on, and-l, and-r, and-off, not-true, not-false}
 use Rattle.values.proofs.Lists.{there, past, stands, before-none}
@@ -14,7 +14,7 @@ use Rattle.values.proofs.Sames.{same-sound, same-sym}
 use Rattle.values.proofs.Markings.{mark-length, mark-own, mark-kept, sure}
 use Rattle.rules.specs.Known.{isIn}
 use Rattle.rules.specs.Entry.{sampleKind}
-use Rattle.rules.specs.Columns.{TAB, split, distinct}
+use Rattle.rules.specs.Columns.{split, distinct}
 use Rattle.columns.specs.declared.header_line.ColumnsRead.the-variants as read
 use Rattle.columns.specs.HeaderLines.{samplesRead, ended, isRepeated}
 use Rattle.columns.proofs.Splits.{name-part, part-tab, split-last, split-more, ended-none, ended-more, ended-names, names-more}

@@ -6,15 +6,15 @@ use mathlib.Core.List.{List, [], _∷_, _++_, append-assoc, append-nil}
 use mathlib.Core.Option.{Option, none, some}
 use lib.ListN.{length, length-append}
 use borrow.Author.Tests.{eq-eqb}
-use Rattle.values.specs.Bytes.{Bytes, is, any, before, from, starts, same}
+use Rattle.values.specs.Bytes.{Bytes, is, any, before, from, starts, same, TAB}
 use Rattle.values.proofs.Tests.{pass, fail, test, both}
 use Rattle.values.proofs.Lists.{before-hit, before-miss, from-hit}
 use Rattle.values.proofs.Sames.{same-self, same-sound, differ}
-use Rattle.rules.specs.Columns.{TAB, split, afterColumns}
+use Rattle.rules.specs.Columns.{split, afterColumns}
 use Rattle.rules.specs.House.{parted}
-use Rattle.rules.proofs.Alls.{All}
 use Rattle.rules.proofs.Samples.{columns, split-in}
 use Rattle.columns.proofs.Splits.{split-append}
+use Rattle.rules.specs.Claims.{All}
 
 pub starts-both : (p q l : Bytes) → starts (p ++ q) (p ++ l) ≡ starts q l
 unfolding starts

@@ -7,11 +7,11 @@ use mathlib.Core.List.{List, [], _∷_, _++_, append-assoc, append-nil}
 use lib.ListN.{length, getD, drop, take, drop-of-length-le}
 use lib.Seq.{take-add, take-append-add, drop-drop}
 use borrow.Author.Tests.{eqb-true}
-use Rattle.values.specs.Bytes.{Bytes, is, any, before, from}
+use Rattle.values.specs.Bytes.{Bytes, is, any, before, from, TAB}
 use Rattle.values.proofs.Tests.{pass, fail, test, or-l, or-r}
 use Rattle.values.proofs.Lists.{here, before-from, from-at, from-first}
 use Rattle.values.proofs.Fields.{text-here}
-use Rattle.rules.specs.Columns.{TAB, split}
+use Rattle.rules.specs.Columns.{split}
 use Rattle.columns.specs.HeaderLines.{butLast, ended}
 
 -- the names after a tab

@@ -7,11 +7,10 @@ use mathlib.Core.List.{List, [], _∷_}
 use lib.Dec.{ltb}
 use lib.ListN.{length, drop, length-take, length-drop}
 use borrow.Author.Tests.{le-leb, lt-leb}
-use Rattle.values.specs.Bytes.{Bytes, is, before}
+use Rattle.values.specs.Bytes.{Bytes, is, before, part, TAB}
 use Rattle.values.proofs.Lists.{there, past, stands}
-use Rattle.values.proofs.Fields.{part}
 use Rattle.rules.specs.Answer.{ok}
-use Rattle.rules.specs.Columns.{Columns, TAB, split, readColumns}
+use Rattle.rules.specs.Columns.{Columns, split, readColumns}
 use Rattle.rules.specs.Entry.{Entry, columnsKind, sampleKind, plainEntry, tabbed, samplesStart, sampleEntries, columnEntries}
 use Rattle.entries.specs.Tables.{room, stored, put, putAll}
 use Rattle.entries.proofs.Stored.{put-none, put-one, put-roomy}

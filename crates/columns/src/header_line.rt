@@ -7,12 +7,12 @@ use values::marks;
 ghost use mathlib.Core.Path.{_≡_};
 ghost use lib.ListN.{length, drop};
 ghost use Rattle.values.specs.Marks.{mark};
-ghost use Rattle.values.proofs.Fields.{part};
 ghost use Rattle.rules.specs.Known.{isIn};
 ghost use Rattle.rules.specs.Columns.{split, distinct};
 ghost use Rattle.rules.specs.Entry.{sampleKind};
 ghost use Rattle.entries.specs.Tables.{putAll};
 ghost use Rattle.columns.specs.HeaderLines.{HeaderRead, samplesRead, ended, isRepeated, nameEntries, columnsPut};
+ghost use Rattle.values.specs.Bytes.{part};
 
 // Where the fixed columns end, and where the first name stands: after these, FORMAT and two tabs.
 const FIXED_END: usize = 38;

@@ -13,6 +13,7 @@ use Rattle.values.specs.Bytes.{Bytes}
 use Rattle.values.proofs.Tests.{pass, fail, test, and-l, and-r, not-true, not-false, never}
 use Rattle.values.proofs.Lists.{some-is, none-not}
 use Rattle.rules.specs.Entry.{Entry as RuleEntry}
+use Rattle.rules.specs.Answer.{Answer, ok, refuse}
 use Rattle.rules.specs.Shown.{Part as RulePart, hasId, saysNoId, wellFormed, idIn, idPart}
 use Rattle.entries.specs.Tables.{entryIn, wordsClear, entryAt, shownEntry, shownId}
 use Rattle.entries.specs.Values.{entryOf}
@@ -21,7 +22,7 @@ use Rattle.entries.specs.declared.shown.Shown.{Shown}
 use Rattle.entries.specs.declared.shown.Shown.the-variants.{Part, Refused}
 use Rattle.entries.specs.declared.shown.EntryRead.{EntryRead}
 use Rattle.entries.specs.declared.shown.EntryRead.the-variants as read
-use Rattle.entries.specs.Shown.{shownAs, entryMeant, bytesOf, Inside}
+use Rattle.entries.specs.Shown.{answered, orRefused, shownAs, entryMeant, bytesOf, Inside}
 
 -- The tests of an entry
 
@@ -187,10 +188,10 @@ module _ (h : Bytes) (table : List ℕ) (n : ℕ) {r : EntryRead} (a : entryMean
   missing : r ≡ read.Missing → entryAt h table n ≡ none
   missing e = sym a ∙ ap entryMeant e
 
-  pub entry-unshown : r ≡ read.Missing → Refused ≡ shownAs (shownEntry h table n)
+  pub entry-unshown : r ≡ read.Missing → answered Refused ≡ orRefused (shownEntry h table n)
   entry-unshown e = rw (missing e)
 
-  pub id-unshown : r ≡ read.Missing → Refused ≡ shownAs (shownId h table n)
+  pub id-unshown : r ≡ read.Missing → answered Refused ≡ orRefused (shownId h table n)
   id-unshown e = rw (missing e)
 
   module _ {x : Entry} (b : r ≡ read.Entry x) where
@@ -200,7 +201,7 @@ module _ (h : Bytes) (table : List ℕ) (n : ℕ) {r : EntryRead} (a : entryMean
     pub found-inside : Formed (length h) (entryOf x)
     found-inside = entry-inside h table n found
 
-    pub entry-shown : Part (x .start) (x .start + x .length) ≡ shownAs (shownEntry h table n)
+    pub entry-shown : answered (Part (x .start) (x .start + x .length)) ≡ orRefused (shownEntry h table n)
     entry-shown = rw found
 
     pub entry-part-inside : Inside (length h) (Part (x .start) (x .start + x .length))
@@ -210,10 +211,10 @@ module _ (h : Bytes) (table : List ℕ) (n : ℕ) {r : EntryRead} (a : entryMean
     id-part-inside = let i = found-inside in (omega arith, omega arith)
 
     module _ {q : Bool} (d : q ≡ hasId (x .kind)) where
-      pub id-not-due : not q ≡ true → Refused ≡ shownAs (shownId h table n)
+      pub id-not-due : not q ≡ true → answered Refused ≡ orRefused (shownId h table n)
       id-not-due e = rw (found, idPart, ← d, not-true q e)
 
-      pub id-shown : not q ≡ false → Part (x .start + x .offset) (x .start + x .offset + x .«id_length») ≡ shownAs (shownId h table n)
+      pub id-shown : not q ≡ false → answered (Part (x .start + x .offset) (x .start + x .offset + x .«id_length»)) ≡ orRefused (shownId h table n)
       id-shown e = rw (found, idPart, ← d, not-false q e)
 
 pub ruleset shown-entries = (entry-unshown, entry-shown, entry-part-inside, refused-inside, found-inside)
@@ -222,12 +223,27 @@ pub ruleset shown-ids = (id-unshown, id-not-due, id-shown, id-part-inside, refus
 
 -- The answer
 
--- different parts are shown differently
-pub shown-injective : (x y : Option RulePart) → shownAs x ≡ shownAs y → x ≡ y
-shown-injective none none e = refl
-shown-injective none (some q) e = never cc
-shown-injective (some p) none e = never cc
-shown-injective (some p) (some q) e = let a : p .0 ≡ q .0 = cc in let b : p .1 ≡ q .1 = cc in ap₂ (λ (x y : ℕ). some (x, y)) a b
+abbrev partIn : Answer RulePart → RulePart
+partIn (ok p) = p
+partIn (refuse n) = (0, 0)
+
+-- two answers that say the same are one
+pub answered-injective : (x y : Shown) → answered x ≡ answered y → x ≡ y
+answered-injective (Part a b) (Part c d) e = ap₂ Part (ap (λ (x : Answer RulePart). partIn x .0) e) (ap (λ (x : Answer RulePart). partIn x .1) e)
+answered-injective (Part a b) Refused e = never cc
+answered-injective Refused (Part c d) e = never cc
+answered-injective Refused Refused e = refl
+
+says : (o : Option RulePart) → answered (shownAs o) ≡ orRefused o
+says none = refl
+says (some p) = refl
+
+-- the answer that says this, and what an answer says
+pub answer-is : (r : Shown) (o : Option RulePart) → answered r ≡ orRefused o → r ≡ shownAs o
+answer-is r o a = answered-injective r (shownAs o) (a ∙ sym (says o))
+
+pub answer-says : {r : Shown} (o : Option RulePart) → r ≡ shownAs o → answered r ≡ orRefused o
+answer-says o a = ap answered a ∙ says o
 
 module _ (h : Bytes) {r : Shown} where
   pub part-bytes : {a b : ℕ} → r ≡ Part a b → {t : Bytes} → t ≡ take (b - a) (drop a h) → t ≡ bytesOf h r

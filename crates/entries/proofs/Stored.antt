@@ -1,5 +1,5 @@
 -- Entries in a table: stored one after the other, kept, and read again. Assumes nothing.
-use Prim.Native.Nat.{ℕ, zero, suc, _+_, _*_, _^_, _≤_, _<_}
+use Prim.Native.Nat.{ℕ, zero, suc, _+_, _*_, _≤_, _<_}
 use native.Mathlib.Omega.{arith}
 use mathlib.Core.Path.{_≡_, refl, sym, ap, _∙_}
 use mathlib.Core.Bool.{Bool, true, false, not}
@@ -16,13 +16,13 @@ use Rattle.values.proofs.Outputs.{sets-append}
 use Rattle.rules.specs.Sizes.{Limits, limits}
 use Rattle.rules.specs.Entry.{Entry}
 use Rattle.rules.specs.Shown.{wellFormed}
-use Rattle.rules.proofs.Alls.{All, all-map}
+use Rattle.rules.proofs.Alls.{all-map}
 use Rattle.rules.proofs.Stands.{Stands}
-use Rattle.rules.proofs.Demands.{nthEntry}
-use Rattle.entries.specs.Words.{wordOne, wordTwo, unpacked}
+use Rattle.entries.specs.Words.{wordOne, wordTwo, unpacked, Packed}
 use Rattle.entries.specs.Tables.{room, words, stored, put, putAll, firstEntries, entriesIn, entryIn, wordsClear, entryAt}
 use Rattle.entries.proofs.Words.{Storable, unpacked-words, words-clear}
 use Rattle.entries.proofs.Calls.{formed}
+use Rattle.rules.specs.Claims.{All, nth}
 
 -- The entries of a table, one after the other
 
@@ -86,7 +86,7 @@ unfolding words entriesIn
 words-back [] a = refl
 words-back (e ∷ es) a = rw (unpacked-words e (a .0), words-back es (a .1))
 
-words-at : (es : List Entry) (n : ℕ) {e : Entry} → nthEntry es n ≡ some e
+words-at : (es : List Entry) (n : ℕ) {e : Entry} → nth es n ≡ some e
     → (2 * n + 1 < length (words es)) × (getD (words es) (2 * n) 0 ≡ wordOne e) × (getD (words es) (2 * n + 1) 0 ≡ wordTwo e)
 unfolding words
 words-at [] n h = none-not h
@@ -156,11 +156,6 @@ put-roomy t n (e ∷ es) l =
     rw (lt-ltb n (room t) (omega arith), putAll)
     (put-roomy (stored t n (e ∷ [])) (n + 1) es (rw (stored-room t n (e ∷ [])) (omega arith)) ∙ stored-more t n (e ∷ []) es refl)
 
--- a well-formed entry of a header and a line within limits that its bits can hold
-pub record Packed (lim : Limits) : Type 0 where
-  pub header : lim .header < 2 ^ 20
-  pub line : lim .line < 2 ^ 16
-
 pub first-packed : Packed limits
 first-packed = record { header = omega arith; line = omega arith }
 
@@ -182,7 +177,7 @@ pub entries-stored : (lim : Limits) → Packed lim → {size : ℕ} → size ≤
 entries-stored lim p {size} h t es e l a = rw (first-stored t es e l) (words-back es (all-map (Stands lim size) Storable es (storable lim p h) a))
 
 -- the words of an entry that was stored
-module _ (t : List ℕ) (es : List Entry) (n : ℕ) {e : Entry} (l : length es ≤ room t) (a : nthEntry es n ≡ some e) where
+module _ (t : List ℕ) (es : List Entry) (n : ℕ) {e : Entry} (l : length es ≤ room t) (a : nth es n ≡ some e) where
   abbrev table : List ℕ
   table = stored t 0 es
 

@@ -2,34 +2,91 @@
 use Prim.Native.Nat.{ℕ}
 use mathlib.Core.Path.{_≡_, refl}
 use mathlib.Core.List.{List, [], _∷_, _++_, map}
-use Rattle.rules.specs.Examples.{Case, Expected, starred}
-use Rattle.entries.specs.Words.{wordOne, wordTwo}
-use Rattle.entries.specs.Tables.{words}
+use Rattle.rules.specs.Answer.{Answer, ok, refuse}
+use Rattle.rules.specs.Version.{v4-3}
+use Rattle.rules.specs.Shown.{Part, saysNoId, wellFormed, lineIn, nthFieldPart}
+use Rattle.rules.specs.Examples.{Case, Expected, starred, opened, cell}
+use Rattle.entries.specs.Words.{wordOne, wordTwo, unpacked, isClear}
+use Rattle.entries.specs.Shown.{orRefused}
+use Rattle.entries.specs.Tables.{room, words, entryIn, wordsClear, entryAt, shownEntry, shownId, shownField}
 
-abbrev pub kept : Case × Expected → List ℕ
-kept c = words (c .1 .entries)
+abbrev pub wordsKept : Case × Expected → List ℕ
+wordsKept c = words (c .1 .entries)
 
 -- the fileformat line's words
-abbrev pub W : List ℕ
-W = 0x1000000014000000 ∷ 0 ∷ []
+abbrev pub formatWords : List ℕ
+formatWords = 0x1000000014000000 ∷ 0 ∷ []
 
 -- those of the rules' tables of cases, in their order
-starred-words : map kept starred ≡ (
+starred-words : map wordsKept starred ≡ (
     []
-    ∷ W
-    ∷ (W ++ 0x7000150016000000 ∷ 0x000B000300000000 ∷ 0x90002C0026000000 ∷ 0 ∷ [])
-    ∷ (W ++ 0x700015001A000000 ∷ 0x0015000380000000 ∷ 0x9000300026000000 ∷ 0 ∷ [])
-    ∷ (W ++ 0x6000150016000000 ∷ 0x000D000100000000 ∷ 0x90002C0026000000 ∷ 0 ∷ [])
-    ∷ W
-    ∷ W
-    ∷ (W ++ 0x900015002D000000 ∷ 0 ∷ [])
-    ∷ W
-    ∷ (W ++ 0x700015001A000000 ∷ 0x000B000100000000 ∷ 0x9000300026000000 ∷ 0 ∷ [])
-    ∷ W
-    ∷ W
-    ∷ W
-    ∷ (W ++ 0x300015001D000000 ∷ 0x000D000100000000 ∷ [])
+    ∷ formatWords
+    ∷ (formatWords ++ 0x7000150016000000 ∷ 0x000B000300000000 ∷ 0x90002C0026000000 ∷ 0 ∷ [])
+    ∷ (formatWords ++ 0x700015001A000000 ∷ 0x0015000380000000 ∷ 0x9000300026000000 ∷ 0 ∷ [])
+    ∷ (formatWords ++ 0x6000150016000000 ∷ 0x000D000100000000 ∷ 0x90002C0026000000 ∷ 0 ∷ [])
+    ∷ formatWords
+    ∷ formatWords
+    ∷ (formatWords ++ 0x900015002D000000 ∷ 0 ∷ [])
+    ∷ formatWords
+    ∷ (formatWords ++ 0x700015001A000000 ∷ 0x000B000100000000 ∷ 0x9000300026000000 ∷ 0 ∷ [])
+    ∷ formatWords
+    ∷ formatWords
+    ∷ formatWords
+    ∷ (formatWords ++ 0x300015001D000000 ∷ 0x000D000100000000 ∷ [])
     ∷ []
     )
 unfolding words wordOne wordTwo
 starred-words = refl
+
+-- 29: the words of a table of one entry, and what the calls answer of the 83 bytes: the entry, its ID, its field 1 under 4.3
+
+pub record Parts : Type 0 where
+  pub entry : Answer Part
+  pub id : Answer Part
+  pub field : Answer Part
+
+abbrev pub parts : List ℕ → Parts
+parts t = record {
+  entry = orRefused (shownEntry cell t 0);
+  id = orRefused (shownId cell t 0);
+  field = orRefused (shownField cell t 0 v4-3 1);
+}
+
+abbrev pub shows : Answer Part → Answer Part → Answer Part → Parts
+shows e i f = record { entry = e; id = i; field = f }
+
+abbrev pub nothing : Parts
+nothing = shows (refuse 29) (refuse 29) (refuse 29)
+
+abbrev pub line : Answer Part
+line = ok (21, 43)
+
+abbrev pub shown : List (List ℕ × Parts)
+shown =
+    (0x7000150016000000 ∷ 0x000B000300000000 ∷ [], shows line (ok (32, 35)) (ok (36, 42)))
+    -- no such entry
+    ∷ ([], nothing)
+    ∷ (0x7000150016000000 ∷ [], nothing)
+    -- no such kind
+    ∷ (0x0000150016000000 ∷ 0 ∷ [], nothing)
+    ∷ (0xB000150016000000 ∷ 0 ∷ [], nothing)
+    -- a bit that should be 0
+    ∷ (0x7000150016000001 ∷ 0x000B000300000000 ∷ [], nothing)
+    ∷ (0x7000150016000000 ∷ 0x000B000300000001 ∷ [], nothing)
+    -- no such tag, or not of this kind
+    ∷ (0x7000150016000000 ∷ 0x000B000360000000 ∷ [], nothing)
+    ∷ (0x6000150016000000 ∷ 0x000B000320000000 ∷ [], nothing)
+    -- a line past the header, an ID past the line
+    ∷ (0x700015003F000000 ∷ 0x000B000300000000 ∷ [], nothing)
+    ∷ (0x7000150016000000 ∷ 0x0014000300000000 ∷ [], nothing)
+    -- an ID where the kind has none
+    ∷ (0x8000150016000000 ∷ 0x000B000300000000 ∷ [], nothing)
+    -- well formed, without an ID
+    ∷ (0x8000150016000000 ∷ 0 ∷ [], shows line (refuse 29) (refuse 29))
+    -- well formed, of another kind than its line
+    ∷ (0x6000150016000000 ∷ 0x000B000300000000 ∷ [], shows line (ok (32, 35)) (refuse 29))
+    ∷ []
+
+pub refused-parts : map (λ (c : List ℕ × Parts). parts (c .0)) shown ≡ map (λ (c : List ℕ × Parts). c .1) shown
+unfolding opened room unpacked isClear entryIn wordsClear entryAt saysNoId wellFormed lineIn nthFieldPart
+refused-parts = refl

@@ -1,12 +1,10 @@
 -- The answers of the calls on an entry, as the code gives them. Assumes nothing.
 use Prim.Native.Nat.{ℕ, _+_, _-_, _≤_}
-use mathlib.Core.Bool.{Bool}
-use mathlib.Core.List.{List, []}
+use mathlib.Core.List.{[]}
 use mathlib.Core.Option.{Option, none, some}
-use lib.ListN.{length, drop, take}
+use lib.ListN.{drop, take}
 use Rattle.values.specs.Bytes.{Bytes}
-use Rattle.values.specs.Field.{Field}
-use Rattle.rules.specs.Map.{scan}
+use Rattle.rules.specs.Answer.{Answer, ok, refuse}
 use Rattle.rules.specs.Entry.{Entry as RuleEntry}
 use Rattle.rules.specs.Shown.{Part as RulePart}
 use Rattle.entries.specs.Values.{entryOf}
@@ -15,7 +13,17 @@ use Rattle.entries.specs.declared.shown.Shown.the-variants.{Part, Refuse
 use Rattle.entries.specs.declared.shown.EntryRead.{EntryRead}
 use Rattle.entries.specs.declared.shown.EntryRead.the-variants.{Entry, Missing}
 
+-- what the code answers: a part, or document 01's number
+abbrev pub answered : Shown → Answer RulePart
+answered (Part start end) = ok (start, end)
+answered Refused = refuse 29
+
 -- nothing to show is refusal 29
+abbrev pub orRefused : Option RulePart → Answer RulePart
+orRefused none = refuse 29
+orRefused (some p) = ok p
+
+-- the code's answer that says this
 abbrev pub shownAs : Option RulePart → Shown
 shownAs none = Refused
 shownAs (some p) = Part (p .0) (p .1)
@@ -29,10 +37,6 @@ entryMeant Missing = none
 abbrev pub bytesOf : Bytes → Shown → Bytes
 bytesOf h (Part start end) = take (end - start) (drop start h)
 bytesOf h Refused = []
-
--- the fields that stand at a place, parted by `,`, as far as they can be read
-abbrev pub fieldsAt : Bool → Bytes → ℕ → List Field
-fieldsAt brackets s at = scan (length (drop at s)) brackets (drop at s) .0
 
 -- a part of a text of `size` bytes
 abbrev pub Inside : ℕ → Shown → Type 0

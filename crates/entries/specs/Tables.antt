@@ -10,7 +10,7 @@ use lib.Seq.{sets}
 use Rattle.values.specs.Bytes.{Bytes}
 use Rattle.rules.specs.Version.{Version}
 use Rattle.rules.specs.Entry.{Entry}
-use Rattle.rules.specs.Shown.{Part, wellFormed, entryPart, idPart, linePart}
+use Rattle.rules.specs.Shown.{Part, wellFormed, entryPart, idPart, entryFieldPart}
 use Rattle.entries.specs.Words.{wordOne, wordTwo, unpacked, isClear}
 
 -- how many entries a table has room for
@@ -70,4 +70,4 @@ abbrev pub shownId : Bytes → List ℕ → ℕ → Option Part
 shownId h t n = idPart (entryAt h t n)
 
 abbrev pub shownField : Bytes → List ℕ → ℕ → Version → ℕ → Option Part
-shownField h t n v i = linePart h v i (entryAt h t n)
+shownField h t n v i = entryFieldPart h v i (entryAt h t n)

@@ -1,9 +1,10 @@
 -- Document 01, "Entries, most significant bit first": how an entry is stored, in two words. Assumes nothing.
-use Prim.Native.Nat.{ℕ, _+_, _*_, _/_, _%_, _^_}
+use Prim.Native.Nat.{ℕ, _+_, _*_, _/_, _%_, _^_, _<_}
 use mathlib.Core.Bool.{Bool, true, false, _&&_}
 use mathlib.Core.List.{List, [], _∷_}
 use lib.Dec.{eqb}
 use Rattle.rules.specs.Entry.{Entry}
+use Rattle.rules.specs.Sizes.{Limits}
 
 -- numbers side by side in a word, most significant first: how many bits each has, and the number
 abbrev pub Slots : Type 0
@@ -53,3 +54,8 @@ unpacked w x = record {
 -- the bits that no number has are 0
 unfoldable pub isClear : ℕ → ℕ → Bool
 isClear w x = eqb (bits 0 24 w) 0 && eqb (bits 0 29 x) 0
+
+-- a well-formed entry of a header and a line within limits that its bits can hold
+pub record Packed (lim : Limits) : Type 0 where
+  pub header : lim .header < 2 ^ 20
+  pub line : lim .line < 2 ^ 16

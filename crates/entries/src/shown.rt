@@ -11,10 +11,11 @@ ghost use mathlib.Core.Bool.{_&&_, _||_};
 ghost use lib.Dec.{eqb, leb};
 ghost use lib.ListN.{length};
 ghost use Prim.Native.Nat.{_+_};
-ghost use Rattle.rules.specs.Shown.{saysNoId, hasId, wellFormed, fieldPart};
+ghost use Rattle.rules.specs.Shown.{saysNoId, hasId, wellFormed, nthFieldPart};
+ghost use Rattle.rules.specs.Map.{fieldsAt};
 ghost use Rattle.entries.specs.Values.{entryOf};
 ghost use Rattle.entries.specs.Tables.{entryAt, shownEntry, shownId};
-ghost use Rattle.entries.specs.Shown.{shownAs, entryMeant, bytesOf, fieldsAt, Inside};
+ghost use Rattle.entries.specs.Shown.{answered, orRefused, entryMeant, bytesOf, Inside};
 
 // A part of the header, or refusal 29: no such entry, no such field, or an entry that is not well formed.
 pub enum Shown {
@@ -120,7 +121,7 @@ pub fn entry_at(h: &[u8], table: &[u64], n: usize) -> EntryRead
 
 // The line of entry n, or the sample name.
 pub fn entry(h: &[u8], table: &[u64], n: usize) -> Shown
-    ensures shown { λ r. ⌜ r ≡ shownAs (shownEntry (now (h .entry)) (now (table .entry)) n) ⌝ }
+    ensures shown { λ r. ⌜ answered r ≡ orRefused (shownEntry (now (h .entry)) (now (table .entry)) n) ⌝ }
     ensures inside { λ r. ⌜ Inside (length (now (h .entry))) r ⌝ }
 {
     let EntryRead::Entry(e) = entry_at(h, table, n) else {
@@ -133,7 +134,7 @@ pub fn entry(h: &[u8], table: &[u64], n: usize) -> Shown
 
 // The ID's text of entry n, without quotes.
 pub fn id(h: &[u8], table: &[u64], n: usize) -> Shown
-    ensures shown { λ r. ⌜ r ≡ shownAs (shownId (now (h .entry)) (now (table .entry)) n) ⌝ }
+    ensures shown { λ r. ⌜ answered r ≡ orRefused (shownId (now (h .entry)) (now (table .entry)) n) ⌝ }
     ensures inside { λ r. ⌜ Inside (length (now (h .entry))) r ⌝ }
 {
     let EntryRead::Entry(e) = entry_at(h, table, n) else {
@@ -159,7 +160,7 @@ pub fn bytes_of(h: &[u8], shown: Shown) -> &[u8]
 
 // Field n, from 0, of the fields that stand at `at`, parted by `,`. `brackets`: the map is a META, from 4.3.
 pub fn nth_field(s: &[u8], at: usize, brackets: bool, n: usize) -> Shown
-    ensures shown { λ r. ⌜ r ≡ shownAs (fieldPart at (fieldsAt brackets (now (s .entry)) at) n) ⌝ }
+    ensures shown { λ r. ⌜ answered r ≡ orRefused (nthFieldPart at (fieldsAt brackets (now (s .entry)) at) n) ⌝ }
     ensures inside { λ r. ⌜ Inside (length (now (s .entry))) r ⌝ }
 {
     let mut c = Cursor { at };

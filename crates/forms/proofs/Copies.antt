@@ -17,78 +17,79 @@ use Rattle.values.specs.declared.field.Separator.{Separator}
 use Rattle.values.specs.declared.field.Separator.the-variants as separator
 use Rattle.values.proofs.Outputs.{wrote-nothing, wrote-length, wrote-capped, then}
 use Rattle.values.proofs.Places.{FieldHere}
-use Rattle.rules.specs.Version.{Version}
+use Rattle.rules.specs.Map.{isSome, knownNamed}
 use Rattle.rules.proofs.Scans.{Left, left-all, left-unread, left-told, left-last, left-next, left-less}
 use Rattle.rules.proofs.Shows.{value-means}
-use Rattle.records.specs.declared.key.Key.{Key}
-use Rattle.entries.specs.Shown.{fieldsAt}
-use Rattle.forms.specs.Forms.{fieldBy, isKnown, otherText, othersText}
+use Rattle.records.specs.Keys.{versionIn, keyBytes}
+use Rattle.records.specs.Tags.{tagRow}
+use Rattle.records.specs.declared.key.MapContext.{MapContext}
+use Rattle.records.specs.declared.tag.Tag.{Tag}
+use Rattle.forms.specs.Forms.{fieldsIn, fieldBy, otherText, othersText}
 
 -- One field
 
-module _ (key : Key) (v : Version) (meta : Bool) (name t : Bytes) {q : Bool} (a : q ≡ isKnown key v name) {out : Bytes} {at : ℕ} where
-  pub other-known : q ≡ true → at ≤ last → length out ≤ last → Wrote out at (otherText key v meta name t) at out
+module _ (x : MapContext) (name t : Bytes) (g : Tag) (a : tagRow g ≡ knownNamed (versionIn x) (keyBytes x) name) {q : Bool} (b : q ≡ isSome (tagRow g)) {out : Bytes} {at : ℕ} where
+  pub other-known : q ≡ true → at ≤ last → length out ≤ last → Wrote out at (otherText x name t) at out
   unfolding otherText
-  other-known e h l = rw (otherText, sym a ∙ e) (wrote-nothing out at h l)
+  other-known e h l = rw (otherText, ← a, ← b, e) (wrote-nothing out at h l)
 
-  pub other-put : q ≡ false → {r : ℕ} {o : Bytes} → Wrote out at (44 ∷ []) r o → {r′ : ℕ} {o′ : Bytes} → Wrote o r (writtenField (fieldBy meta name t)) r′ o′
-      → Wrote out at (otherText key v meta name t) r′ o′
+  pub other-put : q ≡ false → {r : ℕ} {o : Bytes} → Wrote out at (44 ∷ []) r o → {r′ : ℕ} {o′ : Bytes} → Wrote o r (writtenField (fieldBy (x .brackets) name t)) r′ o′
+      → Wrote out at (otherText x name t) r′ o′
   unfolding otherText
-  other-put e w w′ = rw (otherText, sym a ∙ e) (then w w′)
+  other-put e w w′ = rw (otherText, ← a, ← b, e) (then w w′)
 
 -- All of them
 
-others-none : (key : Key) (v : Version) (meta : Bool) → othersText key v meta [] ≡ []
+others-none : (x : MapContext) → othersText x [] ≡ []
 unfolding othersText
-others-none key v meta = refl
+others-none x = refl
 
-others-more : (key : Key) (v : Version) (meta : Bool) (f : Field) (fs : List Field) → othersText key v meta (f ∷ fs) ≡ otherText key v meta (f .key) (meaningOf (f .value)) ++ othersText key v meta fs
+others-more : (x : MapContext) (f : Field) (fs : List Field) → othersText x (f ∷ fs) ≡ otherText x (f .key) (meaningOf (f .value)) ++ othersText x fs
 unfolding othersText
-others-more key v meta f fs = refl
+others-more x f fs = refl
 
 -- what is written of the fields that are left is written of the whole
-pub record Copying (key : Key) (v : Version) (meta : Bool) (s : Bytes) (start : ℕ) (out₀ : Bytes) (at : ℕ) (out : Bytes) (next i : ℕ) : Type 0 where
+pub record Copying (x : MapContext) (s : Bytes) (out₀ : Bytes) (at : ℕ) (out : Bytes) (next i : ℕ) : Type 0 where
   pub fs : List Field
-  pub left : Left meta s i fs
+  pub left : Left (x .brackets) s i fs
   pub capped : next ≤ last
   pub fits : length out ≤ last
   pub size : length out ≡ length out₀
-  pub still : (r : ℕ) (o : Bytes) → Wrote out next (othersText key v meta fs) r o → Wrote out₀ at (othersText key v meta (fieldsAt meta s start)) r o
+  pub still : (r : ℕ) (o : Bytes) → Wrote out next (othersText x fs) r o → Wrote out₀ at (othersText x (fieldsIn x s)) r o
 
-pub copy-all : (key : Key) (v : Version) (meta : Bool) (s : Bytes) (start : ℕ) (out : Bytes) (at : ℕ) → at ≤ last → length out ≤ last → Copying key v meta s start out at out at start
-copy-all key v meta s start out at h l =
-    record { fs = fieldsAt meta s start; left = left-all meta s start; capped = h; fits = l; size = refl; still = λ r o w. w }
+pub copy-all : (x : MapContext) (s out : Bytes) (at : ℕ) → at ≤ last → length out ≤ last → Copying x s out at out at (x .start)
+copy-all x s out at h l =
+    record { fs = fieldsIn x s; left = left-all (x .brackets) s (x .start); capped = h; fits = l; size = refl; still = λ r o w. w }
 
-module _ {key : Key} {v : Version} {meta : Bool} {s : Bytes} {start : ℕ} {out₀ : Bytes} {at : ℕ} {out : Bytes} {next i : ℕ} (g : Copying key v meta s start out₀ at out next i)
-    {r : FieldRead} (a : r ≡ fieldAt meta s i) where
-  pub copied-all : r ≡ read.Refused → Wrote out₀ at (othersText key v meta (fieldsAt meta s start)) next out
-  copied-all e = g .still next out (rw (left-unread (g .left) a e, others-none key v meta) (wrote-nothing out next (g .capped) (g .fits)))
+module _ {x : MapContext} {s out₀ : Bytes} {at : ℕ} {out : Bytes} {next i : ℕ} (g : Copying x s out₀ at out next i) {r : FieldRead} (a : r ≡ fieldAt (x .brackets) s i) where
+  pub copied-all : r ≡ read.Refused → Wrote out₀ at (othersText x (fieldsIn x s)) next out
+  copied-all e = g .still next out (rw (left-unread (g .left) a e, others-none x) (wrote-nothing out next (g .capped) (g .fits)))
 
-  module _ {e : ℕ} {t : Text} {n : Cursor} (b : r ≡ read.Field e t n) {p : Bytes} (c : p ≡ take (e - i) (drop i s)) {x : Bytes} (d : x ≡ take (t .end - t .start) (drop (t .start) s))
-      {r₁ : ℕ} {o₁ : Bytes} (w : Wrote out next (otherText key v meta p (meaning (t .quoted) x)) r₁ o₁) {y : Separator} (j : y ≡ separatorAt s (n .at)) where
-    abbrev here : FieldHere meta s i e t n
+  module _ {e : ℕ} {t : Text} {n : Cursor} (b : r ≡ read.Field e t n) {p : Bytes} (c : p ≡ take (e - i) (drop i s)) {val : Bytes} (d : val ≡ take (t .end - t .start) (drop (t .start) s))
+      {r₁ : ℕ} {o₁ : Bytes} (w : Wrote out next (otherText x p (meaning (t .quoted) val)) r₁ o₁) {y : Separator} (j : y ≡ separatorAt s (n .at)) where
+    abbrev here : FieldHere (x .brackets) s i e t n
     here = left-told (g .left) a b
 
-    one : Wrote out next (otherText key v meta (here .field .key) (meaningOf (here .field .value))) r₁ o₁
+    one : Wrote out next (otherText x (here .field .key) (meaningOf (here .field .value))) r₁ o₁
     one =
         let k : p ≡ here .field .key = c ∙ here .key in
-        let m : meaning (t .quoted) x ≡ meaningOf (here .field .value) = ap (meaning (t .quoted)) d ∙ value-means s t (here .field .value) (here .value) in
+        let m : meaning (t .quoted) val ≡ meaningOf (here .field .value) = ap (meaning (t .quoted)) d ∙ value-means s t (here .field .value) (here .value) in
         rw (← k, ← m) w
 
-    pub copied-last : y ≡ separator.Other → Wrote out₀ at (othersText key v meta (fieldsAt meta s start)) r₁ o₁
-    copied-last o = g .still r₁ o₁ (subst (λ (fs : List Field). Wrote out next (othersText key v meta fs) r₁ o₁) (sym (left-last (g .left) a b j o))
-        (rw (others-more key v meta (here .field) [], others-none key v meta, append-nil (otherText key v meta (here .field .key) (meaningOf (here .field .value)))) one))
+    pub copied-last : y ≡ separator.Other → Wrote out₀ at (othersText x (fieldsIn x s)) r₁ o₁
+    copied-last o = g .still r₁ o₁ (subst (λ (fs : List Field). Wrote out next (othersText x fs) r₁ o₁) (sym (left-last (g .left) a b j o))
+        (rw (others-more x (here .field) [], others-none x, append-nil (otherText x (here .field .key) (meaningOf (here .field .value)))) one))
 
     module _ {z : Cursor} (o : y ≡ separator.Comma z) where
-      pub copied-one : Copying key v meta s start out₀ at o₁ r₁ (z .at)
+      pub copied-one : Copying x s out₀ at o₁ r₁ (z .at)
       copied-one = let l = left-next (g .left) a b j o in record {
         fs = l .0;
         left = l .2;
         capped = wrote-capped w;
         fits = rw (wrote-length w) (g .fits);
         size = wrote-length w ∙ g .size;
-        still = λ r′ o′ w′. g .still r′ o′ (subst (λ (fs : List Field). Wrote out next (othersText key v meta fs) r′ o′) (sym (l .1))
-            (rw (others-more key v meta (here .field) (l .0)) (then one w′)));
+        still = λ r′ o′ w′. g .still r′ o′ (subst (λ (fs : List Field). Wrote out next (othersText x fs) r′ o′) (sym (l .1))
+            (rw (others-more x (here .field) (l .0)) (then one w′)));
       }
 
       pub copied-less : length s - z .at < length s - i

@@ -6,7 +6,7 @@ use mathlib.Core.List.{[], _∷_, _++_, append-assoc}
 use lib.ListN.{take, drop}
 use borrow.Author.Tests.{eqb-true}
 use Rattle.values.specs.Bytes.{Bytes, ascii, is, begins, any, same}
-use Rattle.values.specs.Integer.{isDigit, isOther, u64Read, decimal}
+use Rattle.values.specs.Integer.{isDigit, isNoDigit, u64Read, decimal}
 use Rattle.values.specs.Value.{written, isStop, meaning, valueOf, writeValue}
 use Rattle.values.specs.Field.{writtenField}
 use Rattle.values.specs.Written.{Wrote}
@@ -17,9 +17,9 @@ use Rattle.values.proofs.Tests.{pass, fail, test, or-l, and-off}
 use Rattle.values.proofs.Lists.{any-less}
 use Rattle.values.proofs.Decimals.{decimal-digits, decimal-lacks}
 use Rattle.values.proofs.Outputs.{then}
-use Rattle.rules.specs.Meaning.{numberOr}
-use Rattle.rules.specs.House.{tagName, writeKnown}
-use Rattle.records.specs.Maps.{meaningIn}
+use Rattle.rules.specs.Meaning.{numberOrWord}
+use Rattle.rules.specs.House.{nameOfTag, writeKnown}
+use Rattle.records.specs.Fields.{meaningIn}
 use Rattle.forms.specs.Forms.{quotes, fieldBy, PutsNumber}
 
 module _ {out : Bytes} {at : ℕ} (key : Bytes) {r : ℕ} {o : Bytes} (w : Wrote out at (key ++ 61 ∷ []) r o) where
@@ -39,7 +39,7 @@ begins-lacks c (b ∷ x) h = or-l (is c b) (any (is c) x) h
 decimal-begins : (c n : ℕ) → isDigit c ≡ false → begins c (decimal n) ≡ false
 decimal-begins c n h = begins-lacks c (decimal n) (decimal-lacks c n h)
 
-stop-other : (b : ℕ) → isStop b ≡ true → isOther b ≡ true
+stop-other : (b : ℕ) → isStop b ≡ true → isNoDigit b ≡ true
 stop-other b e = elim (test (is 44 b)) [
   | pass q ↦ rw (eqb-true b 44 q)
   | fail q ↦ rw (eqb-true b 62 (rw q at e))
@@ -55,37 +55,37 @@ bare-number meta key n e =
       and-off (same key (ascii "Values")) {b = false} refl,
       and-off meta {b = false} refl,
       decimal-begins 34 n refl,
-      any-less isStop isOther stop-other (decimal n) (decimal-digits n),
+      any-less isStop isNoDigit stop-other (decimal n) (decimal-digits n),
     )
 
 -- r is what the code read of the text s
 module _ (meta : Bool) (key s : Bytes) (q : Bool) {i : IntegerRead} (a : i ≡ u64Read s) {out : Bytes} {at : ℕ} where
   pub number-unread : i ≡ integer.Refused → {r : ℕ} {o : Bytes} → Wrote out at (writtenField (fieldBy meta key (meaning q s))) r o → PutsNumber meta key s q out at r o
-  number-unread e {r} {o} w = record { is = λ d raw. subst (λ (x : IntegerRead). Wrote out at (writtenField (fieldBy meta key (writeKnown (numberOr (meaning q s) x)))) r o) (sym (raw ∙ sym a ∙ e)) w }
+  number-unread e {r} {o} w = record { is = λ d raw. subst (λ (x : IntegerRead). Wrote out at (writtenField (fieldBy meta key (writeKnown (numberOrWord (meaning q s) x)))) r o) (sym (raw ∙ sym a ∙ e)) w }
 
   pub number-read : {n : ℕ} → i ≡ integer.Value n → {r : ℕ} {o : Bytes} → Wrote out at (key ++ 61 ∷ []) r o → {r′ : ℕ} {o′ : Bytes} → Wrote o r (decimal n) r′ o′ → PutsNumber meta key s q out at r′ o′
   unfolding written
   number-read {n} e w {r′} {o′} w′ = record {
-    is = λ d raw. subst (λ (x : IntegerRead). Wrote out at (writtenField (fieldBy meta key (writeKnown (numberOr (meaning q s) x)))) r′ o′) (sym (raw ∙ sym a ∙ e))
+    is = λ d raw. subst (λ (x : IntegerRead). Wrote out at (writtenField (fieldBy meta key (writeKnown (numberOrWord (meaning q s) x)))) r′ o′) (sym (raw ∙ sym a ∙ e))
         (keyed-value key w meta (decimal n) (rw (bare-number meta key n d) w′));
   }
 
 -- the ID's key by its tag
 module _ (meta : Bool) (s : Bytes) (id : Text) (tag : ℕ) {p : Bytes} (a : p ≡ take (id .end - id .start) (drop (id .start) s)) {out : Bytes} {at r : ℕ} {o : Bytes} where
-  named-by : {key : Bytes} → key ≡ tagName tag → Wrote out at (writtenField (fieldBy meta key (meaning (id .quoted) p))) r o → Wrote out at (writtenField (fieldBy meta (tagName tag) (meaningIn s id))) r o
+  named-by : {key : Bytes} → key ≡ nameOfTag tag → Wrote out at (writtenField (fieldBy meta key (meaning (id .quoted) p))) r o → Wrote out at (writtenField (fieldBy meta (nameOfTag tag) (meaningIn s id))) r o
   named-by e w = rw (← e, ← a) w
 
-  pub id-plain : tag ≡ 0 → Wrote out at (writtenField (fieldBy meta (ascii "ID") (meaning (id .quoted) p))) r o → Wrote out at (writtenField (fieldBy meta (tagName tag) (meaningIn s id))) r o
+  pub id-plain : tag ≡ 0 → Wrote out at (writtenField (fieldBy meta (ascii "ID") (meaning (id .quoted) p))) r o → Wrote out at (writtenField (fieldBy meta (nameOfTag tag) (meaningIn s id))) r o
   id-plain e w = named-by (rw e) w
 
   module _ (z : tag ≡ 0 → ⊥) where
-    pub id-child : tag ≡ 1 → Wrote out at (writtenField (fieldBy meta (ascii "Child") (meaning (id .quoted) p))) r o → Wrote out at (writtenField (fieldBy meta (tagName tag) (meaningIn s id))) r o
+    pub id-child : tag ≡ 1 → Wrote out at (writtenField (fieldBy meta (ascii "Child") (meaning (id .quoted) p))) r o → Wrote out at (writtenField (fieldBy meta (nameOfTag tag) (meaningIn s id))) r o
     id-child e w = named-by (rw e) w
 
-    pub id-derived : (tag ≡ 1 → ⊥) → Wrote out at (writtenField (fieldBy meta (ascii "Derived") (meaning (id .quoted) p))) r o → Wrote out at (writtenField (fieldBy meta (tagName tag) (meaningIn s id))) r o
+    pub id-derived : (tag ≡ 1 → ⊥) → Wrote out at (writtenField (fieldBy meta (ascii "Derived") (meaning (id .quoted) p))) r o → Wrote out at (writtenField (fieldBy meta (nameOfTag tag) (meaningIn s id))) r o
     id-derived n w = named-by (derived tag z n) w
       where
-        derived : (t : ℕ) → (t ≡ 0 → ⊥) → (t ≡ 1 → ⊥) → ascii "Derived" ≡ tagName t
+        derived : (t : ℕ) → (t ≡ 0 → ⊥) → (t ≡ 1 → ⊥) → ascii "Derived" ≡ nameOfTag t
         derived zero z n = absurd (z refl)
         derived (suc zero) z n = absurd (n refl)
         derived (suc (suc t)) z n = refl

@@ -8,24 +8,26 @@ use Rattle.values.specs.Bytes.{Bytes, ascii, same}
 use Rattle.values.specs.Value.{meaningOf}
 use Rattle.values.specs.Field.{Field, writtenField}
 use Rattle.values.proofs.Tests.{pass, fail, test, both}
-use Rattle.values.proofs.Sames.{same-sound, same-self, same-sym}
+use Rattle.values.proofs.Sames.{same-sound, same-self}
 use Rattle.rules.specs.Version.{Version}
-use Rattle.rules.specs.Known.{Kind, kindOf, isIn, known, namesId, nameOf, tagOf}
-use Rattle.rules.specs.Map.{isMeta, fieldNamed}
-use Rattle.rules.specs.Meaning.{numeric, knownValue, knownOf, others}
-use Rattle.rules.specs.House.{isQuoted, writeField, writeKnown, tagName, keyNamed, knownFields, otherFields, writeMore, writeFields}
-use Rattle.rules.proofs.Alls.{All}
-use Rattle.rules.proofs.Names.{name-plain, name-is}
+use Rattle.rules.specs.Known.{Kind, INFO, FILTER, FORMAT, ALT, contig, other, KnownField, isNumeric, names, rows, rowNamed, numeric, kindOf, isIn, known, nameOf, tagOf}
+use Rattle.rules.specs.Map.{isMeta, isSome, knownNamed, fieldNamed, fieldKeyed}
+use Rattle.rules.specs.Meaning.{knownValue, knownOf, others}
+use Rattle.rules.specs.House.{isWrittenQuoted, writeField, writeKnown, nameOfTag, keyWritten, knownFields, otherFields, writeMore, writeFields}
+use Rattle.rules.proofs.Names.{name-plain, name-is, row-known}
 use Rattle.rules.proofs.Checks.{named-yes, named-no}
 use Rattle.rules.proofs.Tidy.{knownIn, tidy, tag, others-yes, others-no}
-use Rattle.records.specs.Keys.{bytesOf, Named}
-use Rattle.records.specs.declared.key.Key.{Key}
-use Rattle.records.specs.declared.key.Key.the-variants as key
-use Rattle.forms.specs.Forms.{quotes, fieldBy, shown, keyed, knownText, Row, rowsOf, listed, namesIn, isKnown, otherText, othersText}
+use Rattle.records.specs.Keys.{bytesOf, Named, kindBy, versionIn}
+use Rattle.records.specs.Tags.{afterId}
+use Rattle.records.specs.declared.key.MapKey.{MapKey}
+use Rattle.records.specs.declared.key.MapContext.{MapContext}
+use Rattle.records.proofs.Keys.{name-by-case, kind-by-case}
+use Rattle.forms.specs.Forms.{quotes, fieldBy, shown, knownText, listed, otherText, othersText}
+use Rattle.rules.specs.Claims.{All}
 
 -- the rule of quoting asks of the map's key only whether it is META, from 4.3
 field-as : (v : Version) (k name t : Bytes) → writeField v k name t ≡ fieldBy (isMeta v k) name t
-unfolding isQuoted quotes
+unfolding isWrittenQuoted quotes
 field-as v k name t = refl
 
 more-append : (xs ys : List Field) → writeMore (xs ++ ys) ≡ writeMore xs ++ writeMore ys
@@ -35,11 +37,11 @@ more-append (x ∷ xs) ys = ap (λ (t : Bytes). 44 ∷ (writtenField x ++ t)) (m
 
 -- Known fields
 
--- a row of the table: no name of the ID, and whether its values may be integers
-pub record RowIn (kind : Kind) (r : Row) : Type 0 where
-  pub number : isIn (r .0) (numeric kind) ≡ r .1
-  pub other : same (r .0) (ascii "ID") ≡ false
-  pub plain : same (r .0) (ascii "Child") || same (r .0) (ascii "Derived") ≡ false
+-- a row after the ID: no name of the ID, and whether its values may be integers
+pub record RowIn (kind : Kind) (r : KnownField) : Type 0 where
+  pub number : isIn (r .name) (numeric kind) ≡ isNumeric (r .reads)
+  pub other : same (r .name) (ascii "ID") ≡ false
+  pub plain : same (r .name) (ascii "Child") || same (r .name) (ascii "Derived") ≡ false
 
 -- a field has such a name exactly where its key is that name
 name-same : (v : Version) (k field name : Bytes) → same name (ascii "ID") ≡ false → same name (ascii "Child") || same name (ascii "Derived") ≡ false
@@ -53,12 +55,12 @@ name-same v k field name i p = elim (test (same (nameOf v k field) name)) [
 ]
 
 named-keyed : (v : Version) (k name : Bytes) (fs : List Field) → same name (ascii "ID") ≡ false → same name (ascii "Child") || same name (ascii "Derived") ≡ false
-    → fieldNamed v k name fs ≡ keyed name fs
-unfolding fieldNamed keyed
+    → fieldNamed v k name fs ≡ fieldKeyed name fs
+unfolding fieldNamed fieldKeyed
 named-keyed v k name [] i p = refl
 named-keyed v k name (f ∷ fs) i p = elim (test (same (f .key) name)) [
-  | pass e ↦ rw (keyed, e) (named-yes v k name f fs (name-same v k (f .key) name i p ∙ e))
-  | fail e ↦ rw (keyed, e) (named-no v k name f fs (name-same v k (f .key) name i p ∙ e) ∙ named-keyed v k name fs i p)
+  | pass e ↦ rw (fieldKeyed, e) (named-yes v k name f fs (name-same v k (f .key) name i p ∙ e))
+  | fail e ↦ rw (fieldKeyed, e) (named-no v k name f fs (name-same v k (f .key) name i p ∙ e) ∙ named-keyed v k name fs i p)
 ]
 
 shown-as : (kind : Kind) (name t : Bytes) (number : Bool) → isIn name (numeric kind) ≡ number → writeKnown (knownValue kind name t) ≡ shown number t
@@ -66,113 +68,89 @@ unfolding knownValue
 shown-as kind name t true e = rw (knownValue, e)
 shown-as kind name t false e = rw (knownValue, e)
 
-key-as : (tag : ℕ) (name : Bytes) → same name (ascii "ID") ≡ false → keyNamed tag name ≡ name
-key-as tag name e = rw (keyNamed, e)
+key-as : (tag : ℕ) (name : Bytes) → same name (ascii "ID") ≡ false → keyWritten tag name ≡ name
+key-as tag name e = rw (keyWritten, e)
 
-listed-as : (v : Version) (k : Bytes) (tag : ℕ) (fs : List Field) (rs : List Row) → All (RowIn (kindOf k)) rs
-    → writeMore (knownFields v k tag (namesIn rs) (map (knownIn v k fs) (namesIn rs))) ≡ listed (isMeta v k) fs rs
+listed-as : (v : Version) (k : Bytes) (tag : ℕ) (fs : List Field) (rs : List KnownField) → All (RowIn (kindOf k)) rs
+    → writeMore (knownFields v k tag (names rs) (map (knownIn v k fs) (names rs))) ≡ listed (isMeta v k) fs rs
 unfolding knownFields writeMore listed
 listed-as v k tag fs [] h = refl
-listed-as v k tag fs (r ∷ rs) h = rw (named-keyed v k (r .0) fs (h .0 .other) (h .0 .plain)) (go (keyed (r .0) fs) (listed-as v k tag fs rs (h .1)))
+listed-as v k tag fs (r ∷ rs) h = rw (named-keyed v k (r .name) fs (h .0 .other) (h .0 .plain)) (go (fieldKeyed (r .name) fs) (listed-as v k tag fs rs (h .1)))
   where
-    go : (o : Option Field) → writeMore (knownFields v k tag (namesIn rs) (map (knownIn v k fs) (namesIn rs))) ≡ listed (isMeta v k) fs rs
-        → writeMore (knownFields v k tag (r .0 ∷ namesIn rs) (knownOf (kindOf k) (r .0) o ∷ map (knownIn v k fs) (namesIn rs))) ≡ knownText (isMeta v k) (r .0) (r .1) o ++ listed (isMeta v k) fs rs
+    go : (o : Option Field) → writeMore (knownFields v k tag (names rs) (map (knownIn v k fs) (names rs))) ≡ listed (isMeta v k) fs rs
+        → writeMore (knownFields v k tag (r .name ∷ names rs) (knownOf (kindOf k) (r .name) o ∷ map (knownIn v k fs) (names rs)))
+        ≡ knownText (isMeta v k) (r .name) (isNumeric (r .reads)) o ++ listed (isMeta v k) fs rs
     go none ih = ih
     go (some f) ih =
         ap₂ (λ (x : Field) (t : Bytes). 44 ∷ (writtenField x ++ t))
-        (ap₂ (writeField v k) (key-as tag (r .0) (h .0 .other)) (shown-as (kindOf k) (r .0) (meaningOf (f .value)) (r .1) (h .0 .number))
-        ∙ field-as v k (r .0) (shown (r .1) (meaningOf (f .value)))) ih
+        (ap₂ (writeField v k) (key-as tag (r .name) (h .0 .other)) (shown-as (kindOf k) (r .name) (meaningOf (f .value)) (isNumeric (r .reads)) (h .0 .number))
+        ∙ field-as v k (r .name) (shown (isNumeric (r .reads)) (meaningOf (f .value)))) ih
 
 -- The table
 
-known-rows : (j : Key) → known (kindOf (bytesOf j)) ≡ ascii "ID" ∷ namesIn (rowsOf j)
-unfolding kindOf same
-known-rows key.FileFormat = refl
-known-rows key.Info = refl
-known-rows key.Filter = refl
-known-rows key.Format = refl
-known-rows key.AlternativeAllele = refl
-known-rows key.Contig = refl
-known-rows key.Meta = refl
-known-rows key.Pedigree = refl
-known-rows key.Other = refl
+id-first : (kind : Kind) → known kind ≡ ascii "ID" ∷ names (afterId kind)
+id-first INFO = refl
+id-first FILTER = refl
+id-first FORMAT = refl
+id-first ALT = refl
+id-first contig = refl
+id-first other = refl
 
-rows-in : (j : Key) → All (RowIn (kindOf (bytesOf j))) (rowsOf j)
-unfolding kindOf same isIn
-rows-in key.FileFormat = tt
-rows-in key.Info = (
-  record { number = refl; other = refl; plain = refl },
-  (record { number = refl; other = refl; plain = refl }, (record { number = refl; other = refl; plain = refl }, (record { number = refl; other = refl; plain = refl }, tt))),
-)
-rows-in key.Filter = (record { number = refl; other = refl; plain = refl }, (record { number = refl; other = refl; plain = refl }, tt))
-rows-in key.Format = (
-  record { number = refl; other = refl; plain = refl },
-  (record { number = refl; other = refl; plain = refl }, (record { number = refl; other = refl; plain = refl }, (record { number = refl; other = refl; plain = refl }, tt))),
-)
-rows-in key.AlternativeAllele = (record { number = refl; other = refl; plain = refl }, tt)
-rows-in key.Contig = (
-  record { number = refl; other = refl; plain = refl },
-  (record { number = refl; other = refl; plain = refl }, (record { number = refl; other = refl; plain = refl }, (record { number = refl; other = refl; plain = refl }, tt))),
-)
-rows-in key.Meta = tt
-rows-in key.Pedigree = tt
-rows-in key.Other = tt
+rows-in : (kind : Kind) → All (RowIn kind) (afterId kind)
+unfolding same isIn
+rows-in INFO = (record { number = refl; other = refl; plain = refl }, (record { number = refl; other = refl; plain = refl }, (record { number = refl; other = refl; plain = refl }, (record { number = refl; other = refl; plain = refl }, tt))))
+rows-in FILTER = (record { number = refl; other = refl; plain = refl }, (record { number = refl; other = refl; plain = refl }, tt))
+rows-in FORMAT = (record { number = refl; other = refl; plain = refl }, (record { number = refl; other = refl; plain = refl }, (record { number = refl; other = refl; plain = refl }, (record { number = refl; other = refl; plain = refl }, tt))))
+rows-in ALT = (record { number = refl; other = refl; plain = refl }, tt)
+rows-in contig = (record { number = refl; other = refl; plain = refl }, (record { number = refl; other = refl; plain = refl }, (record { number = refl; other = refl; plain = refl }, (record { number = refl; other = refl; plain = refl }, tt))))
+rows-in other = tt
 
-id-word : (j : Key) → isIn (ascii "ID") (numeric (kindOf (bytesOf j))) ≡ false
-unfolding kindOf same isIn
-id-word key.FileFormat = refl
-id-word key.Info = refl
-id-word key.Filter = refl
-id-word key.Format = refl
-id-word key.AlternativeAllele = refl
-id-word key.Contig = refl
-id-word key.Meta = refl
-id-word key.Pedigree = refl
-id-word key.Other = refl
+id-word : (kind : Kind) → isIn (ascii "ID") (numeric kind) ≡ false
+unfolding same isIn
+id-word INFO = refl
+id-word FILTER = refl
+id-word FORMAT = refl
+id-word ALT = refl
+id-word contig = refl
+id-word other = refl
 
 -- Other fields
 
-name-case : (v : Version) (k : Bytes) (j : Key) (name : Bytes) → Named k j → nameOf v k name ≡ nameOf v (bytesOf j) name
-unfolding nameOf namesId
-name-case v k j name n = rw (nameOf, namesId, n .pedigree)
-
-in-rows : (v : Version) (k name : Bytes) (kind : Kind) (rs : List Row) → All (RowIn kind) rs → isIn (nameOf v k name) (namesIn rs) ≡ isIn name (namesIn rs)
-unfolding isIn
-in-rows v k name kind [] h = refl
-in-rows v k name kind (r ∷ rs) h =
-    ap₂ _||_ (same-sym (r .0) (nameOf v k name) ∙ name-same v k name (r .0) (h .0 .other) (h .0 .plain) ∙ same-sym name (r .0)) (in-rows v k name kind rs (h .1))
-
-known-as : (v : Version) (k : Bytes) (j : Key) (name : Bytes) → Named k j → isIn (nameOf v k name) (known (kindOf k)) ≡ isKnown j v name
-unfolding isIn isKnown
+-- the field has no row
+known-as : (v : Version) (k : Bytes) (j : MapKey) (name : Bytes) → Named k j → isIn (nameOf v k name) (known (kindOf k)) ≡ isSome (knownNamed v (bytesOf j) name)
 known-as v k j name n =
-    ap (isIn (nameOf v k name)) (ap known (n .kind) ∙ known-rows j)
-    ∙ ap₂ _||_ (same-sym (ascii "ID") (nameOf v k name) ∙ ap (λ (x : Bytes). same x (ascii "ID")) (name-case v k j name n))
-    (in-rows v k name (kindOf (bytesOf j)) (rowsOf j) (rows-in j))
+    row-known (nameOf v k name) (rows (kindOf k)) ∙ ap₂ (λ (x : Bytes) (kind : Kind). isSome (rowNamed x (rows kind))) (name-by-case v k j n name) (n .kind)
 
-others-as : (v : Version) (k : Bytes) (j : Key) → Named k j → (fs : List Field) → writeMore (otherFields v k (others v k fs)) ≡ othersText j v (isMeta v k) fs
-unfolding others otherFields writeMore othersText otherText
-others-as v k j n [] = refl
-others-as v k j n (f ∷ fs) = elim (test (isIn (nameOf v k (f .key)) (known (kindOf k)))) [
-  | pass e ↦ rw (others-yes v k 0 f fs e, othersText, otherText, ← known-as v k j (f .key) n, e) (others-as v k j n fs)
-  | fail e ↦ rw (others-no v k 0 f fs e, othersText, otherText, ← known-as v k j (f .key) n, e)
-      (ap₂ (λ (x : Field) (t : Bytes). 44 ∷ (writtenField x ++ t)) (field-as v k (f .key) (meaningOf (f .value))) (others-as v k j n fs))
-]
+module _ (v : Version) (k : Bytes) (x : MapContext) (n : Named k (x .key)) (a : versionIn x ≡ v) (b : x .brackets ≡ isMeta v k) where
+  others-as : (fs : List Field) → writeMore (otherFields v k (others v k fs)) ≡ othersText x fs
+  unfolding others otherFields writeMore othersText otherText
+  others-as [] = refl
+  others-as (f ∷ fs) = elim (test (isIn (nameOf v k (f .key)) (known (kindOf k)))) [
+    | pass e ↦ rw (others-yes v k 0 f fs e, othersText, otherText, a, ← known-as v k (x .key) (f .key) n, e) (others-as fs)
+    | fail e ↦ rw (others-no v k 0 f fs e, othersText, otherText, a, ← known-as v k (x .key) (f .key) n, e)
+        (ap₂ (λ (y : Field) (t : Bytes). 44 ∷ (writtenField y ++ t)) (field-as v k (f .key) (meaningOf (f .value)) ∙ ap (λ (m : Bool). fieldBy m (f .key) (meaningOf (f .value))) (sym b)) (others-as fs))
+  ]
 
--- The whole map: its ID, the known fields after it, and the others
-pub fields-as : (v : Version) (k : Bytes) (j : Key) → Named k j → (fs : List Field) {f : Field} → fieldNamed v k (ascii "ID") fs ≡ some f
-    → writeFields (tidy v k fs)
-    ≡ writtenField (fieldBy (isMeta v k) (tagName (tagOf (f .key))) (meaningOf (f .value))) ++ (listed (isMeta v k) fs (rowsOf j) ++ othersText j v (isMeta v k) fs)
-unfolding knownFields writeFields same
-fields-as v k j n fs {f} e =
-    ap (λ (ns : List Bytes). writeFields (knownFields v k (tag v k fs) ns (map (knownIn v k fs) ns) ++ otherFields v k (others v k fs))) (ap known (n .kind) ∙ known-rows j)
-    ∙ rw e (ap₂ (λ (x : Field) (t : Bytes). writtenField x ++ t) first rest)
-  where
-    first : writeField v k (tagName (tagOf (f .key))) (writeKnown (knownValue (kindOf k) (ascii "ID") (meaningOf (f .value)))) ≡ fieldBy (isMeta v k) (tagName (tagOf (f .key))) (meaningOf (f .value))
-    first =
-        ap (writeField v k (tagName (tagOf (f .key)))) (shown-as (kindOf k) (ascii "ID") (meaningOf (f .value)) false (ap (λ (x : Kind). isIn (ascii "ID") (numeric x)) (n .kind) ∙ id-word j))
-        ∙ field-as v k (tagName (tagOf (f .key))) (meaningOf (f .value))
+  -- The whole map: its ID, the known fields after it, and the others
+  pub fields-as : (fs : List Field) {f : Field} → fieldNamed v k (ascii "ID") fs ≡ some f
+      → writeFields (tidy v k fs)
+      ≡ writtenField (fieldBy (x .brackets) (nameOfTag (tagOf (f .key))) (meaningOf (f .value))) ++ (listed (x .brackets) fs (afterId (kindBy (x .key))) ++ othersText x fs)
+  unfolding knownFields writeFields same
+  fields-as fs {f} e =
+      let all : writeFields (knownFields v k (tag v k fs) (ascii "ID" ∷ names (afterId (kindOf k))) (map (knownIn v k fs) (ascii "ID" ∷ names (afterId (kindOf k)))) ++ otherFields v k (others v k fs))
+      ≡ writtenField (fieldBy (isMeta v k) (nameOfTag (tagOf (f .key))) (meaningOf (f .value))) ++ (listed (isMeta v k) fs (afterId (kindBy (x .key))) ++ othersText x fs)
+      = rw e (ap₂ (λ (y : Field) (t : Bytes). writtenField y ++ t) first rest) in
+      ap (λ (ns : List Bytes). writeFields (knownFields v k (tag v k fs) ns (map (knownIn v k fs) ns) ++ otherFields v k (others v k fs))) (id-first (kindOf k))
+      ∙ all
+      ∙ ap (λ (m : Bool). writtenField (fieldBy m (nameOfTag (tagOf (f .key))) (meaningOf (f .value))) ++ (listed m fs (afterId (kindBy (x .key))) ++ othersText x fs)) (sym b)
+    where
+      first : writeField v k (nameOfTag (tagOf (f .key))) (writeKnown (knownValue (kindOf k) (ascii "ID") (meaningOf (f .value)))) ≡ fieldBy (isMeta v k) (nameOfTag (tagOf (f .key))) (meaningOf (f .value))
+      first =
+          ap (writeField v k (nameOfTag (tagOf (f .key)))) (shown-as (kindOf k) (ascii "ID") (meaningOf (f .value)) false (id-word (kindOf k)))
+          ∙ field-as v k (nameOfTag (tagOf (f .key))) (meaningOf (f .value))
 
-    rest : writeMore (knownFields v k (tagOf (f .key)) (namesIn (rowsOf j)) (map (knownIn v k fs) (namesIn (rowsOf j))) ++ otherFields v k (others v k fs)) ≡ listed (isMeta v k) fs (rowsOf j) ++ othersText j v (isMeta v k) fs
-    rest =
-        more-append (knownFields v k (tagOf (f .key)) (namesIn (rowsOf j)) (map (knownIn v k fs) (namesIn (rowsOf j)))) (otherFields v k (others v k fs))
-        ∙ ap₂ _++_ (listed-as v k (tagOf (f .key)) fs (rowsOf j) (rw (n .kind) (rows-in j))) (others-as v k j n fs)
+      rest : writeMore (knownFields v k (tagOf (f .key)) (names (afterId (kindOf k))) (map (knownIn v k fs) (names (afterId (kindOf k)))) ++ otherFields v k (others v k fs))
+          ≡ listed (isMeta v k) fs (afterId (kindBy (x .key))) ++ othersText x fs
+      rest =
+          more-append (knownFields v k (tagOf (f .key)) (names (afterId (kindOf k))) (map (knownIn v k fs) (names (afterId (kindOf k))))) (otherFields v k (others v k fs))
+          ∙ ap₂ _++_ (listed-as v k (tagOf (f .key)) fs (afterId (kindOf k)) (rows-in (kindOf k)) ∙ ap (λ (kind : Kind). listed (isMeta v k) fs (afterId kind)) (n .kind ∙ kind-by-case (x .key))) (others-as fs)

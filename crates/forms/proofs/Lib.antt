@@ -1,7 +1,6 @@
 pub mod Quotes
 pub mod Fields
-pub mod Searches
-pub mod Names
+pub mod Rows
 pub mod Copies
 pub mod Forms
 pub mod Lines

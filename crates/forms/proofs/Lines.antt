@@ -23,43 +23,47 @@ use Rattle.rules.specs.Map.{isMeta, fieldNamed}
 use Rattle.rules.specs.Record.{Record, fileformat, fields, text, readRecord}
 use Rattle.rules.specs.Entry.{fieldsStart, textNamed}
 use Rattle.rules.specs.Meaning.{saying}
-use Rattle.rules.specs.House.{tagName, recordOf, writeFields, writeRecord}
+use Rattle.rules.specs.House.{nameOfTag, recordOf, writeFields, writeRecord}
 use Rattle.rules.proofs.Firsts.{on-ok}
 use Rattle.rules.proofs.Pieces.{ends-more}
 use Rattle.rules.proofs.Texts.{LineOf, record-in, Scanned, record-scanned}
 use Rattle.rules.proofs.Tidy.{tidy, tidied-fields}
 use Rattle.rules.proofs.Shows.{Both, named-text, line-fields, value-means}
-use Rattle.records.specs.Keys.{bytesOf, Named}
-use Rattle.records.specs.Maps.{slotted, meaningIn}
-use Rattle.records.specs.Records.{keyIn, RecordIs, RecordAre}
-use Rattle.records.specs.declared.key.Key.{Key}
+use Rattle.records.specs.Formats.{versionOf}
+use Rattle.records.specs.Keys.{bytesOf, Named, kindBy, contextOf}
+use Rattle.records.specs.Tags.{afterId}
+use Rattle.records.specs.Fields.{meaningIn}
+use Rattle.records.specs.Maps.{slotted}
+use Rattle.records.specs.Records.{keyIn, RecordIs, ParsesRecord}
+use Rattle.records.specs.declared.key.MapKey.{MapKey}
+use Rattle.records.specs.declared.key.MapContext.{MapContext}
+use Rattle.records.specs.declared.record.MapRecord.{MapRecord}
 use Rattle.records.specs.declared.file_format.FileFormat.{FileFormat}
 use Rattle.records.specs.declared.refusal.Refusal.{Refusal}
 use Rattle.records.specs.declared.map.Slot.the-variants as slot
 use Rattle.records.specs.declared.record.RecordRead.{RecordRead}
 use Rattle.records.specs.declared.record.RecordRead.the-variants as read
 use Rattle.records.proofs.Determined.{filled-one}
-use Rattle.entries.specs.Shown.{fieldsAt}
-use Rattle.entries.proofs.Fields.{fields-read}
+use Rattle.rules.proofs.Scans.{fields-read}
 use Rattle.forms.specs.declared.line.LineWritten.{LineWritten}
-use Rattle.forms.specs.Forms.{fieldBy, rowsOf, listed, othersText}
+use Rattle.forms.specs.Forms.{fieldsIn, fieldBy, listed, othersText}
 use Rattle.forms.specs.Lines.{fieldsText, mapText, lineOf, IsEntry, entryLine, houseLine, ending, WroteEnded}
 use Rattle.forms.proofs.Forms.{fields-as}
 
 -- The pieces of a map's line
 
-module _ (key : Key) (v : Version) (s : Bytes) (start : ℕ) (id : Text) (tag : ℕ) (meta : Bool) {out : Bytes} {at r₁ r₂ r₃ : ℕ} {o₁ o₂ o₃ : Bytes} where
-  pub fields-put : Wrote out at (writtenField (fieldBy meta (tagName tag) (meaningIn s id))) r₁ o₁ → Wrote o₁ r₁ (listed meta (fieldsAt meta s start) (rowsOf key)) r₂ o₂
-      → Wrote o₂ r₂ (othersText key v meta (fieldsAt meta s start)) r₃ o₃ → Wrote out at (fieldsText key v meta s start id tag) r₃ o₃
+module _ (x : MapContext) (s : Bytes) (id : Text) (tag : ℕ) {out : Bytes} {at r₁ r₂ r₃ : ℕ} {o₁ o₂ o₃ : Bytes} where
+  pub fields-put : Wrote out at (writtenField (fieldBy (x .brackets) (nameOfTag tag) (meaningIn s id))) r₁ o₁ → Wrote o₁ r₁ (listed (x .brackets) (fieldsIn x s) (afterId (kindBy (x .key)))) r₂ o₂
+      → Wrote o₂ r₂ (othersText x (fieldsIn x s)) r₃ o₃ → Wrote out at (fieldsText x s id tag) r₃ o₃
   unfolding fieldsText
   fields-put w₁ w₂ w₃ = then w₁ (then w₂ w₃)
 
-  pub map-put : meta ≡ isMeta v (bytesOf key) → {p : Bytes} → p ≡ take (start - 0) (drop 0 s) → Wrote out at p r₁ o₁ → Wrote o₁ r₁ (fieldsText key v meta s start id tag) r₂ o₂
-      → Wrote o₂ r₂ (62 ∷ []) r₃ o₃ → Wrote out at (mapText key v (isMeta v (bytesOf key)) s start id tag) r₃ o₃
-  map-put a {p} b w₁ w₂ w₃ =
-      let z : start - 0 ≡ start = omega arith in
-      let q : p ≡ take start s = b ∙ rw z in
-      rw (← a, ← q) (then w₁ (then w₂ w₃))
+  pub map-put : {p : Bytes} → p ≡ take (x .start - 0) (drop 0 s) → Wrote out at p r₁ o₁ → Wrote o₁ r₁ (fieldsText x s id tag) r₂ o₂
+      → Wrote o₂ r₂ (62 ∷ []) r₃ o₃ → Wrote out at (mapText x s id tag) r₃ o₃
+  map-put {p} b w₁ w₂ w₃ =
+      let z : x .start - 0 ≡ x .start = omega arith in
+      let q : p ≡ take (x .start) s = b ∙ ap (λ (i : ℕ). take i s) z in
+      rw (← q) (then w₁ (then w₂ w₃))
 
 -- The ID of a map
 
@@ -102,69 +106,71 @@ map-opened k fs = ap (ascii "##" ++_) (sym (append-assoc k (61 ∷ 60 ∷ []) (w
 opened-take : (k : Bytes) (fs : List Field) (s : Bytes) → s ≡ writeRecord (fields k fs) → take (fieldsStart k) s ≡ opening k
 opened-take k fs s e = rw (e, map-opened k fs) (take-at (opening k) (writeFields fs ++ 62 ∷ []) (fieldsStart k) (opening-long k))
 
-module _ (v : Version) (k : Bytes) (fs : List Field) (key : Key) (s : Bytes) (start : ℕ) (n : Named k key) (r : readRecord v s ≡ ok (fields k fs)) (l : start ≡ fieldsStart k) where
+module _ (version : FileFormat) (k : Bytes) (fs : List Field) (key : MapKey) (s : Bytes) (start : ℕ) (n : Named k key) (r : readRecord (versionOf version) s ≡ ok (fields k fs))
+    (l : start ≡ fieldsStart k) where
   line-is : s ≡ writeRecord (fields k fs)
-  line-is = on-ok (LineOf s) (record-in v s) r
+  line-is = on-ok (LineOf s) (record-in (versionOf version) s) r
 
-  meta-is : isMeta v (bytesOf key) ≡ isMeta v k
-  meta-is = ap (λ (b : Bool). b && since v4-3 v) (sym (n .meta))
+  meta-is : isMeta (versionOf version) (bytesOf key) ≡ isMeta (versionOf version) k
+  meta-is = ap (λ (b : Bool). b && since v4-3 (versionOf version)) (sym (n .meta))
 
-  fields-are : fieldsAt (isMeta v k) s start ≡ fs
-  fields-are = rw l (fields-read (isMeta v k) (alwaysMap k) s (fieldsStart k) (on-ok (Scanned v s) (record-scanned v s) r))
+  fields-are : fieldsIn (contextOf key version start) s ≡ fs
+  fields-are = rw (meta-is, l) (fields-read (isMeta (versionOf version) k) (alwaysMap k) s (fieldsStart k) (on-ok (Scanned (versionOf version) s) (record-scanned (versionOf version) s) r))
 
-  fields-text : (id : Text) (f : Field) → fieldNamed v k (ascii "ID") fs ≡ some f → meaningIn s id ≡ meaningOf (f .value)
-      → fieldsText key v (isMeta v k) s start id (tagOf (f .key)) ≡ writeFields (tidy v k fs)
+  fields-text : (id : Text) (f : Field) → fieldNamed (versionOf version) k (ascii "ID") fs ≡ some f → meaningIn s id ≡ meaningOf (f .value)
+      → fieldsText (contextOf key version start) s id (tagOf (f .key)) ≡ writeFields (tidy (versionOf version) k fs)
   unfolding fieldsText
-  fields-text id f q m = rw (fields-are, m) (sym (fields-as v k key n fs q))
+  fields-text id f q m = rw (fields-are, m) (sym (fields-as (versionOf version) k (contextOf key version start) n refl meta-is fs q))
 
-  map-text : (id : Text) (tag : ℕ) → slotted (textNamed v k (ascii "ID") (fieldsStart k) fs) ≡ slot.Filled id tag
-      → mapText key v (isMeta v (bytesOf key)) s start id tag ≡ lineOf v (fields k fs)
+  map-text : (id : Text) (tag : ℕ) → slotted (textNamed (versionOf version) k (ascii "ID") (fieldsStart k) fs) ≡ slot.Filled id tag
+      → mapText (contextOf key version start) s id tag ≡ lineOf (versionOf version) (fields k fs)
   map-text id tag h =
-      let i = identity v k fs s id tag line-is h in
-      ap (λ (m : Bool). mapText key v m s start id tag) meta-is
-      ∙ ap (λ (g : ℕ). mapText key v (isMeta v k) s start id g) (i .tagged)
+      let i = identity (versionOf version) k fs s id tag line-is h in
+      ap (mapText (contextOf key version start) s id) (i .tagged)
       ∙ ap₂ (λ (x y : Bytes). x ++ (y ++ 62 ∷ [])) (ap (λ (g : ℕ). take g s) l ∙ opened-take k fs s line-is) (fields-text id (i .field) (i .named) (i .means))
-      ∙ sym (map-opened k (tidy v k fs))
-      ∙ sym (ap writeRecord (tidied-fields v k fs))
+      ∙ sym (map-opened k (tidy (versionOf version) k fs))
+      ∙ sym (ap writeRecord (tidied-fields (versionOf version) k fs))
 
 -- A record
 
-module _ (v : Version) (s : Bytes) {r : RecordRead} (a : RecordAre v s r) where
-  told : {x : RecordRead} → r ≡ x → RecordIs v s x
-  told e = subst (RecordIs v s) e (a .is)
+module _ (version : FileFormat) (s : Bytes) {r : RecordRead} (a : ParsesRecord (versionOf version) s r) where
+  told : {x : RecordRead} → r ≡ x → RecordIs (versionOf version) s x
+  told e = subst (RecordIs (versionOf version) s) e (a .is)
 
   -- a line is one record
-  alone : {y : Record} → readRecord v s ≡ ok y → {out : Bytes} {at n : ℕ} {o : Bytes} → Wrote out at (entryLine v y) n o → Wrote out at (houseLine v s) n o
+  alone : {y : Record} → readRecord (versionOf version) s ≡ ok y → {out : Bytes} {at n : ℕ} {o : Bytes} → Wrote out at (entryLine (versionOf version) y) n o → Wrote out at (houseLine (versionOf version) s) n o
   unfolding houseLine
   alone e w = rw (houseLine, e) w
 
-  pub version-left : {w : FileFormat} → r ≡ read.FileFormat w → {out : Bytes} {at : ℕ} → at ≤ last → length out ≤ last → Wrote out at (houseLine v s) at out
+  pub version-left : {w : FileFormat} → r ≡ read.FileFormat w → {out : Bytes} {at : ℕ} → at ≤ last → length out ≤ last → Wrote out at (houseLine (versionOf version) s) at out
   version-left e {out} {at} h l = alone (told e) (wrote-nothing out at h l)
 
-  pub refused-left : {w : Refusal} → r ≡ read.Refused w → {out : Bytes} {at : ℕ} → at ≤ last → length out ≤ last → Wrote out at (houseLine v s) at out
+  pub refused-left : {w : Refusal} → r ≡ read.Refused w → {out : Bytes} {at : ℕ} → at ≤ last → length out ≤ last → Wrote out at (houseLine (versionOf version) s) at out
   unfolding houseLine
   refused-left e {out} {at} h l = rw (houseLine, told e) (wrote-nothing out at h l)
 
-  pub text-put : {i : ℕ} → r ≡ read.Text i → {out : Bytes} {at n : ℕ} {o : Bytes} → Wrote out at s n o → Wrote out at (houseLine v s) n o
+  pub text-put : {i : ℕ} → r ≡ read.Text i → {out : Bytes} {at n : ℕ} {o : Bytes} → Wrote out at s n o → Wrote out at (houseLine (versionOf version) s) n o
   unfolding saying recordOf
-  text-put {i} e {out} {at} {n} {o} w = let f = told e .1 in alone f (subst (λ (l : Bytes). Wrote out at l n o) (on-ok (LineOf s) (record-in v s) f) w)
+  text-put {i} e {out} {at} {n} {o} w = let f = told e .1 in alone f (subst (λ (l : Bytes). Wrote out at l n o) (on-ok (LineOf s) (record-in (versionOf version) s) f) w)
 
-  module _ {key : Key} {i : ℕ} {id : Text} {tag : ℕ} (e : r ≡ read.Map key i id tag) where
-    abbrev is-map : RecordIs v s (read.Map key i id tag)
+  module _ {m : MapRecord} (e : r ≡ read.Map m) where
+    abbrev is-map : RecordIs (versionOf version) s (read.Map m)
     is-map = told e
 
-    pub map-short : length s ≤ i → {out : Bytes} {at : ℕ} → Wrote out at (houseLine v s) at out
+    pub map-short : length s ≤ m .value → {out : Bytes} {at : ℕ} → Wrote out at (houseLine (versionOf version) s) at out
     map-short l =
         let k = keyIn s in
-        let q : s ≡ opening k ++ (writeFields (is-map .0) ++ 62 ∷ []) = on-ok (LineOf s) (record-in v s) (is-map .3) ∙ map-opened k (is-map .0) in
+        let q : s ≡ opening k ++ (writeFields (is-map .0) ++ 62 ∷ []) = on-ok (LineOf s) (record-in (versionOf version) s) (is-map .3) ∙ map-opened k (is-map .0) in
         let m = ap length q ∙ length-append (opening k) (writeFields (is-map .0) ++ 62 ∷ []) in
         let n = opening-long k in
         let p = is-map .2 in
         absurd (omega arith)
 
-    pub map-put-in : {out : Bytes} {at n : ℕ} {o : Bytes} → Wrote out at (mapText key v (isMeta v (bytesOf key)) s (i + 1) id tag) n o → Wrote out at (houseLine v s) n o
-    map-put-in {out} {at} {n} {o} w = alone (is-map .3) (subst (λ (l : Bytes). Wrote out at l n o)
-        (map-text v (keyIn s) (is-map .0) key s (i + 1) (is-map .1) (is-map .3) (omega (arith, is-map .2)) id tag (is-map .4)) w)
+    pub map-put-in : {x : MapContext} → x ≡ contextOf (m .key) version (m .value + 1) → {out : Bytes} {at n : ℕ} {o : Bytes} → Wrote out at (mapText x s (m .id) (m .tag)) n o
+        → Wrote out at (houseLine (versionOf version) s) n o
+    map-put-in f {out} {at} {n} {o} w = alone (is-map .3) (subst (λ (l : Bytes). Wrote out at l n o)
+        (ap (λ (x : MapContext). mapText x s (m .id) (m .tag)) f
+        ∙ map-text version (keyIn s) (is-map .0) (m .key) s (m .value + 1) (is-map .1) (is-map .3) (omega (arith, is-map .2)) (m .id) (m .tag) (is-map .4)) w)
 
 pub ruleset records = (version-left, refused-left, text-put, map-short, map-put-in)
 

@@ -1,3 +1,2 @@
 pub mod Forms
-pub mod Found
 pub mod Lines

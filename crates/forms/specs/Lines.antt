@@ -13,20 +13,19 @@ use Rattle.rules.specs.Version.{Version}
 use Rattle.rules.specs.Record.{Record, fileformat, fields, text, readRecord}
 use Rattle.rules.specs.Reading.{keyOf}
 use Rattle.rules.specs.Meaning.{saying}
-use Rattle.rules.specs.House.{tagName, recordOf, writeRecord}
-use Rattle.records.specs.Maps.{meaningIn}
-use Rattle.records.specs.declared.key.Key.{Key}
-use Rattle.entries.specs.Shown.{fieldsAt}
+use Rattle.rules.specs.House.{nameOfTag, recordOf, writeRecord}
+use Rattle.records.specs.Fields.{meaningIn}
+use Rattle.records.specs.declared.key.MapContext.{MapContext}
 use Rattle.forms.specs.declared.line.LineWritten.{LineWritten}
-use Rattle.forms.specs.Forms.{fieldBy, rowsOf, listed, othersText}
+use Rattle.forms.specs.Forms.{fieldsIn, fieldBy, knownTexts, othersText}
 
--- a map's fields, which stand at `start` of the line s: the ID, the known ones after it, the others
-unfoldable pub fieldsText : Key → Version → Bool → Bytes → ℕ → Text → ℕ → Bytes
-fieldsText key v meta s start id tag =
-    writtenField (fieldBy meta (tagName tag) (meaningIn s id)) ++ (listed meta (fieldsAt meta s start) (rowsOf key) ++ othersText key v meta (fieldsAt meta s start))
+-- a map's fields in the line s: the ID, the known ones after it, the others
+unfoldable pub fieldsText : MapContext → Bytes → Text → ℕ → Bytes
+fieldsText x s id tag =
+    writtenField (fieldBy (x .brackets) (nameOfTag tag) (meaningIn s id)) ++ (knownTexts x s ++ othersText x (fieldsIn x s))
 
-abbrev pub mapText : Key → Version → Bool → Bytes → ℕ → Text → ℕ → Bytes
-mapText key v meta s start id tag = take start s ++ (fieldsText key v meta s start id tag ++ 62 ∷ [])
+abbrev pub mapText : MapContext → Bytes → Text → ℕ → Bytes
+mapText x s id tag = take (x .start) s ++ (fieldsText x s id tag ++ 62 ∷ [])
 
 -- the house form's line of a record
 abbrev pub lineOf : Version → Record → Bytes

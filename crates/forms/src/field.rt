@@ -10,8 +10,8 @@ ghost use mathlib.Core.List.{[], _∷_, _++_};
 ghost use Rattle.values.specs.Value.{meaning};
 ghost use Rattle.values.specs.Field.{writtenField};
 ghost use Rattle.values.specs.Written.{Wrote};
-ghost use Rattle.rules.specs.House.{tagName};
-ghost use Rattle.records.specs.Maps.{meaningIn};
+ghost use Rattle.rules.specs.House.{nameOfTag};
+ghost use Rattle.records.specs.Fields.{meaningIn};
 ghost use Rattle.forms.specs.Forms.{fieldBy, PutsNumber};
 
 fn put_key(out: &mut [u8], at: usize, key: &[u8]) -> usize
@@ -50,7 +50,7 @@ pub fn put_number(
 
 // The ID, under the name that stands for it.
 pub fn put_id(out: &mut [u8], at: usize, s: &[u8], id: Text, tag: u8, meta: bool) -> usize
-    ensures { λ r. ⌜ Wrote (now (out .entry)) at (writtenField (fieldBy meta (tagName tag) (meaningIn (now (s .entry)) id))) r (now (out .exit)) ⌝ }
+    ensures { λ r. ⌜ Wrote (now (out .entry)) at (writtenField (fieldBy meta (nameOfTag tag) (meaningIn (now (s .entry)) id))) r (now (out .exit)) ⌝ }
 {
     let value = bytes::part(s, id.start, id.end);
     if tag == 0 {

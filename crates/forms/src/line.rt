@@ -3,7 +3,7 @@ use crate::field;
 use crate::known;
 use crate::others;
 use records::file_format::FileFormat;
-use records::key::Key;
+use records::key::MapContext;
 use records::record;
 use records::record::RecordRead;
 use values::bytes;
@@ -12,9 +12,7 @@ use values::string::Text;
 ghost use mathlib.Core.Path.{_≡_};
 ghost use Rattle.values.specs.Written.{Wrote};
 ghost use Rattle.rules.specs.Lines.{ends};
-ghost use Rattle.rules.specs.Map.{isMeta};
 ghost use Rattle.records.specs.Formats.{versionOf};
-ghost use Rattle.records.specs.Keys.{bytesOf};
 ghost use Rattle.forms.specs.Lines.{fieldsText, mapText, houseLine, ending, WroteEnded};
 
 // The place after a line's text, and the place after its ending: what does not fit is counted and not written.
@@ -23,40 +21,20 @@ pub struct LineWritten {
     pub next: usize,
 }
 
-// The fields that stand at `start`, past the map's `<`. `meta`: the map is a META, from 4.3.
-fn put_fields(
-    out: &mut [u8],
-    at: usize,
-    s: &[u8],
-    start: usize,
-    meta: bool,
-    key: Key,
-    id: Text,
-    tag: u8,
-    version: FileFormat,
-) -> usize
-    ensures { λ r. ⌜ Wrote (now (out .entry)) at (fieldsText key (versionOf version) meta (now (s .entry)) start id tag) r (now (out .exit)) ⌝ }
+// The fields of a map, its ID first.
+fn put_fields(out: &mut [u8], at: usize, s: &[u8], map: MapContext, id: Text, tag: u8) -> usize
+    ensures { λ r. ⌜ Wrote (now (out .entry)) at (fieldsText map (now (s .entry)) id tag) r (now (out .exit)) ⌝ }
 {
-    let identified = field::put_id(out, at, s, id, tag, meta);
-    let listed = known::put_known_fields(out, identified, s, start, meta, key);
-    others::put_others(out, listed, s, start, meta, key, version)
+    let identified = field::put_id(out, at, s, id, tag, map.brackets);
+    let listed = known::put_known_fields(out, identified, s, map);
+    others::put_others(out, listed, s, map)
 }
 
-fn put_map(
-    out: &mut [u8],
-    at: usize,
-    s: &[u8],
-    start: usize,
-    key: Key,
-    id: Text,
-    tag: u8,
-    version: FileFormat,
-) -> usize
-    ensures { λ r. ⌜ Wrote (now (out .entry)) at (mapText key (versionOf version) (isMeta (versionOf version) (bytesOf key)) (now (s .entry)) start id tag) r (now (out .exit)) ⌝ }
+fn put_map(out: &mut [u8], at: usize, s: &[u8], map: MapContext, id: Text, tag: u8) -> usize
+    ensures { λ r. ⌜ Wrote (now (out .entry)) at (mapText map (now (s .entry)) id tag) r (now (out .exit)) ⌝ }
 {
-    let meta = key.has_brackets(version);
-    let opened = output::put_bytes(out, at, bytes::part(s, 0, start));
-    let filled = put_fields(out, opened, s, start, meta, key, id, tag, version);
+    let opened = output::put_bytes(out, at, bytes::part(s, 0, map.start));
+    let filled = put_fields(out, opened, s, map, id, tag);
     output::put_byte(out, filled, b'>')
 }
 
@@ -66,11 +44,13 @@ pub fn put_record(out: &mut [u8], at: usize, s: &[u8], version: FileFormat) -> u
 {
     match record::parse_record(s, version) {
         RecordRead::FileFormat(_) => at,
-        RecordRead::Map(key, value, id, tag) => {
-            if s.len() <= value {
+        RecordRead::Map(m) => {
+            if s.len() <= m.value {
                 return at;
             }
-            put_map(out, at, s, value + 1, key, id, tag, version)
+            let key = m.key;
+            let map = key.context(version, m.value + 1);
+            put_map(out, at, s, map, m.id, m.tag)
         }
         RecordRead::Text(_) => output::put_bytes(out, at, s),
         RecordRead::Refused(_) => at,

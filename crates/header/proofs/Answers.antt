@@ -5,7 +5,7 @@ use Rattle.values.proofs.Lists.{some-is, none-not}
 use Rattle.rules.specs.Version.{Version}
 use Rattle.records.specs.Formats.{formatOf}
 use Rattle.records.proofs.Refusals.{number-injective}
-use Rattle.header.specs.Parsers.{Told, outcomeNumber, outcomeSays, told}
+use Rattle.header.specs.Parsers.{AnswerMeaning, outcomeNumber, outcomeSays, answerMeans}
 use Rattle.header.specs.declared.parser.Outcome.{Outcome}
 use Rattle.header.specs.declared.parser.Outcome.the-variants as outcome
 use Rattle.header.specs.declared.parser.ReadAnswer.{ReadAnswer}
@@ -21,10 +21,10 @@ outcome-is (outcome.Refused x) (outcome.Accepted g n) e s = none-not s
 outcome-is (outcome.Refused x) (outcome.Refused y) e s = ap outcome.Refused (number-injective x y e)
 
 -- two answers that tell the same are the same, so what `read` promises is one answer
-pub told-injective : (a b : ReadAnswer) → told a ≡ told b → a ≡ b
-told-injective a b e =
-    let o = outcome-is (a .outcome) (b .outcome) (ap (λ (t : Told). t .number) e) (ap (λ (t : Told). t .accepted) e) in
-    let l = ap (λ (t : Told). t .line) e in
-    let s = ap (λ (t : Told). t .start) e in
-    let n = ap (λ (t : Told). t .entries) e in
+pub answer-injective : (a b : ReadAnswer) → answerMeans a ≡ answerMeans b → a ≡ b
+answer-injective a b e =
+    let o = outcome-is (a .outcome) (b .outcome) (ap (λ (t : AnswerMeaning). t .number) e) (ap (λ (t : AnswerMeaning). t .accepted) e) in
+    let l = ap (λ (t : AnswerMeaning). t .line) e in
+    let s = ap (λ (t : AnswerMeaning). t .start) e in
+    let n = ap (λ (t : AnswerMeaning). t .entries) e in
     rw (o, l, s, n)

@@ -1,7 +1,6 @@
 -- Demand 2 for the calls: after a reading they find its entries in the table, and show what these say. Assumes nothing.
-use Prim.Native.Nat.{ℕ, suc, _+_, _≤_}
+use Prim.Native.Nat.{ℕ, suc, _+_}
 use mathlib.Core.Path.{_≡_, sym, subst}
-use mathlib.Core.Bool.{true, false}
 use mathlib.Core.List.{List, [], _∷_}
 use mathlib.Core.Option.{Option, some}
 use lib.Dec.{leb}
@@ -10,40 +9,23 @@ use borrow.Author.Tests.{leb-true, leb-false}
 use Rattle.values.specs.Bytes.{Bytes}
 use Rattle.values.proofs.Tests.{pass, fail, test}
 use Rattle.values.proofs.Lists.{some-is, none-not}
-use Rattle.rules.specs.Answer.{ok}
 use Rattle.rules.specs.Sizes.{limits}
 use Rattle.rules.specs.Version.{Version}
-use Rattle.rules.specs.Record.{Record, readRecord}
+use Rattle.rules.specs.Record.{Record}
 use Rattle.rules.specs.Columns.{Columns}
 use Rattle.rules.specs.Entry.{Entry, formatKind, columnsKind, sampleKind}
 use Rattle.rules.specs.Reading.{Reading}
-use Rattle.rules.proofs.Alls.{All}
-use Rattle.rules.proofs.Versions.{SizedOption}
-use Rattle.rules.proofs.Back.{Accepted}
 use Rattle.rules.proofs.Refusals.{long-keeps}
 use Rattle.rules.proofs.Stands.{Stands, reading-stands, reading-fits}
-use Rattle.rules.proofs.Demands.{nthEntry, recordAt, nameAt, Shows, entry-shows, ShownPlain, format-shows, column-shows, sample-shows, traced}
-use Rattle.rules.proofs.Shows.{ShowsPlain}
-use Rattle.entries.specs.Tables.{room, stored, entryAt}
+use Rattle.rules.proofs.Demands.{entry-shows, format-shows, column-shows, sample-shows, traced}
+use Rattle.entries.specs.Tables.{room, entryAt}
 use Rattle.entries.proofs.Stored.{first-packed, storable, entry-stored}
 use Rattle.header.specs.Parsers.{readInto, ReadCall}
 use Rattle.header.specs.declared.parser.ReadAnswer.{ReadAnswer}
+use Rattle.rules.specs.Claims.{All, SizedOption, Accepted, nth, ShownPlain}
+use Rattle.header.specs.Calls.{CallsShow, CallsShowPlain}
 
--- what the calls find under n in the table is the entry of the record r, and shows it
-pub record CallsShow (h : Bytes) (v : Version) (t : List ℕ) (n : ℕ) (r : Record) : Type 0 where
-  pub entry : Entry
-  pub found : entryAt h t n ≡ some entry
-  pub line : Bytes
-  pub read : readRecord v line ≡ ok r
-  pub shows : Shows limits h v line entry r
-
--- the same for an entry of a kind without an ID, which shows these bytes
-pub record CallsShowPlain (h : Bytes) (v : Version) (t : List ℕ) (n kind : ℕ) (x : Bytes) : Type 0 where
-  pub entry : Entry
-  pub found : entryAt h t n ≡ some entry
-  pub shows : ShowsPlain limits h v kind x entry
-
-stands-at : (size : ℕ) (es : List Entry) (n : ℕ) {e : Entry} → All (Stands limits size) es → nthEntry es n ≡ some e → Stands limits size e
+stands-at : (size : ℕ) (es : List Entry) (n : ℕ) {e : Entry} → All (Stands limits size) es → nth es n ≡ some e → Stands limits size e
 stands-at size [] n a h = none-not h
 stands-at size (x ∷ es) ℕ.zero a h = subst (Stands limits size) (some-is h) (a .0)
 stands-at size (x ∷ es) (suc n) a h = stands-at size es n (a .1) h
@@ -53,21 +35,21 @@ module _ {imposed : Option Version} {h : Bytes} {t : List ℕ} {r : ReadAnswer} 
   entries = readInto limits imposed t h .entries
 
   -- accepted or refused: entry n of the reading is what the calls find under n
-  pub call-finds : (n : ℕ) {e : Entry} → nthEntry entries n ≡ some e → entryAt h t′ n ≡ some e
+  pub call-finds : (n : ℕ) {e : Entry} → nth entries n ≡ some e → entryAt h t′ n ≡ some e
   call-finds n {e} a = elim (test (leb (length h) (limits .header))) [
     | pass l ↦
         let s = stands-at (length h) entries n (reading-stands limits h imposed (room t)) a in
         subst (λ (x : List ℕ). entryAt h x n ≡ some e) (sym (call .table))
         (entry-stored t entries n (reading-fits limits imposed (room t) h) a h (storable limits first-packed (leb-true (length h) (limits .header) l) e s) (s .formed))
-    | fail l ↦ none-not (subst (λ (x : Reading). nthEntry (x .entries) n ≡ some e) (long-keeps limits imposed (room t) h (leb-false (length h) (limits .header) l)) a)
+    | fail l ↦ none-not (subst (λ (x : Reading). nth (x .entries) n ≡ some e) (long-keeps limits imposed (room t) h (leb-false (length h) (limits .header) l)) a)
   ]
 
   -- an accepted header: its lines and samples, number by number
   module _ (sized : SizedOption imposed) {v : Version} {rs : List Record} {c : Columns} (a : Accepted v rs c (readInto limits imposed t h)) where
-    plain : {n kind : ℕ} {x : Bytes} → ShownPlain limits h v entries n kind x → CallsShowPlain h v t′ n kind x
+    plain : {n kind : ℕ} {x : Bytes} → ShownPlain h entries n kind x → CallsShowPlain h v t′ n kind x
     plain {n} s = record { entry = s .entry; found = call-finds n (s .is); shows = s .shows }
 
-    pub record-called : (i : ℕ) {x : Record} → recordAt rs i ≡ some x → CallsShow h v t′ (suc i) x
+    pub record-called : (i : ℕ) {x : Record} → nth rs i ≡ some x → CallsShow h v t′ (suc i) x
     record-called i e =
         let s = entry-shows limits imposed sized (room t) h a i e in
         record { entry = s .entry; found = call-finds (suc i) (s .is); line = s .line; read = s .read; shows = s .shows }
@@ -78,5 +60,5 @@ module _ {imposed : Option Version} {h : Bytes} {t : List ℕ} {r : ReadAnswer} 
     pub columns-called : CallsShowPlain h v t′ (suc (length rs)) columnsKind (traced limits imposed sized (room t) h a .line)
     columns-called = plain (column-shows limits imposed sized (room t) h a)
 
-    pub sample-called : (j : ℕ) {x : Bytes} → nameAt (c .samples) j ≡ some x → CallsShowPlain h v t′ (suc (length rs) + suc j) sampleKind x
+    pub sample-called : (j : ℕ) {x : Bytes} → nth (c .samples) j ≡ some x → CallsShowPlain h v t′ (suc (length rs) + suc j) sampleKind x
     sample-called j e = plain (sample-shows limits imposed sized (room t) h a j e)

@@ -10,30 +10,29 @@ use lib.ListN.{length, drop, length-append, length-take, length-drop}
 use borrow.Author.Tests.{eq-eqb, ne-eqb}
 use mir.Syntax.{w64}
 use mir.Val.{Fits}
-use Rattle.values.specs.Bytes.{Bytes, is, before, from}
+use Rattle.values.specs.Bytes.{Bytes, is, before, from, part}
 use Rattle.values.specs.Utf8.{isUtf8}
 use Rattle.values.specs.Field.{Field}
 use Rattle.values.specs.declared.string.Text.{Text}
 use Rattle.values.proofs.Tests.{not-true, not-false}
 use Rattle.values.proofs.Lists.{before-from}
-use Rattle.values.proofs.Fields.{part}
 use Rattle.rules.specs.Answer.{Answer, ok, refuse}
 use Rattle.rules.specs.Version.{Version, v4-3, since}
 use Rattle.rules.specs.Known.{kindOf, alwaysMap}
-use Rattle.rules.specs.Map.{isMeta, readFields}
+use Rattle.rules.specs.Map.{isMeta, readFields, fieldsAt}
 use Rattle.rules.specs.Record.{Record, fileformat, fields, text, readRecord}
 use Rattle.rules.specs.Entry.{Entry as RuleEntry, mapKind, fieldsStart}
-use Rattle.rules.specs.Shown.{hasId, lineIn, fieldPart, fieldsPart, linePart}
+use Rattle.rules.specs.Shown.{hasId, lineIn, nthFieldPart, recordFieldPart, entryFieldPart}
 use Rattle.rules.proofs.Firsts.{on-ok}
 use Rattle.rules.proofs.Texts.{Scanned, record-scanned}
-use Rattle.records.specs.Keys.{bytesOf, keyKind}
-use Rattle.records.specs.Records.{keyIn, RecordIs, RecordAre}
+use Rattle.records.specs.Keys.{bytesOf, kindBy}
+use Rattle.records.specs.Records.{keyIn, RecordIs, ParsesRecord}
 use Rattle.records.specs.declared.file_format.FileFormat.{FileFormat}
-use Rattle.records.specs.declared.key.Key.{Key}
+use Rattle.records.specs.declared.record.MapRecord.{MapRecord}
 use Rattle.records.specs.declared.refusal.Refusal.{Refusal}
 use Rattle.records.specs.declared.record.RecordRead.{RecordRead}
 use Rattle.records.specs.declared.record.RecordRead.the-variants as read
-use Rattle.records.proofs.Keys.{key-kind}
+use Rattle.records.proofs.Keys.{kind-by-case}
 use Rattle.entries.specs.declared.shown.Shown.{Shown}
 use Rattle.entries.specs.declared.shown.Shown.the-variants.{Part, Refused}
 use Rattle.entries.specs.declared.shown.EntryRead.{EntryRead}
@@ -41,27 +40,27 @@ use Rattle.entries.specs.declared.shown.EntryRead.the-variants.{Entry, Missing}
 use Rattle.entries.specs.declared.entry.Entry.{Entry as CodeEntry}
 use Rattle.entries.specs.Values.{entryOf}
 use Rattle.entries.specs.Tables.{entryAt, shownField}
-use Rattle.entries.specs.Shown.{shownAs, entryMeant, fieldsAt, Inside, movedBy}
-use Rattle.entries.proofs.Calls.{found-inside, refused-inside}
+use Rattle.entries.specs.Shown.{answered, orRefused, shownAs, entryMeant, Inside, movedBy}
+use Rattle.entries.proofs.Calls.{found-inside, refused-inside, answer-says}
 use Rattle.entries.proofs.Fields.{moved-part, nth-read}
 use Rattle.header.specs.Fields.{fieldIn, FieldAt}
 
 -- A line
 
 module _ (v : Version) (l : Bytes) (kind i : ℕ) {u : Bool} (a : u ≡ isUtf8 l) where
-  line-by : {q : Bool} → isUtf8 l ≡ q → fieldIn v l kind i ≡ elim q [ true ↦ fieldsPart 0 kind (readRecord v l) i | false ↦ none ]
-  line-by e = ap (λ (q : Bool). elim q [ true ↦ fieldsPart 0 kind (readRecord v l) i | false ↦ none ]) e
+  line-by : {q : Bool} → isUtf8 l ≡ q → fieldIn v l kind i ≡ elim q [ true ↦ recordFieldPart 0 kind (readRecord v l) i | false ↦ none ]
+  line-by e = ap (λ (q : Bool). elim q [ true ↦ recordFieldPart 0 kind (readRecord v l) i | false ↦ none ]) e
 
   pub line-not-utf8 : not u ≡ true → Refused ≡ shownAs (fieldIn v l kind i)
   line-not-utf8 e = sym (ap shownAs (line-by (sym a ∙ not-true u e)))
 
-  module _ (on : not u ≡ false) {x : RecordRead} (b : RecordAre v l x) where
-    read-as : {r : Answer Record} → readRecord v l ≡ r → fieldIn v l kind i ≡ fieldsPart 0 kind r i
-    read-as e = line-by (sym a ∙ not-false u on) ∙ ap (λ (r : Answer Record). fieldsPart 0 kind r i) e
+  module _ (on : not u ≡ false) {x : RecordRead} (b : ParsesRecord v l x) where
+    read-as : {r : Answer Record} → readRecord v l ≡ r → fieldIn v l kind i ≡ recordFieldPart 0 kind r i
+    read-as e = line-by (sym a ∙ not-false u on) ∙ ap (λ (r : Answer Record). recordFieldPart 0 kind r i) e
 
     map-as : {k : Bytes} {fs : List Field} → readRecord v l ≡ ok (fields k fs) → {q : Bool} → eqb (mapKind (kindOf k)) kind ≡ q
-        → fieldIn v l kind i ≡ elim q [ true ↦ fieldPart (0 + fieldsStart k) fs i | false ↦ none ]
-    map-as {k} {fs} e f = read-as e ∙ ap (λ (q : Bool). elim q [ true ↦ fieldPart (0 + fieldsStart k) fs i | false ↦ none ]) f
+        → fieldIn v l kind i ≡ elim q [ true ↦ nthFieldPart (0 + fieldsStart k) fs i | false ↦ none ]
+    map-as {k} {fs} e f = read-as e ∙ ap (λ (q : Bool). elim q [ true ↦ nthFieldPart (0 + fieldsStart k) fs i | false ↦ none ]) f
 
     pub line-format : {w : FileFormat} → x ≡ read.FileFormat w → Refused ≡ shownAs (fieldIn v l kind i)
     line-format e = sym (ap shownAs (read-as (subst (RecordIs v l) e (b .is))))
@@ -72,11 +71,11 @@ module _ (v : Version) (l : Bytes) (kind i : ℕ) {u : Bool} (a : u ≡ isUtf8 l
     pub line-refused : {y : Refusal} → x ≡ read.Refused y → Refused ≡ shownAs (fieldIn v l kind i)
     line-refused e = sym (ap shownAs (read-as (subst (RecordIs v l) e (b .is))))
 
-    module _ {key : Key} {at : ℕ} {t : Text} {g : ℕ} (e : x ≡ read.Map key at t g) where
-      told : RecordIs v l (read.Map key at t g)
+    module _ {y : MapRecord} (e : x ≡ read.Map y) where
+      told : RecordIs v l (read.Map y)
       told = subst (RecordIs v l) e (b .is)
 
-      pub value-fits : length l * 1 < 2 ^ 63 → Fits w64 (at + 1)
+      pub value-fits : length l * 1 < 2 ^ 63 → Fits w64 (y .value + 1)
       value-fits p =
           let f = ap length (before-from (is 61) (drop 2 l)) in
           let n = length-append (before (is 61) (drop 2 l)) (from (is 61) (drop 2 l)) in
@@ -84,22 +83,22 @@ module _ (v : Version) (l : Bytes) (kind i : ℕ) {u : Bool} (a : u ≡ isUtf8 l
           let s = told .2 in
           record { fits = omega arith }
 
-      module _ {k : ℕ} (c : k ≡ keyKind key) where
+      module _ {k : ℕ} (c : k ≡ mapKind (kindBy (y .key))) where
         kind-is : mapKind (kindOf (keyIn l)) ≡ k
-        kind-is = ap mapKind (told .1 .kind) ∙ key-kind key ∙ sym c
+        kind-is = ap mapKind (told .1 .kind ∙ kind-by-case (y .key)) ∙ sym c
 
         pub line-other-kind : (k ≡ kind → ⊥) → Refused ≡ shownAs (fieldIn v l kind i)
         line-other-kind n = sym (ap shownAs (map-as (told .3) {q = false} (rw kind-is (ne-eqb k kind n))))
 
-        pub line-field : k ≡ kind → {m : Bool} → m ≡ isMeta v (bytesOf key) → {r : Shown} → r ≡ shownAs (fieldPart (at + 1) (fieldsAt m l (at + 1)) i)
+        pub line-field : k ≡ kind → {m : Bool} → m ≡ isMeta v (bytesOf (y .key)) → {r : Shown} → answered r ≡ orRefused (nthFieldPart (y .value + 1) (fieldsAt m l (y .value + 1)) i)
             → r ≡ shownAs (fieldIn v l kind i)
         line-field q {m} d f =
             let s = on-ok (Scanned v l) (record-scanned v l) (told .3) in
-            let h : at + 1 ≡ fieldsStart (keyIn l) = let s = told .2 in omega arith in
+            let h : y .value + 1 ≡ fieldsStart (keyIn l) = let s = told .2 in omega arith in
             let z : 0 + fieldsStart (keyIn l) ≡ fieldsStart (keyIn l) = omega arith in
             let w : m ≡ isMeta v (keyIn l) = d ∙ ap (λ (b : Bool). b && since v4-3 v) (sym (told .1 .meta)) in
-            let y : readFields m (alwaysMap (keyIn l)) (drop (at + 1) l) ≡ (told .0, 0) = rw (w, h) s in
-            nth-read m l (at + 1) i f (alwaysMap (keyIn l)) y ∙ sym (ap shownAs (map-as (told .3) {q = true} (rw kind-is (eq-eqb k kind q))) ∙ rw (z, ← h))
+            let z′ : readFields m (alwaysMap (keyIn l)) (drop (y .value + 1) l) ≡ (told .0, 0) = rw (w, h) s in
+            nth-read m l (y .value + 1) i f (alwaysMap (keyIn l)) z′ ∙ sym (ap shownAs (map-as (told .3) {q = true} (rw kind-is (eq-eqb k kind q))) ∙ rw (z, ← h))
 
 pub ruleset line-fields = (line-not-utf8, line-format, line-text, line-refused, value-fits, line-other-kind, line-field, refused-inside)
 
@@ -141,14 +140,14 @@ pub ruleset parts = (part-refused, part-shown, start-fits, end-fits)
 -- An entry
 
 -- a part of the line, moved to where the line stands
-fields-moved : (start kind : ℕ) (a : Answer Record) (i : ℕ) → shownAs (fieldsPart start kind a i) ≡ movedBy start (shownAs (fieldsPart 0 kind a i))
+fields-moved : (start kind : ℕ) (a : Answer Record) (i : ℕ) → shownAs (recordFieldPart start kind a i) ≡ movedBy start (shownAs (recordFieldPart 0 kind a i))
 fields-moved start kind (refuse n) i = refl
 fields-moved start kind (ok (fileformat v)) i = refl
 fields-moved start kind (ok (text k t)) i = refl
 fields-moved start kind (ok (fields k fs)) i = by-kind (eqb (mapKind (kindOf k)) kind)
   where
-    by-kind : (q : Bool) → shownAs (elim q [ true ↦ fieldPart (start + fieldsStart k) fs i | false ↦ none ])
-        ≡ movedBy start (shownAs (elim q [ true ↦ fieldPart (0 + fieldsStart k) fs i | false ↦ none ]))
+    by-kind : (q : Bool) → shownAs (elim q [ true ↦ nthFieldPart (start + fieldsStart k) fs i | false ↦ none ])
+        ≡ movedBy start (shownAs (elim q [ true ↦ nthFieldPart (0 + fieldsStart k) fs i | false ↦ none ]))
     by-kind true = let e : 0 + fieldsStart k ≡ fieldsStart k = omega arith in rw e (moved-part start (fieldsStart k) fs i)
     by-kind false = refl
 
@@ -157,37 +156,37 @@ module _ (h : Bytes) (v : Version) (i : ℕ) (e : RuleEntry) where
   abbrev l : Bytes
   l = lineIn h e
 
-  line-by-kind : {q : Bool} → hasId (e .kind) ≡ q → linePart h v i (some e) ≡ elim (q && isUtf8 l) [ true ↦ fieldsPart (e .start) (e .kind) (readRecord v l) i | false ↦ none ]
-  line-by-kind f = ap (λ (q : Bool). elim (q && isUtf8 l) [ true ↦ fieldsPart (e .start) (e .kind) (readRecord v l) i | false ↦ none ]) f
+  line-by-kind : {q : Bool} → hasId (e .kind) ≡ q → entryFieldPart h v i (some e) ≡ elim (q && isUtf8 l) [ true ↦ recordFieldPart (e .start) (e .kind) (readRecord v l) i | false ↦ none ]
+  line-by-kind f = ap (λ (q : Bool). elim (q && isUtf8 l) [ true ↦ recordFieldPart (e .start) (e .kind) (readRecord v l) i | false ↦ none ]) f
 
-  line-unfit : hasId (e .kind) ≡ false → Refused ≡ shownAs (linePart h v i (some e))
+  line-unfit : hasId (e .kind) ≡ false → Refused ≡ shownAs (entryFieldPart h v i (some e))
   line-unfit f = sym (ap shownAs (line-by-kind f))
 
-  line-moved : hasId (e .kind) ≡ true → shownAs (linePart h v i (some e)) ≡ movedBy (e .start) (shownAs (fieldIn v l (e .kind) i))
+  line-moved : hasId (e .kind) ≡ true → shownAs (entryFieldPart h v i (some e)) ≡ movedBy (e .start) (shownAs (fieldIn v l (e .kind) i))
   line-moved f = ap shownAs (line-by-kind f) ∙ by-text (isUtf8 l)
     where
-      by-text : (q : Bool) → shownAs (elim q [ true ↦ fieldsPart (e .start) (e .kind) (readRecord v l) i | false ↦ none ])
-          ≡ movedBy (e .start) (shownAs (elim q [ true ↦ fieldsPart 0 (e .kind) (readRecord v l) i | false ↦ none ]))
+      by-text : (q : Bool) → shownAs (elim q [ true ↦ recordFieldPart (e .start) (e .kind) (readRecord v l) i | false ↦ none ])
+          ≡ movedBy (e .start) (shownAs (elim q [ true ↦ recordFieldPart 0 (e .kind) (readRecord v l) i | false ↦ none ]))
       by-text true = fields-moved (e .start) (e .kind) (readRecord v l) i
       by-text false = refl
 
 module _ (h : Bytes) (table : List ℕ) (n : ℕ) (v : Version) (i : ℕ) {r : EntryRead} (a : entryMeant r ≡ entryAt h table n) where
-  pub field-unshown : r ≡ Missing → Refused ≡ shownAs (shownField h table n v i)
-  field-unshown e = ap (λ (x : Option RuleEntry). shownAs (linePart h v i x)) (sym (ap entryMeant e) ∙ a)
+  pub field-unshown : r ≡ Missing → answered Refused ≡ orRefused (shownField h table n v i)
+  field-unshown e = ap (λ (x : Option RuleEntry). orRefused (entryFieldPart h v i x)) (sym (ap entryMeant e) ∙ a)
 
   module _ {x : CodeEntry} (b : r ≡ Entry x) {q : Bool} (d : q ≡ hasId (x .kind)) where
-    shown-is : shownAs (linePart h v i (some (entryOf x))) ≡ shownAs (shownField h table n v i)
-    shown-is = ap (λ (y : Option RuleEntry). shownAs (linePart h v i y)) (sym (ap entryMeant b) ∙ a)
+    shown-is : shownAs (entryFieldPart h v i (some (entryOf x))) ≡ shownAs (shownField h table n v i)
+    shown-is = ap (λ (y : Option RuleEntry). shownAs (entryFieldPart h v i y)) (sym (ap entryMeant b) ∙ a)
 
-    pub field-not-due : not q ≡ true → Refused ≡ shownAs (shownField h table n v i)
-    field-not-due e = line-unfit h v i (entryOf x) (sym d ∙ not-true q e) ∙ shown-is
+    pub field-not-due : not q ≡ true → answered Refused ≡ orRefused (shownField h table n v i)
+    field-not-due e = answer-says (shownField h table n v i) (line-unfit h v i (entryOf x) (sym d ∙ not-true q e) ∙ shown-is)
 
     module _ (on : not q ≡ false) {y : Shown} (o : FieldAt v h (x .start) (x .start + x .length) (x .kind) i y) where
-      pub field-shown : y ≡ shownAs (shownField h table n v i)
+      pub field-shown : answered y ≡ orRefused (shownField h table n v i)
       unfolding lineIn
       field-shown =
           let z : x .start + x .length - x .start ≡ x .length = omega arith in
-          o .shown ∙ rw z (sym (line-moved h v i (entryOf x) (sym d ∙ not-false q on)) ∙ shown-is)
+          answer-says (shownField h table n v i) (o .shown ∙ rw z (sym (line-moved h v i (entryOf x) (sym d ∙ not-false q on)) ∙ shown-is))
 
       pub field-inside : Inside (length h) y
       field-inside = let z = found-inside h table n a b in o .inside (omega arith)

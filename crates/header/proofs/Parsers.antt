@@ -8,11 +8,10 @@ use mathlib.Core.Option.{Option, none}
 use lib.Dec.{ltb}
 use lib.ListN.{length, drop, length-append}
 use borrow.Author.Tests.{le-leb, lt-leb, ltb-true, ltb-false, le-ltb}
-use Rattle.values.specs.Bytes.{Bytes, LF, is, any}
+use Rattle.values.specs.Bytes.{Bytes, LF, is, any, part}
 use Rattle.values.specs.Utf8.{isAscii}
 use Rattle.values.proofs.Ascii.{ascii-utf8, ascii-part}
 use Rattle.values.proofs.Tests.{not-true, not-false}
-use Rattle.values.proofs.Fields.{part}
 use Rattle.rules.specs.Answer.{Answer, ok, refuse}
 use Rattle.rules.specs.Sizes.{Limits}
 use Rattle.rules.specs.Version.{Version}
@@ -20,11 +19,11 @@ use Rattle.rules.specs.Lines.{pieces, lineOf}
 use Rattle.rules.specs.Record.{Record}
 use Rattle.rules.specs.Entry.{Entry, formatKind, plainEntry, columnEntries}
 use Rattle.rules.specs.Reading.{State, empty, ready, done, step, Reading, stop, following, atEnd, run, reading}
-use Rattle.rules.proofs.Alls.{All, all-append, all-left}
+use Rattle.rules.proofs.Alls.{all-append, all-left}
 use Rattle.rules.proofs.Firsts.{on-ok}
 use Rattle.rules.proofs.Pieces.{Pieces, piece-line, pieces-fine}
 use Rattle.rules.proofs.Sound.{good-snoc, Taken, step-taken, run-refused, run-full, run-more}
-use Rattle.rules.proofs.Trace.{LineAt, Row, Rows, first-line}
+use Rattle.rules.proofs.Trace.{first-line}
 use Rattle.rules.proofs.Stands.{Stands, reading-stands}
 use Rattle.records.specs.Refusals.{number}
 use Rattle.records.proofs.Refusals.{number-suc}
@@ -34,7 +33,7 @@ use Rattle.records.specs.declared.refusal.Refusal.the-variants.{TableFull, Empt
 use Rattle.entries.specs.declared.entry.Entry.{Entry as CodeEntry}
 use Rattle.entries.specs.Values.{entryOf}
 use Rattle.entries.specs.Tables.{room, stored, put, firstEntries, entriesIn}
-use Rattle.entries.proofs.Stored.{Packed, stored-room, stored-length, stored-none, stored-more, entries-stored, put-fits}
+use Rattle.entries.proofs.Stored.{stored-room, stored-length, stored-none, stored-more, entries-stored, put-fits}
 use Rattle.lines.specs.Lines.{LineIs}
 use Rattle.lines.specs.declared.line.Line.{Line}
 use Rattle.lines.proofs.Lines.{pieces-past, pieces-there}
@@ -44,7 +43,7 @@ use Rattle.columns.proofs.Stores.{columns-put}
 use Rattle.ids.specs.Marks.{Marked}
 use Rattle.ids.proofs.Markings.{unmarked}
 use Rattle.header.specs.Verdicts.{PhaseIs, ReadyRows, Tabled, Says, New, Ended, Begun, LineJudged}
-use Rattle.header.specs.Parsers.{told, tells, readInto, refusedAs, ReadCall, Kept, LineHere, Stops, PartialIs, Bounds, Keeps, Parses, Finishes}
+use Rattle.header.specs.Parsers.{answerMeans, readingMeans, readInto, refusedAs, ReadCall, Kept, LineHere, Stops, PartialIs, Bounds, Keeps, Parses, Finishes}
 use Rattle.header.specs.declared.verdict.Phase.{Phase}
 use Rattle.header.specs.declared.verdict.Phase.the-variants as phase
 use Rattle.header.specs.declared.verdict.Verdict.{Verdict}
@@ -54,6 +53,8 @@ use Rattle.header.specs.declared.parser.ReadAnswer.{ReadAnswer}
 use Rattle.header.specs.declared.parser.Parser.{Parser}
 use Rattle.header.specs.declared.parser.Partial.{Partial}
 use Rattle.header.specs.declared.parser.Partial.the-variants as partial
+use Rattle.rules.specs.Claims.{All, LineAt, Row, Rows}
+use Rattle.entries.specs.Words.{Packed}
 
 following-append : (es fs : List Entry) (r : Reading) → following es (following fs r) ≡ following (es ++ fs) r
 following-append es fs r = ap (λ (x : List Entry). record { number = r .number; line = r .line; start = r .start; entries = x; state = r .state }) (sym (append-assoc es fs (r .entries)))
@@ -321,7 +322,7 @@ module _ (p : Parser) where
 
   -- the answer is what the rules say at the end of a state of this phase
   finished : {x : Phase} → p .phase ≡ x → {r : ReadAnswer}
-      → ((es : List Entry) → length es ≡ p .count → (s : State) → PhaseIs x s → (y : Reading) → y ≡ following es (atEnd (p .line) (p .at) s) → told r ≡ tells y) → Finishes p r
+      → ((es : List Entry) → length es ≡ p .count → (s : State) → PhaseIs x s → (y : Reading) → y ≡ following es (atEnd (p .line) (p .at) s) → answerMeans r ≡ readingMeans y) → Finishes p r
   finished e go = record {
     is = λ lim imposed h t₀ ms t k f.
         go (k .es) (k .counted) (k .state) (subst (λ (x : Phase). PhaseIs x (k .state)) e (k .phase-is)) (readInto lim imposed t₀ h) (at-end lim imposed h t₀ ms t k f);
@@ -331,7 +332,7 @@ module _ (p : Parser) where
   finish-empty e = finished e go
     where
       go : (es : List Entry) → length es ≡ p .count → (s : State) → PhaseIs phase.Empty s → (x : Reading) → x ≡ following es (atEnd (p .line) (p .at) s)
-          → told (record { outcome = outcome.Refused Empty; line = 0; start = 0; entries = p .count }) ≡ tells x
+          → answerMeans (record { outcome = outcome.Refused Empty; line = 0; start = 0; entries = p .count }) ≡ readingMeans x
       go es c empty q x w = rw (w, all-entries es c)
       go es c (ready v rs) q x w = absurd q
       go es c (done v rs d) q x w = absurd q
@@ -340,7 +341,7 @@ module _ (p : Parser) where
   finish-ready {f} e = finished e go
     where
       go : (es : List Entry) → length es ≡ p .count → (s : State) → PhaseIs (phase.Ready f) s → (x : Reading) → x ≡ following es (atEnd (p .line) (p .at) s)
-          → told (record { outcome = outcome.Refused MissingHeader; line = p .line; start = p .at; entries = p .count }) ≡ tells x
+          → answerMeans (record { outcome = outcome.Refused MissingHeader; line = p .line; start = p .at; entries = p .count }) ≡ readingMeans x
       go es c empty q x w = absurd q
       go es c (ready v rs) q x w = rw (w, all-entries es c)
       go es c (done v rs d) q x w = absurd q
@@ -349,7 +350,7 @@ module _ (p : Parser) where
   finish-done {f} {n} e = finished e go
     where
       go : (es : List Entry) → length es ≡ p .count → (s : State) → PhaseIs (phase.Done f n) s → (x : Reading) → x ≡ following es (atEnd (p .line) (p .at) s)
-          → told (record { outcome = outcome.Accepted f n; line = p .line; start = p .at; entries = p .count }) ≡ tells x
+          → answerMeans (record { outcome = outcome.Accepted f n; line = p .line; start = p .at; entries = p .count }) ≡ readingMeans x
       go es c empty q x w = absurd q
       go es c (ready v rs) q x w = absurd q
       go es c (done v rs d) q x w = rw (w, all-entries es c, q .0, q .1)
@@ -431,12 +432,12 @@ module _ (lim : Limits) (imposed : Option Version) (h t₀ : List ℕ) where
 
       pub read-stop : {x : Refusal} → r ≡ partial.Refused x → {a : ReadAnswer} → a ≡ refusedAs x (p .line + 1) (p .at) (p .count) → ReadCall lim imposed h t₀ a t′
       read-stop {x} i b = let s = parsed i in record {
-        answer = ap told b ∙ refused-told (s .es) (s .counted) (s .state) (s .whole);
+        answer = ap answerMeans b ∙ refused-told (s .es) (s .counted) (s .state) (s .whole);
         table = s .stored-are ∙ ap (stored t₀ 0) (sym (ap (λ (y : Reading). y .entries) (s .whole) ∙ append-nil (s .es)));
       }
         where
           refused-told : (es : List Entry) → length es ≡ p .count → (s : State) {y : Reading} → y ≡ following es (stop (number x) (suc (p .line)) (p .at) s)
-              → told (refusedAs x (p .line + 1) (p .at) (p .count)) ≡ tells y
+              → answerMeans (refusedAs x (p .line + 1) (p .at) (p .count)) ≡ readingMeans y
           refused-told es c s w =
               let i : suc (p .line) ≡ p .line + 1 = omega arith in
               let n = number-suc x in

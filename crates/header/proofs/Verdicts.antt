@@ -8,13 +8,12 @@ use mathlib.Core.Option.{Option, none, some}
 use lib.ListN.{length, take, drop, length-take, length-drop}
 use lib.Seq.{take-append-add}
 use borrow.Author.Tests.{le-leb, lt-leb}
-use Rattle.values.specs.Bytes.{Bytes, LF, ascii, is, any, starts}
+use Rattle.values.specs.Bytes.{Bytes, LF, ascii, is, any, starts, part}
 use Rattle.values.specs.Utf8.{isUtf8}
 use Rattle.values.specs.Field.{Field}
 use Rattle.values.specs.declared.string.Text.{Text}
 use Rattle.values.proofs.Tests.{not-true, not-false}
 use Rattle.values.proofs.Lists.{some-is}
-use Rattle.values.proofs.Fields.{part}
 use Rattle.rules.specs.Answer.{Answer, ok, refuse, _>>=_, judged}
 use Rattle.rules.specs.Sizes.{Limits}
 use Rattle.rules.specs.Version.{Version, v4-5, inForce}
@@ -26,24 +25,24 @@ use Rattle.rules.specs.Entry.{Entry, mapKind, textKind, plainEntry, mapEntry, f
 use Rattle.rules.specs.Reading.{keyOf, clash, State, empty, ready, done, begin, enter, finish, isDone, stepText, step}
 use Rattle.rules.specs.House.{writeRecord}
 use Rattle.rules.proofs.Firsts.{on-ok, judged-zero}
-use Rattle.rules.proofs.Versions.{Sized}
 use Rattle.rules.proofs.Records.{GoodRecord, Entered, record-good}
 use Rattle.rules.proofs.Texts.{LineOf, record-in}
 use Rattle.rules.proofs.Shows.{Both, AnyAt, named-text, line-fields}
 use Rattle.records.specs.Formats.{versionOf}
 use Rattle.records.specs.Refusals.{number}
-use Rattle.records.specs.Keys.{keyKind, Named}
-use Rattle.records.specs.Maps.{slotted, textIn}
-use Rattle.records.specs.Records.{keyIn, valueStart, RecordIs, RecordAre}
+use Rattle.records.specs.Keys.{kindBy, Named}
+use Rattle.records.specs.Fields.{textIn}
+use Rattle.records.specs.Maps.{slotted}
+use Rattle.records.specs.Records.{keyIn, valueStart, RecordIs, ParsesRecord}
 use Rattle.records.specs.declared.file_format.FileFormat.{FileFormat}
-use Rattle.records.specs.declared.key.Key.{Key}
 use Rattle.records.specs.declared.refusal.Refusal.{Refusal}
 use Rattle.records.specs.declared.refusal.Refusal.the-variants.{ExpectedEof, LineTooLong, InvalidUtf8, MissingFileFormat, UnexpectedFileFormat, DuplicateId, MixedValues, DuplicateOtherId, InvalidHeader, DuplicateSampleName}
 use Rattle.records.specs.declared.map.Slot.the-variants as slot
+use Rattle.records.specs.declared.record.MapRecord.{MapRecord}
 use Rattle.records.specs.declared.record.RecordRead.{RecordRead}
 use Rattle.records.specs.declared.record.RecordRead.the-variants as read
 use Rattle.records.proofs.Determined.{filled-one}
-use Rattle.records.proofs.Keys.{key-kind}
+use Rattle.records.proofs.Keys.{kind-by-case}
 use Rattle.columns.specs.HeaderLines.{HeaderRead}
 use Rattle.columns.specs.declared.header_line.ColumnsRead.{ColumnsRead}
 use Rattle.columns.specs.declared.header_line.ColumnsRead.the-variants as columns
@@ -64,6 +63,7 @@ use Rattle.header.specs.declared.verdict.Phase.{Phase}
 use Rattle.header.specs.declared.verdict.Phase.the-variants as phase
 use Rattle.header.specs.declared.verdict.Verdict.{Verdict}
 use Rattle.header.specs.declared.verdict.Verdict.the-variants as verdict
+use Rattle.rules.specs.Claims.{Sized, SizedOption}
 
 -- The version in force
 
@@ -78,9 +78,14 @@ sizes v a b = record { major = omega arith; minor = omega arith }
 
 pub ruleset forces = (force-none, force-some, sizes)
 
+-- what the theorems ask of a version that is imposed holds of every one that the code can be given: its parts have 32 bits
+pub imposed-sized : (i : FileFormatOption) → ((f : FileFormat) → i ≡ option.Some f → (f .major < 4294967296) × (f .minor < 4294967296)) → SizedOption (imposedOf i)
+imposed-sized option.None parts = tt
+imposed-sized (option.Some f) parts = let p = parts f refl in sizes f (p .0) (p .1)
+
 -- The first line
 
-module _ (imposed : Option Version) (l : Bytes) (x : RecordRead) (a : RecordAre v4-5 l x) where
+module _ (imposed : Option Version) (l : Bytes) (x : RecordRead) (a : ParsesRecord v4-5 l x) where
   first-is : {r : Record} → readRecord v4-5 l ≡ ok r → (start : ℕ) → stepText imposed start empty l ≡ begin imposed start l r
   unfolding stepText
   first-is e start = rw e
@@ -89,7 +94,7 @@ module _ (imposed : Option Version) (l : Bytes) (x : RecordRead) (a : RecordAre 
   unfolding recordEntry
   first-format e f g s = record { is = λ start. record { state = refl; sized = s; begins = first-is (subst (RecordIs v4-5 l) e (a .is)) start ∙ rw (← g) } }
 
-  pub first-map : {k : Key} {at : ℕ} {t : Text} {n : ℕ} → x ≡ read.Map k at t n → FirstJudged imposed l (verdict.Refused MissingFileFormat)
+  pub first-map : {m : MapRecord} → x ≡ read.Map m → FirstJudged imposed l (verdict.Refused MissingFileFormat)
   first-map e = record { is = λ start. first-is (subst (RecordIs v4-5 l) e (a .is) .3) start }
 
   pub first-text : {at : ℕ} → x ≡ read.Text at → FirstJudged imposed l (verdict.Refused MissingFileFormat)
@@ -228,32 +233,32 @@ module _ (v : Version) (l k : Bytes) (fs : List Field) (line : l ≡ writeRecord
       let m : length name ≡ id .end - id .start = ap length n ∙ length-take (id .end - id .start) (drop (id .start) l) ∙ omega (arith, i .0, i .1) in
       rw (x .is, ek, m) (ap (madeEntry (mapKind (kindOf k)) start (length l) id (id .end - id .start)) (sym (x .tagged)))
 
-module _ (h : Bytes) (es : List Entry) (ms : Bytes) (start end : ℕ) (key : Key) (value : ℕ) (id : Text) (tag : ℕ) {l : Bytes} (el : l ≡ part h start end)
-    {prefix : Bytes} (a : prefix ≡ take (value - 0) (drop 0 l)) {name : Bytes} (b : name ≡ textIn l id) {kind : ℕ} (d : kind ≡ keyKind key) where
-  pub map-judged : (r : Verdict) {ms′ : Bytes} → IdJudged h es ms prefix (madeEntry kind start (length l) id (length name) tag) r ms′ → MapJudged h es ms start end key value id tag r ms′
+module _ (h : Bytes) (es : List Entry) (ms : Bytes) (start end : ℕ) (m : MapRecord) {l : Bytes} (el : l ≡ part h start end)
+    {prefix : Bytes} (a : prefix ≡ take (m .value - 0) (drop 0 l)) {name : Bytes} (b : name ≡ textIn l (m .id)) {kind : ℕ} (d : kind ≡ mapKind (kindBy (m .key))) where
+  pub map-judged : (r : Verdict) {ms′ : Bytes} → IdJudged h es ms prefix (madeEntry kind start (length l) (m .id) (length name) (m .tag)) r ms′ → MapJudged h es ms start end m r ms′
   map-judged r {ms′} j = record {
     marks = j .marks;
     is = λ lim l′ el′ v rs fs s named at read held.
         subst (λ (y : Bytes). Says h ms′ (enter v rs start y (fields (keyIn y) fs)) start (ready v rs) y r) (el ∙ sym el′)
-        (go lim v rs fs (subst (λ (y : Bytes). Scene lim h ms es start y (ready v rs)) (el′ ∙ sym el) s) (subst (λ (y : Bytes). Named (keyIn y) key) (el′ ∙ sym el) named)
+        (go lim v rs fs (subst (λ (y : Bytes). Scene lim h ms es start y (ready v rs)) (el′ ∙ sym el) s) (subst (λ (y : Bytes). Named (keyIn y) (m .key)) (el′ ∙ sym el) named)
         (at ∙ ap valueStart (el′ ∙ sym el)) (subst (λ (y : Bytes). readRecord v y ≡ ok (fields (keyIn y) fs)) (el′ ∙ sym el) read)
-        (subst (λ (y : Bytes). slotted (textNamed v (keyIn y) (ascii "ID") (fieldsStart (keyIn y)) fs) ≡ slot.Filled id tag) (el′ ∙ sym el) held));
+        (subst (λ (y : Bytes). slotted (textNamed v (keyIn y) (ascii "ID") (fieldsStart (keyIn y)) fs) ≡ slot.Filled (m .id) (m .tag)) (el′ ∙ sym el) held));
   }
     where
-      go : (lim : Limits) (v : Version) (rs : List Record) (fs : List Field) → Scene lim h ms es start l (ready v rs) → Named (keyIn l) key → value ≡ valueStart l
-          → readRecord v l ≡ ok (fields (keyIn l) fs) → slotted (textNamed v (keyIn l) (ascii "ID") (fieldsStart (keyIn l)) fs) ≡ slot.Filled id tag
+      go : (lim : Limits) (v : Version) (rs : List Record) (fs : List Field) → Scene lim h ms es start l (ready v rs) → Named (keyIn l) (m .key) → m .value ≡ valueStart l
+          → readRecord v l ≡ ok (fields (keyIn l) fs) → slotted (textNamed v (keyIn l) (ascii "ID") (fieldsStart (keyIn l)) fs) ≡ slot.Filled (m .id) (m .tag)
           → Says h ms′ (enter v rs start l (fields (keyIn l) fs)) start (ready v rs) l r
       go lim v rs fs s named at read held =
           let k = keyIn l in
           let g : Entered v (fields k fs) = line-good v l (fields k fs) read (s .there .utf8) (s .line) in
-          let i : value - 0 ≡ 2 + length k + 1 = omega (arith, at) in
+          let i : m .value - 0 ≡ 2 + length k + 1 = omega (arith, at) in
           j .is lim l start v rs (fields k fs) s read g
           (a ∙ ap (λ (n : ℕ). take n l) i ∙ line-prefix v l (fields k fs) read g)
-          (made-is v l k fs (on-ok (LineOf l) (record-in v l) read) id tag held (d ∙ sym (key-kind key) ∙ ap mapKind (sym (named .kind))) start b)
+          (made-is v l k fs (on-ok (LineOf l) (record-in v l) read) (m .id) (m .tag) held (d ∙ ap mapKind (sym (named .kind ∙ kind-by-case (m .key)))) start b)
 
 -- A record
 
-module _ (h : Bytes) (es : List Entry) (ms : Bytes) (start end : ℕ) {l : Bytes} (el : l ≡ part h start end) (v : Version) (x : RecordRead) (a : RecordAre v l x) where
+module _ (h : Bytes) (es : List Entry) (ms : Bytes) (start end : ℕ) {l : Bytes} (el : l ≡ part h start end) (v : Version) (x : RecordRead) (a : ParsesRecord v l x) where
   -- the line is the one that the code read
   placed : (r : Verdict) {ms′ : Bytes} → ((lim : Limits) (rs : List Record) → Scene lim h ms es start l (ready v rs) → Says h ms′ (readRecord v l >>= enter v rs start l) start (ready v rs) l r)
       → MarksKept h ms ms′ → RecordJudged h es ms v start end r ms′
@@ -272,7 +277,7 @@ module _ (h : Bytes) (es : List Entry) (ms : Bytes) (start end : ℕ) {l : Bytes
   pub record-refused : {y : Refusal} → x ≡ read.Refused y → RecordJudged h es ms v start end (verdict.Refused y) ms
   record-refused {y} e = placed (verdict.Refused y) (λ lim rs s. ap (λ (z : Answer Record). z >>= enter v rs start l) (subst (RecordIs v l) e (a .is))) (marks-same h ms)
 
-  pub record-map : {key : Key} {at : ℕ} {id : Text} {tag : ℕ} → x ≡ read.Map key at id tag → (r : Verdict) {ms′ : Bytes} → MapJudged h es ms start end key at id tag r ms′ → RecordJudged h es ms v start end r ms′
+  pub record-map : {y : MapRecord} → x ≡ read.Map y → (r : Verdict) {ms′ : Bytes} → MapJudged h es ms start end y r ms′ → RecordJudged h es ms v start end r ms′
   record-map e r {ms′} j = placed r (λ lim rs s.
       let m = subst (RecordIs v l) e (a .is) in
       subst (λ (y : Answer (State × List Entry)). Says h ms′ y start (ready v rs) l r) (sym (record-is (m .3) rs)) (j .is lim l el v rs (m .0) s (m .1) (m .2) (m .3) (m .4)))

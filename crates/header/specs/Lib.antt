@@ -1,3 +1,4 @@
 pub mod Verdicts
 pub mod Parsers
 pub mod Fields
+pub mod Calls

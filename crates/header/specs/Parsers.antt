@@ -5,9 +5,8 @@ use mathlib.Core.Bool.{Bool, true}
 use mathlib.Core.List.{List, _∷_}
 use mathlib.Core.Option.{Option, none, some}
 use lib.ListN.{length, drop}
-use Rattle.values.specs.Bytes.{Bytes}
+use Rattle.values.specs.Bytes.{Bytes, part}
 use Rattle.values.specs.Utf8.{isAscii}
-use Rattle.values.proofs.Fields.{part}
 use Rattle.rules.specs.Sizes.{Limits}
 use Rattle.rules.specs.Version.{Version}
 use Rattle.rules.specs.Lines.{pieces, lineOf}
@@ -17,7 +16,6 @@ use Rattle.records.specs.Formats.{versionOf}
 use Rattle.records.specs.Refusals.{number}
 use Rattle.records.specs.declared.refusal.Refusal.{Refusal}
 use Rattle.entries.specs.Tables.{room, stored}
-use Rattle.entries.proofs.Stored.{Packed}
 use Rattle.header.specs.Verdicts.{PhaseIs, Tabled, Says, MarksKept}
 use Rattle.header.specs.declared.verdict.Verdict.{Verdict}
 use Rattle.header.specs.declared.parser.Outcome.{Outcome}
@@ -26,10 +24,11 @@ use Rattle.header.specs.declared.parser.ReadAnswer.{ReadAnswer}
 use Rattle.header.specs.declared.parser.Parser.{Parser}
 use Rattle.header.specs.declared.parser.Partial.{Partial}
 use Rattle.header.specs.declared.parser.Partial.the-variants as partial
+use Rattle.entries.specs.Words.{Packed}
 
 -- What an answer says: document 01's number, the place, the number of entries, and of an accepted header the version in force and the number of samples
 
-pub record Told : Type 0 where
+pub record AnswerMeaning : Type 0 where
   pub number : ℕ
   pub line : ℕ
   pub start : ℕ
@@ -44,8 +43,8 @@ abbrev pub outcomeSays : Outcome → Option (Version × ℕ)
 outcomeSays (outcome.Accepted f n) = some (versionOf f, n)
 outcomeSays (outcome.Refused x) = none
 
-abbrev pub told : ReadAnswer → Told
-told a = record { number = outcomeNumber (a .outcome); line = a .line; start = a .start; entries = a .entries; accepted = outcomeSays (a .outcome) }
+abbrev pub answerMeans : ReadAnswer → AnswerMeaning
+answerMeans a = record { number = outcomeNumber (a .outcome); line = a .line; start = a .start; entries = a .entries; accepted = outcomeSays (a .outcome) }
 
 abbrev pub acceptedIn : ℕ → State → Option (Version × ℕ)
 acceptedIn zero empty = none
@@ -53,8 +52,8 @@ acceptedIn zero (ready v rs) = none
 acceptedIn zero (done v rs c) = some (v, length (c .samples))
 acceptedIn (suc n) s = none
 
-abbrev pub tells : Reading → Told
-tells r = record { number = r .number; line = r .line; start = r .start; entries = length (r .entries); accepted = acceptedIn (r .number) (r .state) }
+abbrev pub readingMeans : Reading → AnswerMeaning
+readingMeans r = record { number = r .number; line = r .line; start = r .start; entries = length (r .entries); accepted = acceptedIn (r .number) (r .state) }
 
 abbrev pub refusedAs : Refusal → ℕ → ℕ → ℕ → ReadAnswer
 refusedAs x line start entries = record { outcome = outcome.Refused x; line = line; start = start; entries = entries }
@@ -65,7 +64,7 @@ readInto lim imposed t h = reading lim imposed (room t) h
 
 -- what `read` promises of a call: the version imposed, the header and the table; the answer, and the table after it
 pub record ReadCall (lim : Limits) (imposed : Option Version) (h t : List ℕ) (r : ReadAnswer) (t′ : List ℕ) : Type 0 where
-  pub answer : told r ≡ tells (readInto lim imposed t h)
+  pub answer : answerMeans r ≡ readingMeans (readInto lim imposed t h)
   pub table : t′ ≡ stored t 0 (readInto lim imposed t h .entries)
 
 -- the rest of the header, read from here, gives the whole reading; the table holds the entries kept so far, and they are marked
@@ -111,12 +110,15 @@ pub record Bounds (h t : List ℕ) (p : Parser) : Type 0 where
   pub line : p .line < length h
 
 pub record Keeps (p : Parser) (h : Bytes) (end next : ℕ) (v : Verdict) (t : List ℕ) (r : Partial) (t′ : List ℕ) : Type 0 where
-  pub is : (lim : Limits) → Packed lim → (imposed : Option Version) (t₀ ms ms′ : List ℕ) (k : Kept lim imposed h t₀ ms t p) → LineHere h (p .at) (part h (p .at) end) next → MarksKept h ms ms′
+  pub is : (lim : Limits) → Packed lim → (imposed : Option Version) (t₀ ms ms′ : List ℕ) (k : Kept lim imposed h t₀ ms t p)
+      → LineHere h (p .at) (part h (p .at) end) next → MarksKept h ms ms′
       → Says h ms′ (step lim imposed (p .at) (k .state) (part h (p .at) end)) (p .at) (k .state) (part h (p .at) end) v → PartialIs lim imposed h t₀ p r ms′ t′
 
 -- plain: the header is known to be ASCII
 pub record Parses (lim : Limits) (imposed : Option Version) (plain : Bool) (p : Parser) (h ms t : List ℕ) (r : Partial) (ms′ t′ : List ℕ) : Type 0 where
-  pub is : Packed lim → (t₀ : List ℕ) → Kept lim imposed h t₀ ms t p → (plain ≡ true → isAscii h ≡ true) → p .at < length h → PartialIs lim imposed h t₀ p r ms′ t′
+  pub is : Packed lim → (t₀ : List ℕ) → Kept lim imposed h t₀ ms t p → (plain ≡ true → isAscii h ≡ true) → p .at < length h
+      → PartialIs lim imposed h t₀ p r ms′ t′
 
 pub record Finishes (p : Parser) (r : ReadAnswer) : Type 0 where
-  pub is : (lim : Limits) (imposed : Option Version) (h t₀ ms t : List ℕ) → Kept lim imposed h t₀ ms t p → length h ≤ p .at → told r ≡ tells (readInto lim imposed t₀ h)
+  pub is : (lim : Limits) (imposed : Option Version) (h t₀ ms t : List ℕ) → Kept lim imposed h t₀ ms t p → length h ≤ p .at → answerMeans r
+      ≡ readingMeans (readInto lim imposed t₀ h)

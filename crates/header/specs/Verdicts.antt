@@ -5,31 +5,26 @@ use mathlib.Core.Bool.{Bool, true, false}
 use mathlib.Core.List.{List, [], _∷_, _++_}
 use mathlib.Core.Option.{Option, none, some}
 use lib.ListN.{length}
-use Rattle.values.specs.Bytes.{Bytes, LF, ascii, is, any}
+use Rattle.values.specs.Bytes.{Bytes, LF, is, any, part}
 use Rattle.values.specs.Utf8.{isUtf8}
 use Rattle.values.specs.Field.{Field}
-use Rattle.values.specs.declared.string.Text.{Text}
-use Rattle.values.proofs.Fields.{part}
 use Rattle.rules.specs.Answer.{Answer, ok, refuse, _>>=_}
 use Rattle.rules.specs.Sizes.{Limits}
 use Rattle.rules.specs.Version.{Version}
 use Rattle.rules.specs.Record.{Record, fields, readRecord}
 use Rattle.rules.specs.Columns.{Columns, readColumns}
-use Rattle.rules.specs.Entry.{Entry, formatKind, plainEntry, fieldsStart, textNamed, recordEntry, columnEntries}
+use Rattle.rules.specs.Entry.{Entry, formatKind, plainEntry, fieldsStart, recordEntry, columnEntries}
 use Rattle.rules.specs.Reading.{keyOf, clash, State, empty, ready, done, enter, finish, stepText, step}
-use Rattle.rules.proofs.Alls.{All}
-use Rattle.rules.proofs.Versions.{Sized}
 use Rattle.rules.proofs.Records.{Entered}
 use Rattle.rules.proofs.Sound.{Good}
-use Rattle.rules.proofs.Trace.{LineAt, Rows}
 use Rattle.records.specs.Formats.{versionOf}
 use Rattle.records.specs.Refusals.{number}
 use Rattle.records.specs.Keys.{Named}
-use Rattle.records.specs.Maps.{slotted}
+use Rattle.records.specs.Maps.{idSlot}
 use Rattle.records.specs.Records.{keyIn, valueStart}
-use Rattle.records.specs.declared.key.Key.{Key}
 use Rattle.records.specs.declared.file_format.FileFormat.{FileFormat}
 use Rattle.records.specs.declared.map.Slot.the-variants as slot
+use Rattle.records.specs.declared.record.MapRecord.{MapRecord}
 use Rattle.entries.specs.Values.{entryOf}
 use Rattle.ids.specs.Clashes.{prefixOf}
 use Rattle.ids.specs.Marks.{Marked}
@@ -39,6 +34,7 @@ use Rattle.header.specs.declared.verdict.Phase.{Phase}
 use Rattle.header.specs.declared.verdict.Phase.the-variants as phase
 use Rattle.header.specs.declared.verdict.Verdict.{Verdict}
 use Rattle.header.specs.declared.verdict.Verdict.the-variants as verdict
+use Rattle.rules.specs.Claims.{All, Sized, LineAt, Rows}
 
 abbrev pub imposedOf : FileFormatOption → Option Version
 imposedOf option.None = none
@@ -144,14 +140,16 @@ pub record FirstJudged (imposed : Option Version) (l : Bytes) (r : Verdict) : Ty
 -- a new record, whose entry is e and whose line begins with the prefix
 pub record IdJudged (h : Bytes) (es : List Entry) (ms prefix : Bytes) (e : Entry) (r : Verdict) (ms′ : Bytes) : Type 0 where
   pub marks : MarksKept h ms ms′
-  pub is : (lim : Limits) (l : Bytes) (start : ℕ) (v : Version) (rs : List Record) (x : Record) → Scene lim h ms es start l (ready v rs) → readRecord v l ≡ ok x → Entered v x
+  pub is : (lim : Limits) (l : Bytes) (start : ℕ) (v : Version) (rs : List Record) (x : Record) → Scene lim h ms es start l (ready v rs)
+      → readRecord v l ≡ ok x → Entered v x
       → prefix ≡ prefixOf (keyOf x) → e ≡ recordEntry v start l x → Says h ms′ (enter v rs start l x) start (ready v rs) l r
 
--- a map: the case of its key, the place of its value, its ID's text and tag
-pub record MapJudged (h : Bytes) (es : List Entry) (ms : Bytes) (start end : ℕ) (key : Key) (value : ℕ) (id : Text) (tag : ℕ) (r : Verdict) (ms′ : Bytes) : Type 0 where
+-- a map that was read
+pub record MapJudged (h : Bytes) (es : List Entry) (ms : Bytes) (start end : ℕ) (m : MapRecord) (r : Verdict) (ms′ : Bytes) : Type 0 where
   pub marks : MarksKept h ms ms′
-  pub is : (lim : Limits) (l : Bytes) → l ≡ part h start end → (v : Version) (rs : List Record) (fs : List Field) → Scene lim h ms es start l (ready v rs) → Named (keyIn l) key → value ≡ valueStart l
-      → readRecord v l ≡ ok (fields (keyIn l) fs) → slotted (textNamed v (keyIn l) (ascii "ID") (fieldsStart (keyIn l)) fs) ≡ slot.Filled id tag
+  pub is : (lim : Limits) (l : Bytes) → l ≡ part h start end → (v : Version) (rs : List Record) (fs : List Field) → Scene lim h ms es start l (ready v rs)
+      → Named (keyIn l) (m .key) → m .value ≡ valueStart l
+      → readRecord v l ≡ ok (fields (keyIn l) fs) → idSlot v (keyIn l) (fieldsStart (keyIn l)) fs ≡ slot.Filled (m .id) (m .tag)
       → Says h ms′ (enter v rs start l (fields (keyIn l) fs)) start (ready v rs) l r
 
 pub record RecordJudged (h : Bytes) (es : List Entry) (ms : Bytes) (v : Version) (start end : ℕ) (r : Verdict) (ms′ : Bytes) : Type 0 where
@@ -163,21 +161,26 @@ pub record RecordJudged (h : Bytes) (es : List Entry) (ms : Bytes) (v : Version)
 abbrev pub ColumnsSay : Bytes → FileFormat → Verdict → Type 0
 ColumnsSay l f (verdict.Begin g) = ⊥
 ColumnsSay l f (verdict.Entry e) = ⊥
-ColumnsSay l f (verdict.Columns g n) = (start : ℕ) (rs : List Record) → Ended (readColumns l >>= finish (versionOf f) rs start l) start (ready (versionOf f) rs) l g n
+ColumnsSay l f (verdict.Columns g n) = (start : ℕ) (rs : List Record)
+    → Ended (readColumns l >>= finish (versionOf f) rs start l) start (ready (versionOf f) rs) l g n
 ColumnsSay l f (verdict.Refused x) = (start : ℕ) (rs : List Record) → (readColumns l >>= finish (versionOf f) rs start l) ≡ refuse (number x)
 
 pub record ColumnsJudged (l : Bytes) (f : FileFormat) (r : Verdict) : Type 0 where
   pub is : ColumnsSay l f r
 
-pub record TextJudged (h : Bytes) (es : List Entry) (ms : Bytes) (start end : ℕ) (p : Phase) (imposed : Option Version) (r : Verdict) (ms′ : Bytes) : Type 0 where
+pub record TextJudged (h : Bytes) (es : List Entry) (ms : Bytes) (start end : ℕ) (p : Phase) (imposed : Option Version) (r : Verdict) (ms′ : Bytes) :
+    Type 0 where
   pub marks : MarksKept h ms ms′
-  pub is : (lim : Limits) (l : Bytes) → l ≡ part h start end → (s : State) → PhaseIs p s → Scene lim h ms es start l s → Says h ms′ (stepText imposed start s l) start s l r
+  pub is : (lim : Limits) (l : Bytes) → l ≡ part h start end → (s : State) → PhaseIs p s → Scene lim h ms es start l s
+      → Says h ms′ (stepText imposed start s l) start s l r
 
 -- whether the line is UTF-8, where it is so in an ASCII header
 pub record Utf8Told (plain : Bool) (l : Bytes) (r : Bool) : Type 0 where
   pub is : (plain ≡ true → isUtf8 l ≡ true) → r ≡ isUtf8 l
 
 -- 1, 2 and 3 come first
-pub record LineJudged (lim : Limits) (h : Bytes) (es : List Entry) (ms : Bytes) (plain : Bool) (start end : ℕ) (p : Phase) (imposed : Option Version) (r : Verdict) (ms′ : Bytes) : Type 0 where
+pub record LineJudged (lim : Limits) (h : Bytes) (es : List Entry) (ms : Bytes) (plain : Bool) (start end : ℕ) (p : Phase) (imposed : Option Version)
+    (r : Verdict) (ms′ : Bytes) : Type 0 where
   pub marks : MarksKept h ms ms′
-  pub is : (l : Bytes) → l ≡ part h start end → (s : State) → PhaseIs p s → Unchecked lim h ms plain es start l s → Says h ms′ (step lim imposed start s l) start s l r
+  pub is : (l : Bytes) → l ≡ part h start end → (s : State) → PhaseIs p s → Unchecked lim h ms plain es start l s
+      → Says h ms′ (step lim imposed start s l) start s l r

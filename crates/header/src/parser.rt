@@ -18,9 +18,9 @@ use values::utf8;
 ghost use mathlib.Core.Path.{_≡_};
 ghost use Rattle.rules.specs.Sizes.{limits};
 ghost use Rattle.entries.specs.Values.{limitsOf};
-ghost use Rattle.entries.proofs.Stored.{Packed};
 ghost use Rattle.header.specs.Verdicts.{imposedOf};
 ghost use Rattle.header.specs.Parsers.{refusedAs, Bounds, Keeps, Parses, Finishes, ReadCall};
+ghost use Rattle.entries.specs.Words.{Packed};
 
 // What a header is found to be: accepted, with the version in force and the number of samples, or refused.
 pub enum Outcome {
@@ -121,7 +121,8 @@ impl Parser {
     ) -> Partial
         requires { ⌜ Bounds (now h) (now table) self ⌝ }
         ensures { λ r.
-            ⌜ Parses (limitsOf (options .limits)) (imposedOf (options .imposed)) (options .ascii) self (now (h .entry)) (now (marks .entry)) (now (table .entry)) r (now (marks .exit)) (now (table .exit)) ⌝ }
+            ⌜ Parses (limitsOf (options .limits)) (imposedOf (options .imposed)) (options .ascii) self (now (h .entry)) (now (marks .entry))
+            (now (table .entry)) r (now (marks .exit)) (now (table .exit)) ⌝ }
     {
         let start = self.at;
         let count = self.count;

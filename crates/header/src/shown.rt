@@ -15,7 +15,7 @@ ghost use mathlib.Core.Path.{_≡_};
 ghost use lib.ListN.{length};
 ghost use Rattle.records.specs.Formats.{versionOf};
 ghost use Rattle.entries.specs.Tables.{shownField};
-ghost use Rattle.entries.specs.Shown.{shownAs, Inside};
+ghost use Rattle.entries.specs.Shown.{answered, orRefused, shownAs, Inside};
 ghost use Rattle.header.specs.Fields.{fieldIn, FieldAt};
 
 // Field i of a line, read alone, if it is a record of this kind.
@@ -28,11 +28,12 @@ fn line_field(l: &[u8], kind: u8, version: FileFormat, i: usize) -> Shown
     }
     match record::parse_record(l, version) {
         RecordRead::FileFormat(_) => Shown::Refused,
-        RecordRead::Map(key, value, _, _) => {
+        RecordRead::Map(map) => {
+            let key = map.key;
             if key.kind() != kind {
                 return Shown::Refused;
             }
-            shown::nth_field(l, value + 1, key.has_brackets(version), i)
+            shown::nth_field(l, map.value + 1, key.has_brackets(version), i)
         }
         RecordRead::Text(_) => Shown::Refused,
         RecordRead::Refused(_) => Shown::Refused,
@@ -55,7 +56,7 @@ fn field_at(h: &[u8], at: usize, end: usize, kind: u8, version: FileFormat, i: u
 
 // Field i, from 0, of entry n, key through value, quotes too; the entry's line is read again, under this version.
 pub fn field(h: &[u8], table: &[u64], n: usize, version: FileFormat, i: usize) -> Shown
-    ensures shown { λ r. ⌜ r ≡ shownAs (shownField (now (h .entry)) (now (table .entry)) n (versionOf version) i) ⌝ }
+    ensures shown { λ r. ⌜ answered r ≡ orRefused (shownField (now (h .entry)) (now (table .entry)) n (versionOf version) i) ⌝ }
     ensures inside { λ r. ⌜ Inside (length (now (h .entry))) r ⌝ }
 {
     let EntryRead::Entry(e) = shown::entry_at(h, table, n) else {

@@ -8,20 +8,19 @@ use entries::limits::Limits;
 use ids::scan;
 use ids::scan::Clash;
 use records::file_format::FileFormat;
-use records::key::Key;
 use records::record;
+use records::record::MapRecord;
 use records::record::RecordRead;
 use records::refusal::Refusal;
 use values::bytes;
-use values::string::Text;
 use values::utf8;
 ghost use mathlib.Core.Path.{_≡_};
 ghost use Rattle.rules.specs.Version.{inForce};
-ghost use Rattle.rules.proofs.Versions.{Sized};
 ghost use Rattle.records.specs.Formats.{versionOf};
 ghost use Rattle.entries.specs.Values.{entryOf, limitsOf};
 ghost use Rattle.entries.specs.Tables.{entriesIn};
 ghost use Rattle.header.specs.Verdicts.{imposedOf, isDonePhase, IdJudged, FirstJudged, MapJudged, RecordJudged, ColumnsJudged, TextJudged, Utf8Told, LineJudged};
+ghost use Rattle.rules.specs.Claims.{Sized};
 
 // Before the fileformat line; after it, with the version in force; after the column line, with the number of samples too.
 pub enum Phase {
@@ -68,7 +67,7 @@ fn judge_first(l: &[u8], imposed: FileFormatOption) -> Verdict
 {
     match record::parse_record(l, FileFormat::V4_5) {
         RecordRead::FileFormat(v) => Verdict::Begin(in_force(imposed, v)),
-        RecordRead::Map(_, _, _, _) => Verdict::Refused(Refusal::MissingFileFormat),
+        RecordRead::Map(_) => Verdict::Refused(Refusal::MissingFileFormat),
         RecordRead::Text(_) => Verdict::Refused(Refusal::MissingFileFormat),
         RecordRead::Refused(x) => Verdict::Refused(x),
     }
@@ -76,7 +75,8 @@ fn judge_first(l: &[u8], imposed: FileFormatOption) -> Verdict
 
 // A record whose key and ID go with those before it; `new` is its entry, `prefix` its `##key=`.
 fn judge_id(h: &[u8], kept: &[u64], marks: &mut [u8], prefix: &[u8], new: Entry) -> Verdict
-    ensures { λ r. ⌜ IdJudged (now (h .entry)) (entriesIn (now (kept .entry))) (now (marks .entry)) (now (prefix .entry)) (entryOf new) r (now (marks .exit)) ⌝ }
+    ensures { λ r. ⌜ IdJudged (now (h .entry)) (entriesIn (now (kept .entry))) (now (marks .entry)) (now (prefix .entry)) (entryOf new) r
+        (now (marks .exit)) ⌝ }
 {
     match scan::find_clash(h, kept, marks, prefix, new) {
         Clash::Free => Verdict::Entry(new),
@@ -86,20 +86,13 @@ fn judge_id(h: &[u8], kept: &[u64], marks: &mut [u8], prefix: &[u8], new: Entry)
     }
 }
 
-fn judge_map(
-    h: &[u8],
-    kept: &[u64],
-    marks: &mut [u8],
-    at: Place,
-    key: Key,
-    value: usize,
-    id: Text,
-    tag: u8,
-) -> Verdict
-    ensures { λ r. ⌜ MapJudged (now (h .entry)) (entriesIn (now (kept .entry))) (now (marks .entry)) (at .start) (at .end) key value id tag r (now (marks .exit)) ⌝ }
+fn judge_map(h: &[u8], kept: &[u64], marks: &mut [u8], at: Place, map: MapRecord) -> Verdict
+    ensures { λ r. ⌜ MapJudged (now (h .entry)) (entriesIn (now (kept .entry))) (now (marks .entry)) (at .start) (at .end) map r (now (marks .exit)) ⌝ }
 {
     let l = bytes::part(h, at.start, at.end);
-    let prefix = bytes::part(l, 0, value);
+    let key = map.key;
+    let id = map.id;
+    let prefix = bytes::part(l, 0, map.value);
     let name = bytes::part(l, id.start, id.end);
     let new = Entry {
         kind: key.kind(),
@@ -108,18 +101,19 @@ fn judge_map(
         offset: id.start,
         id_length: name.len(),
         quoted: id.quoted,
-        tag,
+        tag: map.tag,
     };
     judge_id(h, kept, marks, prefix, new)
 }
 
 fn judge_record(h: &[u8], kept: &[u64], marks: &mut [u8], at: Place, version: FileFormat) -> Verdict
-    ensures { λ r. ⌜ RecordJudged (now (h .entry)) (entriesIn (now (kept .entry))) (now (marks .entry)) (versionOf version) (at .start) (at .end) r (now (marks .exit)) ⌝ }
+    ensures { λ r. ⌜ RecordJudged (now (h .entry)) (entriesIn (now (kept .entry))) (now (marks .entry)) (versionOf version) (at .start) (at .end) r
+        (now (marks .exit)) ⌝ }
 {
     let l = bytes::part(h, at.start, at.end);
     match record::parse_record(l, version) {
         RecordRead::FileFormat(_) => Verdict::Refused(Refusal::UnexpectedFileFormat),
-        RecordRead::Map(key, value, id, tag) => judge_map(h, kept, marks, at, key, value, id, tag),
+        RecordRead::Map(map) => judge_map(h, kept, marks, at, map),
         RecordRead::Text(value) => {
             let new = Entry::plain(kind::OTHER_TEXT, at.start, l.len());
             judge_id(h, kept, marks, bytes::part(l, 0, value), new)
@@ -152,7 +146,8 @@ fn judge_text(
     phase: Phase,
     imposed: FileFormatOption,
 ) -> Verdict
-    ensures { λ r. ⌜ TextJudged (now (h .entry)) (entriesIn (now (kept .entry))) (now (marks .entry)) (at .start) (at .end) phase (imposedOf imposed) r (now (marks .exit)) ⌝ }
+    ensures { λ r. ⌜ TextJudged (now (h .entry)) (entriesIn (now (kept .entry))) (now (marks .entry)) (at .start) (at .end) phase (imposedOf imposed)
+        r (now (marks .exit)) ⌝ }
 {
     let l = bytes::part(h, at.start, at.end);
     match phase {
@@ -191,7 +186,8 @@ fn is_utf8(l: &[u8], ascii: bool) -> bool
 
 // A line, by 1, 2, 3, then its grammar; `kept` are the entries before it, which are marked, and so is it if it is kept.
 pub fn judge_line(h: &[u8], kept: &[u64], marks: &mut [u8], at: Place, given: Given) -> Verdict
-    ensures { λ r. ⌜ LineJudged (limitsOf (given .limits)) (now (h .entry)) (entriesIn (now (kept .entry))) (now (marks .entry)) (given .ascii) (at .start) (at .end) (given .phase) (imposedOf (given .imposed)) r (now (marks .exit)) ⌝ }
+    ensures { λ r. ⌜ LineJudged (limitsOf (given .limits)) (now (h .entry)) (entriesIn (now (kept .entry))) (now (marks .entry))
+        (given .ascii) (at .start) (at .end) (given .phase) (imposedOf (given .imposed)) r (now (marks .exit)) ⌝ }
 {
     let phase = given.phase;
     let imposed = given.imposed;

@@ -17,10 +17,8 @@ use Rattle.rules.specs.Record.{Record}
 use Rattle.rules.specs.Columns.{Columns}
 use Rattle.rules.specs.Entry.{Entry}
 use Rattle.rules.specs.Reading.{State, empty, ready, done, Reading, reading}
-use Rattle.rules.specs.Meaning.{Meaning, meaning}
-use Rattle.rules.specs.House.{houseLines, houseForm, HouseReading, tooLong, refusedForm, fitted, lined, formOf, houseOf, house}
-use Rattle.rules.proofs.Versions.{Sized, SizedOption}
-use Rattle.rules.proofs.Back.{Accepted}
+use Rattle.rules.specs.Meaning.{Meaning, headerMeaning}
+use Rattle.rules.specs.House.{houseLines, houseForm, HouseReading, tooLong, refusedForm, fitted, lined, formAnswer, houseOf, house}
 use Rattle.rules.proofs.House.{accepted-good}
 use Rattle.rules.proofs.Trace.{header-traced}
 use Rattle.rules.proofs.Stands.{reading-stands, reading-fits, accepted-short}
@@ -32,36 +30,37 @@ use Rattle.records.proofs.Refusals.{number-suc}
 use Rattle.records.specs.declared.file_format.FileFormat.{FileFormat}
 use Rattle.header.specs.declared.parser.Outcome.the-variants as outcome
 use Rattle.header.specs.declared.parser.ReadAnswer.{ReadAnswer}
-use Rattle.header.specs.Parsers.{Told, outcomeNumber, outcomeSays, told, acceptedIn, tells, readInto, ReadCall}
-use Rattle.entries.specs.Tables.{room, stored, firstEntries, entriesIn}
+use Rattle.header.specs.Parsers.{AnswerMeaning, outcomeNumber, outcomeSays, answerMeans, acceptedIn, readingMeans, readInto, ReadCall}
+use Rattle.entries.specs.Tables.{room, firstEntries, entriesIn}
 use Rattle.entries.proofs.Stored.{entries-stored, first-packed}
 use Rattle.house.specs.declared.form.FormOutcome.{FormOutcome}
 use Rattle.house.specs.declared.form.FormOutcome.the-variants.{Whole, TooLong, LineTooLong, NoRoom}
 use Rattle.house.specs.declared.form.HouseAnswer.{HouseAnswer}
 use Rattle.house.specs.Keys.{AllReadable}
 use Rattle.house.specs.Forms.{formLines, fittedAs, linedAs, outcomeOf, writtenOf, WritesForm}
-use Rattle.house.specs.Answers.{ToldForm, toldForm, tellsForm, refusedAs, answerOf, AnswersForm, HouseCall}
+use Rattle.house.specs.Answers.{FormMeaning, formAnswerMeans, houseMeans, refusedAnswer, formAnswered, AnswersForm, HouseCall}
 use Rattle.house.proofs.Arranged.{FormIs, form-is}
+use Rattle.rules.specs.Claims.{Sized, SizedOption, Accepted}
 
 -- what answers the needs of `answer`
 module _ (a : ReadAnswer) (form : FormOutcome) where
-  pub answer-whole : {n : ℕ} → form ≡ Whole n → _≡_ {A = HouseAnswer} (record { outcome = a .outcome; line = a .line; start = a .start; entries = a .entries; length = n }) (answerOf a form)
+  pub answer-whole : {n : ℕ} → form ≡ Whole n → _≡_ {A = HouseAnswer} (record { outcome = a .outcome; line = a .line; start = a .start; entries = a .entries; length = n }) (formAnswered a form)
   answer-whole e = rw e
 
-  pub answer-long : form ≡ TooLong → {r : HouseAnswer} → r ≡ refusedAs refusal.HeaderTooLong 0 0 (a .entries) → r ≡ answerOf a form
+  pub answer-long : form ≡ TooLong → {r : HouseAnswer} → r ≡ refusedAnswer refusal.HeaderTooLong 0 0 (a .entries) → r ≡ formAnswered a form
   answer-long e q = q ∙ rw e
 
-  pub answer-line : {l s : ℕ} → form ≡ LineTooLong l s → {r : HouseAnswer} → r ≡ refusedAs refusal.LineTooLong l s (a .entries) → r ≡ answerOf a form
+  pub answer-line : {l s : ℕ} → form ≡ LineTooLong l s → {r : HouseAnswer} → r ≡ refusedAnswer refusal.LineTooLong l s (a .entries) → r ≡ formAnswered a form
   answer-line e q = q ∙ rw e
 
-  pub answer-room : form ≡ NoRoom → {r : HouseAnswer} → r ≡ refusedAs refusal.FormTooLong 0 0 (a .entries) → r ≡ answerOf a form
+  pub answer-room : form ≡ NoRoom → {r : HouseAnswer} → r ≡ refusedAnswer refusal.FormTooLong 0 0 (a .entries) → r ≡ formAnswered a form
   answer-room e q = q ∙ rw e
 
 pub ruleset answers = (answer-whole, answer-long, answer-line, answer-room)
 
 -- what answers the needs of `answer_accepted`
 pub form-answered : (a : ReadAnswer) (f : FileFormat) → f .major < 4294967296 → f .minor < 4294967296 → {lim : Limits} {h : Bytes} {es : List Entry} {out : Bytes} {form : FormOutcome} {new : Bytes}
-    → WritesForm lim (versionOf f) h es out form new → {r : HouseAnswer} → r ≡ answerOf a form → AnswersForm lim a f h es out r new
+    → WritesForm lim (versionOf f) h es out form new → {r : HouseAnswer} → r ≡ formAnswered a form → AnswersForm lim a f h es out r new
 form-answered a f i j w e = record { form = _; writes = w; answers = e; sized = record { major = omega arith; minor = omega arith } }
 
 -- an accepted reading: the version in force is that of the answer
@@ -95,14 +94,14 @@ read-form lim imposed room h {v} {rs} {c} s a =
 
 -- What becomes of the form, and what the rules answer of it
 
-abbrev sizing : ℕ → Told → ToldForm
+abbrev sizing : ℕ → AnswerMeaning → FormMeaning
 sizing n x = record { number = x .number; line = x .line; start = x .start; entries = x .entries; size = n; accepted = x .accepted }
 
 record Answers (a : ReadAnswer) (r : Reading) (ls : List Bytes) (form : FormOutcome) (f : HouseReading) : Type 0 where
-  tells-it : toldForm (answerOf a form) ≡ tellsForm r f
+  tells-it : formAnswerMeans (formAnswered a form) ≡ houseMeans r f
   writes-it : writtenOf form ls ≡ f .form
 
-module _ (lim : Limits) (a : ReadAnswer) (r : Reading) (e : told a ≡ tells r) (z : r .number ≡ 0) (room : ℕ) (m : Meaning) where
+module _ (lim : Limits) (a : ReadAnswer) (r : Reading) (e : answerMeans a ≡ readingMeans r) (z : r .number ≡ 0) (room : ℕ) (m : Meaning) where
   abbrev ls : List Bytes
   ls = houseLines m
 
@@ -110,7 +109,7 @@ module _ (lim : Limits) (a : ReadAnswer) (r : Reading) (e : told a ≡ tells r) 
   size = length (writeLines ls)
 
   counted : a .entries ≡ length (r .entries)
-  counted = ap (λ (x : Told). x .entries) e
+  counted = ap (λ (x : AnswerMeaning). x .entries) e
 
   answers-fit : Answers a r ls (fittedAs room size) (fitted room r (writeLines ls))
   answers-fit = elim (test (leb size room)) [
@@ -122,11 +121,11 @@ module _ (lim : Limits) (a : ReadAnswer) (r : Reading) (e : told a ≡ tells r) 
   answers-lined none = answers-fit
   answers-lined (some p) = record { tells-it = rw counted; writes-it = refl }
 
-  answers-form : Answers a r ls (outcomeOf lim room ls) (formOf lim room r m)
-  unfolding outcomeOf formOf houseForm
+  answers-form : Answers a r ls (outcomeOf lim room ls) (formAnswer lim room r m)
+  unfolding outcomeOf formAnswer houseForm
   answers-form = elim (test (leb size (lim .header))) [
-    | pass q ↦ rw (outcomeOf, formOf, q) (answers-lined (tooLong (lim .line) 0 0 ls))
-    | fail q ↦ rw (outcomeOf, formOf, q) (record { tells-it = rw counted; writes-it = refl })
+    | pass q ↦ rw (outcomeOf, formAnswer, q) (answers-lined (tooLong (lim .line) 0 0 ls))
+    | fail q ↦ rw (outcomeOf, formAnswer, q) (record { tells-it = rw counted; writes-it = refl })
   ]
 
 house-refused : (lim : Limits) (room : ℕ) (r : Reading) {n : ℕ} → r .number ≡ suc n → houseOf lim room r (r .state) ≡ refusedForm (r .number) (r .line) (r .start)
@@ -139,7 +138,7 @@ house-refused lim room r e = go (r .state)
 
 -- what answers the needs of `house_form`
 module _ (imposed : Option Version) (h : Bytes) (t₀ : List ℕ) (a : ReadAnswer) {t : List ℕ} (call : ReadCall limits imposed h t₀ a t) where
-  e : told a ≡ tells (readInto limits imposed t₀ h)
+  e : answerMeans a ≡ readingMeans (readInto limits imposed t₀ h)
   e = call .answer
 
   abbrev read : Reading
@@ -149,34 +148,34 @@ module _ (imposed : Option Version) (h : Bytes) (t₀ : List ℕ) (a : ReadAnswe
   form-in size = house limits imposed (room t₀) size h
 
   entries-are : length (read .entries) ≡ a .entries
-  entries-are = sym (ap (λ (x : Told). x .entries) e)
+  entries-are = sym (ap (λ (x : AnswerMeaning). x .entries) e)
 
   module _ {x : Refusal} (o : a .outcome ≡ outcome.Refused x) where
     number-is : read .number ≡ number x
-    number-is = sym (ap (λ (y : Told). y .number) e) ∙ ap outcomeNumber o
+    number-is = sym (ap (λ (y : AnswerMeaning). y .number) e) ∙ ap outcomeNumber o
 
     refused-house : (size : ℕ) → form-in size ≡ refusedForm (read .number) (read .line) (read .start)
     unfolding house
     refused-house size = let n = number-suc x in house-refused limits size read (number-is ∙ n .1)
 
-    refused-told : (size : ℕ) {r : HouseAnswer} → r ≡ refusedAs x (a .line) (a .start) (a .entries) → toldForm r ≡ tellsForm read (form-in size)
+    refused-told : (size : ℕ) {r : HouseAnswer} → r ≡ refusedAnswer x (a .line) (a .start) (a .entries) → formAnswerMeans r ≡ houseMeans read (form-in size)
     refused-told size q =
         let n = number-suc x in
-        ap toldForm q ∙ rw (refused-house size, number-is, ap (λ (y : Told). y .line) e, ap (λ (y : Told). y .start) e, entries-are) (rw (n .1))
+        ap formAnswerMeans q ∙ rw (refused-house size, number-is, ap (λ (y : AnswerMeaning). y .line) e, ap (λ (y : AnswerMeaning). y .start) e, entries-are) (rw (n .1))
 
-    pub house-refused-call : (out : Bytes) {r : HouseAnswer} → r ≡ refusedAs x (a .line) (a .start) (a .entries) → HouseCall limits imposed h t₀ out r t out
+    pub house-refused-call : (out : Bytes) {r : HouseAnswer} → r ≡ refusedAnswer x (a .line) (a .start) (a .entries) → HouseCall limits imposed h t₀ out r t out
     house-refused-call out q = record { answer = refused-told (length out) q; table = call .table; output = rw (refused-house (length out)) }
 
   module _ {f : FileFormat} {n : ℕ} (o : a .outcome ≡ outcome.Accepted f n) {kept : List ℕ} (ek : kept ≡ firstEntries t (a .entries))
       {out : Bytes} {r : HouseAnswer} {new : Bytes} (w : AnswersForm limits a f h (entriesIn kept) out r new) where
     accepted : read .number ≡ 0
-    accepted = sym (ap (λ (y : Told). y .number) e) ∙ ap outcomeNumber o
+    accepted = sym (ap (λ (y : AnswerMeaning). y .number) e) ∙ ap outcomeNumber o
 
     was-read : Read read (versionOf f) n
-    was-read = was-accepted read (versionOf f) n accepted (sym (ap (λ (y : Told). y .accepted) e) ∙ ap outcomeSays o)
+    was-read = was-accepted read (versionOf f) n accepted (sym (ap (λ (y : AnswerMeaning). y .accepted) e) ∙ ap outcomeSays o)
 
     abbrev means : Meaning
-    means = meaning (versionOf f) (was-read .records) (was-read .columns)
+    means = headerMeaning (versionOf f) (was-read .records) (was-read .columns)
 
     is-form : FormIs (versionOf f) h (was-read .records) (was-read .columns) (read .entries)
     is-form = read-form limits imposed (room t₀) h (w .sized) (was-read .accepted)
@@ -195,7 +194,7 @@ module _ (imposed : Option Version) (h : Bytes) (t₀ : List ℕ) (a : ReadAnswe
     abbrev space : ℕ
     space = length out
 
-    house-is : form-in space ≡ formOf limits space read means
+    house-is : form-in space ≡ formAnswer limits space read means
     unfolding house
     house-is = rw (was-read .accepted .state, accepted)
 
@@ -206,7 +205,7 @@ module _ (imposed : Option Version) (h : Bytes) (t₀ : List ℕ) (a : ReadAnswe
 
     pub house-accepted-call : HouseCall limits imposed h t₀ out r t new
     house-accepted-call = record {
-      answer = ap toldForm (w .answers) ∙ answers-it .tells-it;
+      answer = ap formAnswerMeans (w .answers) ∙ answers-it .tells-it;
       table = call .table;
       output = w .writes .output is-readable ∙ ap (sets out 0) (ap (writtenOf (w .form)) the-lines ∙ answers-it .writes-it);
     }

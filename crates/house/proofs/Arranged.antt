@@ -14,10 +14,9 @@ use Rattle.rules.specs.Record.{Record, fileformat}
 use Rattle.rules.specs.Columns.{Columns}
 use Rattle.rules.specs.Entry.{Entry, formatKind, columnsKind, plainEntry, recordEntry, columnEntries}
 use Rattle.rules.specs.Reading.{keyOf}
-use Rattle.rules.specs.Meaning.{under, without, otherKeys, meaning}
+use Rattle.rules.specs.Meaning.{under, without, otherKeys, headerMeaning}
 use Rattle.rules.specs.House.{writeRecord, writeColumns, houseLines}
 use Rattle.rules.proofs.Firsts.{on-ok}
-use Rattle.rules.proofs.Alls.{All}
 use Rattle.rules.proofs.Records.{Entered}
 use Rattle.rules.proofs.Groups.{arrange, under-yes, under-no, without-yes, without-no, keys-typed, keys-other, allKeys}
 use Rattle.rules.proofs.House.{house-lines}
@@ -26,10 +25,11 @@ use Rattle.rules.proofs.Tidy.{tidied}
 use Rattle.rules.proofs.Trace.{TracedHeader}
 use Rattle.ids.specs.Clashes.{prefixOf}
 use Rattle.forms.specs.Lines.{lineOf}
-use Rattle.house.specs.Keys.{isUnder, picked, AllReadable, linesUnder, prefixIn, seenUnder, isFirst, given, otherLines}
+use Rattle.house.specs.Keys.{isUnder, picked, AllReadable, linesUnder, prefixIn, seenUnder, isFirst, linesIf, otherLines}
 use Rattle.house.specs.Forms.{columnLine, recordLines, formLines}
 use Rattle.house.proofs.Picks.{picked-yes, picked-no}
 use Rattle.house.proofs.Entries.{line-of, Aside, RowIs, Are, rows-are, format-aside, columns-aside}
+use Rattle.rules.specs.Claims.{All}
 
 abbrev Plain : Bytes → Type 0
 Plain k = any (is 61) k ≡ false
@@ -180,7 +180,7 @@ module _ (v : Version) (h : Bytes) (all : List Entry) (ts : List Record) (pick :
 
   -- one entry off the front
   others-turn : (ahead : List Entry) (e : Entry) (es : List Entry) {b : Bool} → isFirst h ahead e ≡ b
-      → otherLines v h all ahead (e ∷ es) ≡ given b (picked v h (prefixIn h e) all) ++ otherLines v h all (ahead ++ e ∷ []) es
+      → otherLines v h all ahead (e ∷ es) ≡ linesIf b (picked v h (prefixIn h e) all) ++ otherLines v h all (ahead ++ e ∷ []) es
   unfolding otherLines
   others-turn ahead e es q = rw q
 
@@ -250,9 +250,9 @@ module _ (v : Version) (h : Bytes) (own : Entry) (es : List Entry) (rs : List Re
 -- an accepted header: every record's line can be read, and the lines are those of its meaning
 pub record FormIs (v : Version) (h : Bytes) (rs : List Record) (c : Columns) (es : List Entry) : Type 0 where
   pub readable : AllReadable v h es
-  pub lines : formLines v h es ≡ houseLines (meaning v rs c)
+  pub lines : formLines v h es ≡ houseLines (headerMeaning v rs c)
 
-form-lines : (v : Version) (rs : List Record) (c : Columns) → houseLines (meaning v rs c) ≡ writeRecord (fileformat v) ∷ (map (lineOf v) (arrange (allKeys rs) rs) ++ writeColumns (c .format) (c .samples) ∷ [])
+form-lines : (v : Version) (rs : List Record) (c : Columns) → houseLines (headerMeaning v rs c) ≡ writeRecord (fileformat v) ∷ (map (lineOf v) (arrange (allKeys rs) rs) ++ writeColumns (c .format) (c .samples) ∷ [])
 form-lines v rs c = house-lines v rs c ∙ ap (λ (ls : List Bytes). writeRecord (fileformat v) ∷ (ls ++ writeColumns (c .format) (c .samples) ∷ [])) (map-map writeRecord (tidied v) (arrange (allKeys rs) rs))
 
 module _ (lim : Limits) (imposed : Option Version) (h : Bytes) (v : Version) (rs : List Record) (c : Columns) (entries : List Entry)

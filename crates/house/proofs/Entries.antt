@@ -24,17 +24,16 @@ use Rattle.rules.specs.Shown.{lineIn}
 use Rattle.rules.specs.Reading.{keyOf}
 use Rattle.rules.specs.House.{writeFields, writeRecord}
 use Rattle.rules.proofs.Firsts.{on-ok}
-use Rattle.rules.proofs.Alls.{All}
 use Rattle.rules.proofs.Records.{Entered}
 use Rattle.rules.proofs.Texts.{LineOf, record-in}
-use Rattle.rules.proofs.Trace.{LineAt, Row, Rows}
 use Rattle.ids.specs.Clashes.{prefixOf}
 use Rattle.ids.proofs.Clashes.{prefix-starts}
 use Rattle.ids.proofs.KeyKinds.{typed-below, number-small}
 use Rattle.forms.specs.Lines.{lineOf, IsEntry, houseLine}
 use Rattle.forms.proofs.Lines.{entry-is}
 use Rattle.house.specs.Writes.{Readable}
-use Rattle.house.specs.Keys.{isRecord, isUnder, prefixIn, isOther}
+use Rattle.house.specs.Keys.{isRecord, isUnder, prefixIn, isOtherRecord}
+use Rattle.rules.specs.Claims.{All, LineAt, Row, Rows}
 
 -- the line that an entry stands for
 pub line-of : (lim : Limits) (h : Bytes) (start : ℕ) (l : Bytes) → LineAt lim h start l → (e : Entry) → e .start ≡ start → e .length ≡ length l → lineIn h e ≡ l
@@ -46,12 +45,12 @@ line-of lim h start l at e s n =
 -- an entry that is no record: the fileformat line, the column line or a sample
 pub record Aside (e : Entry) : Type 0 where
   pub unrecorded : isRecord e ≡ false
-  pub not-other : isOther e ≡ false
+  pub not-other : isOtherRecord e ≡ false
 
 -- Records
 
 pub record RowIs (v : Version) (h : Bytes) (e : Entry) (r : Record) : Type 0 where
-  pub other : isOther e ≡ not (isTyped (keyOf r))
+  pub other : isOtherRecord e ≡ not (isTyped (keyOf r))
   pub no-columns : eqb (e .kind) columnsKind ≡ false
   pub plain : any (is 61) (keyOf r) ≡ false
   pub readable : Readable v (lineIn h e)
@@ -74,7 +73,7 @@ module _ (v : Version) (h : Bytes) (e : Entry) (r : Record) (rest l : Bytes) (is
   record-kind : isRecord e ≡ true
   record-kind = rw (is-kind, lt-ltb 1 kind (omega arith), lt-ltb kind 9 (omega arith))
 
-  row-of : isOther e ≡ not (isTyped (keyOf r)) → readRecord v l ≡ ok r → IsEntry r → RowIs v h e r
+  row-of : isOtherRecord e ≡ not (isTyped (keyOf r)) → readRecord v l ≡ ok r → IsEntry r → RowIs v h e r
   unfolding isUnder
   row-of o read entry = record {
     other = o;

@@ -21,13 +21,14 @@ use Rattle.rules.specs.House.{writeRecord, tooLong}
 use Rattle.entries.specs.declared.entry.Entry.{Entry as CodeEntry}
 use Rattle.entries.specs.Values.{entryOf}
 use Rattle.entries.specs.Tables.{room, entriesIn, entryIn}
-use Rattle.entries.proofs.Stored.{Packed, entries-here, entries-past}
+use Rattle.entries.proofs.Stored.{entries-here, entries-past}
 use Rattle.house.specs.declared.progress.Progress.{Progress}
 use Rattle.house.specs.declared.form.FormOutcome.the-variants.{Whole, TooLong, LineTooLong, NoRoom}
 use Rattle.house.specs.Writes.{longIn, WroteLines}
 use Rattle.house.specs.Keys.{AllReadable, PutsKeys, PutsOthers}
 use Rattle.house.specs.Forms.{columnLine, recordLines, formLines, begun, PutsRecords, PutsForm, outcomeOf, fittedAs, linedAs, WritesForm}
 use Rattle.house.proofs.Writes.{lines-count, then-lines}
+use Rattle.entries.specs.Words.{Packed}
 
 -- The scan for the column line: no entry before number k is one
 

@@ -20,7 +20,7 @@ use Rattle.entries.specs.Tables.{room, firstEntries, entriesIn, entryIn}
 use Rattle.entries.proofs.Stored.{entries-here, entries-past, first-entries}
 use Rattle.house.specs.declared.progress.Progress.{Progress}
 use Rattle.house.specs.Writes.{WroteLines}
-use Rattle.house.specs.Keys.{isUnder, picked, AllReadable, PutsKey, prefixIn, seenUnder, isFirst, given, otherLines, PutsOthers}
+use Rattle.house.specs.Keys.{isUnder, picked, AllReadable, PutsKey, prefixIn, seenUnder, isFirst, linesIf, otherLines, PutsOthers}
 use Rattle.house.proofs.Writes.{wrote-no-lines, then-lines}
 
 -- what answers the needs of `prefix_part`
@@ -108,7 +108,7 @@ module _ {v : Version} {h : Bytes} {t : List ℕ} {old : Bytes} {s₀ : Progress
     first : q ≡ isFirst h (take k es) (entryOf e)
     first = u ∙ rw (ea, first-entries t k)
 
-    turn : otherLines v h es (take k es) (drop k es) ≡ given q (picked v h (prefixIn h (entryOf e)) es) ++ otherLines v h es (take (k + 1) es) (drop (k + 1) es)
+    turn : otherLines v h es (take k es) (drop k es) ≡ linesIf q (picked v h (prefixIn h (entryOf e)) es) ++ otherLines v h es (take (k + 1) es) (drop (k + 1) es)
     unfolding otherLines
     turn = let more : take (k + 1) es ≡ take k es ++ entryOf e ∷ [] = take-add k 1 es ∙ rw here in rw (here, ← first, more)
 

@@ -17,11 +17,9 @@ use Rattle.rules.specs.Version.{Version}
 use Rattle.rules.specs.Record.{Record}
 use Rattle.rules.specs.Columns.{Columns}
 use Rattle.rules.specs.Reading.{State, empty, ready, done, Reading, reading}
-use Rattle.rules.specs.Meaning.{Meaning, meaning}
-use Rattle.rules.specs.House.{houseLines, houseForm, HouseReading, tooLong, fitted, lined, formOf, houseOf, house}
-use Rattle.rules.proofs.Versions.{SizedOption}
-use Rattle.rules.proofs.Back.{Accepted}
-use Rattle.rules.proofs.House.{Fits, house-reads-back, house-canonical}
+use Rattle.rules.specs.Meaning.{Meaning, headerMeaning}
+use Rattle.rules.specs.House.{houseLines, houseForm, HouseReading, tooLong, fitted, lined, formAnswer, houseOf, house}
+use Rattle.rules.proofs.House.{house-reads-back, house-canonical}
 use Rattle.rules.proofs.Rooms.{rooms}
 use Rattle.records.specs.Formats.{versionOf}
 use Rattle.records.specs.declared.file_format.FileFormat.{FileFormat}
@@ -29,27 +27,10 @@ use Rattle.records.proofs.Refusals.{number-suc}
 use Rattle.header.specs.declared.parser.Outcome.{Outcome}
 use Rattle.header.specs.declared.parser.Outcome.the-variants as outcome
 use Rattle.header.specs.Parsers.{outcomeNumber, outcomeSays, acceptedIn}
-use Rattle.entries.specs.Tables.{room, stored}
+use Rattle.entries.specs.Tables.{room}
 use Rattle.house.specs.declared.form.HouseAnswer.{HouseAnswer}
-use Rattle.house.specs.Answers.{ToldForm, HouseCall}
-
--- the call was accepted
-abbrev pub IsAccepted : HouseAnswer → Type 0
-IsAccepted r = (f : FileFormat) × (n : ℕ) × (r .outcome ≡ outcome.Accepted f n)
-
--- what was written
-abbrev pub written : HouseAnswer → Bytes → Bytes
-written r out′ = take (r .length) out′
-
-abbrev meant : ℕ → State → Option Meaning
-meant zero empty = none
-meant zero (ready v rs) = none
-meant zero (done v rs c) = some (meaning v rs c)
-meant (suc n) s = none
-
--- the meaning of a header, if it is accepted
-abbrev pub means : Option Version → ℕ → Bytes → Option Meaning
-means imposed room h = meant (reading limits imposed room h .number) (reading limits imposed room h .state)
+use Rattle.house.specs.Answers.{FormMeaning, HouseCall, IsAccepted, formWritten, meant, means}
+use Rattle.rules.specs.Claims.{SizedOption, Accepted, Fits}
 
 take-sets : (t₀ ws : List ℕ) (n : ℕ) → n ≡ length ws → length ws ≤ length t₀ → take n (sets t₀ 0 ws) ≡ ws
 take-sets t₀ ws n e l = rw (e, sets-eq ws t₀ 0 (omega arith)) (take-append-seam ws (drop (0 + length ws) t₀))
@@ -62,11 +43,11 @@ record Formed (room : ℕ) (m : Meaning) (f : HouseReading) : Type 0 where
   inside : length (houseForm m) ≤ room
 
 module _ (room : ℕ) (r : Reading) (m : Meaning) where
-  formed : formOf limits room r m .number ≡ 0 → Formed room m (formOf limits room r m)
-  unfolding formOf
+  formed : formAnswer limits room r m .number ≡ 0 → Formed room m (formAnswer limits room r m)
+  unfolding formAnswer
   formed z = elim (test (leb (length (houseForm m)) (limits .header))) [
-    | fail q ↦ let n : _≡_ {A = ℕ} 27 0 = rw (formOf, q) at z in absurd (omega arith)
-    | pass q ↦ rw (formOf, q) (short (tooLong (limits .line) 0 0 (houseLines m)) refl (leb-true (length (houseForm m)) (limits .header) q) (rw (formOf, q) at z))
+    | fail q ↦ let n : _≡_ {A = ℕ} 27 0 = rw (formAnswer, q) at z in absurd (omega arith)
+    | pass q ↦ rw (formAnswer, q) (short (tooLong (limits .line) 0 0 (houseLines m)) refl (leb-true (length (houseForm m)) (limits .header) q) (rw (formAnswer, q) at z))
   ]
     where
       short : (x : Option (ℕ × ℕ)) → tooLong (limits .line) 0 0 (houseLines m) ≡ x → length (houseForm m) ≤ limits .header → lined room r (houseForm m) x .number ≡ 0 → Formed room m (lined room r (houseForm m) x)
@@ -77,17 +58,17 @@ module _ (room : ℕ) (r : Reading) (m : Meaning) where
       ]
 
   -- a form that fits is accepted
-  fitting : Fits limits m → length (houseForm m) ≤ room → (formOf limits room r m .number ≡ 0) × (formOf limits room r m .form ≡ houseForm m)
-  unfolding formOf
+  fitting : Fits limits m → length (houseForm m) ≤ room → (formAnswer limits room r m .number ≡ 0) × (formAnswer limits room r m .form ≡ houseForm m)
+  unfolding formAnswer
   fitting f l =
       let a = le-leb (length (houseForm m)) (limits .header) (f .header) in
       let b = le-leb (length (houseForm m)) room l in
-      (rw (formOf, a, f .lines) (rw (lined, fitted, b)), rw (formOf, a, f .lines) (rw (lined, fitted, b)))
+      (rw (formAnswer, a, f .lines) (rw (lined, fitted, b)), rw (formAnswer, a, f .lines) (rw (lined, fitted, b)))
 
-  done-formed : (v : Version) (rs : List Record) (c : Columns) → houseOf limits room r (done v rs c) .number ≡ 0 → (r .number ≡ 0) × (houseOf limits room r (done v rs c) ≡ formOf limits room r (meaning v rs c))
+  done-formed : (v : Version) (rs : List Record) (c : Columns) → houseOf limits room r (done v rs c) .number ≡ 0 → (r .number ≡ 0) × (houseOf limits room r (done v rs c) ≡ formAnswer limits room r (headerMeaning v rs c))
   done-formed v rs c z = go (r .number) refl
     where
-      go : (n : ℕ) → r .number ≡ n → (r .number ≡ 0) × (houseOf limits room r (done v rs c) ≡ formOf limits room r (meaning v rs c))
+      go : (n : ℕ) → r .number ≡ n → (r .number ≡ 0) × (houseOf limits room r (done v rs c) ≡ formAnswer limits room r (headerMeaning v rs c))
       go zero e = (e, rw e)
       go (suc n) e = let k : r .number ≡ 0 = rw (houseOf, e) at z in absurd (omega arith)
 
@@ -97,10 +78,10 @@ record Wrote (imposed : Option Version) (h : Bytes) (t : List ℕ) (out : Bytes)
   records : List Record
   columns : Columns
   accepted : Accepted version records columns (reading limits imposed (room t) h)
-  fits : Fits limits (meaning version records columns)
-  size : r .length ≡ length (houseForm (meaning version records columns))
-  form : written r out′ ≡ houseForm (meaning version records columns)
-  inside : length (houseForm (meaning version records columns)) ≤ length out
+  fits : Fits limits (headerMeaning version records columns)
+  size : r .length ≡ length (houseForm (headerMeaning version records columns))
+  form : formWritten r out′ ≡ houseForm (headerMeaning version records columns)
+  inside : length (houseForm (headerMeaning version records columns)) ≤ length out
 
 module _ {imposed : Option Version} {h : Bytes} {t : List ℕ} {out : Bytes} {r : HouseAnswer} {t′ : List ℕ} {out′ : Bytes} (call : HouseCall limits imposed h t out r t′ out′) where
   abbrev read : Reading
@@ -110,25 +91,25 @@ module _ {imposed : Option Version} {h : Bytes} {t : List ℕ} {out : Bytes} {r 
   answer = house limits imposed (room t) (length out) h
 
   -- the output, where the form is known
-  wrote-form : {form : Bytes} → answer .form ≡ form → length form ≤ length out → (r .length ≡ length form) × (written r out′ ≡ form)
+  wrote-form : {form : Bytes} → answer .form ≡ form → length form ≤ length out → (r .length ≡ length form) × (formWritten r out′ ≡ form)
   wrote-form {form} e l =
-      let n : r .length ≡ length form = ap (λ (x : ToldForm). x .size) (call .answer) ∙ ap length e in
+      let n : r .length ≡ length form = ap (λ (x : FormMeaning). x .size) (call .answer) ∙ ap length e in
       (n, ap (take (r .length)) (call .output ∙ ap (sets out 0) e) ∙ take-sets out form (r .length) n l)
 
   wrote : IsAccepted r → Wrote imposed h t out r out′
   unfolding house
-  wrote a = go (read .state) refl (rw number at (sym (ap (λ (x : ToldForm). x .accepted) (call .answer)) ∙ ap outcomeSays (a .2)))
+  wrote a = go (read .state) refl (rw number at (sym (ap (λ (x : FormMeaning). x .accepted) (call .answer)) ∙ ap outcomeSays (a .2)))
     where
       number : answer .number ≡ 0
-      number = sym (ap (λ (x : ToldForm). x .number) (call .answer)) ∙ ap outcomeNumber (a .2)
+      number = sym (ap (λ (x : FormMeaning). x .number) (call .answer)) ∙ ap outcomeNumber (a .2)
 
       go : (s : State) → read .state ≡ s → acceptedIn 0 (read .state) ≡ some (versionOf (a .0), a .1) → Wrote imposed h t out r out′
       go empty q e = none-not (rw q at e)
       go (ready v rs) q e = none-not (rw q at e)
       go (done v rs c) q e =
           let is : answer ≡ houseOf limits (length out) read (done v rs c) = ap (houseOf limits (length out) read) q in
-          let d = done-formed (length out) read (meaning v rs c) v rs c (sym (ap (λ (x : HouseReading). x .number) is) ∙ number) in
-          let f = formed (length out) read (meaning v rs c) (sym (ap (λ (x : HouseReading). x .number) (is ∙ d .1)) ∙ number) in
+          let d = done-formed (length out) read (headerMeaning v rs c) v rs c (sym (ap (λ (x : HouseReading). x .number) is) ∙ number) in
+          let f = formed (length out) read (headerMeaning v rs c) (sym (ap (λ (x : HouseReading). x .number) (is ∙ d .1)) ∙ number) in
           let w = wrote-form (ap (λ (x : HouseReading). x .form) (is ∙ d .1) ∙ f .form) (f .inside) in
           record {
             version = v;
@@ -141,7 +122,7 @@ module _ {imposed : Option Version} {h : Bytes} {t : List ℕ} {out : Bytes} {r 
             inside = f .inside;
           }
 
-means-is : (imposed : Option Version) (room : ℕ) (h : Bytes) {v : Version} {rs : List Record} {c : Columns} → Accepted v rs c (reading limits imposed room h) → means imposed room h ≡ some (meaning v rs c)
+means-is : (imposed : Option Version) (room : ℕ) (h : Bytes) {v : Version} {rs : List Record} {c : Columns} → Accepted v rs c (reading limits imposed room h) → means imposed room h ≡ some (headerMeaning v rs c)
 means-is imposed room h a = rw (a .number, a .state)
 
 -- a header with a meaning was accepted
@@ -150,7 +131,7 @@ record Meant (m : Meaning) (r : Reading) : Type 0 where
   records : List Record
   columns : Columns
   accepted : Accepted version records columns r
-  is : meaning version records columns ≡ m
+  is : headerMeaning version records columns ≡ m
 
 was-meant : (r : Reading) {m : Meaning} → meant (r .number) (r .state) ≡ some m → Meant m r
 was-meant r {m} e = go (r .number) refl (r .state) refl e
@@ -165,28 +146,28 @@ is-accepted : (o : Outcome) → outcomeNumber o ≡ 0 → (f : FileFormat) × (n
 is-accepted (outcome.Accepted f n) e = (f, n, refl)
 is-accepted (outcome.Refused x) e = let n = number-suc x in absurd (omega (arith, n .1, e))
 
-house-meant : (size : ℕ) (g : Reading) {m : Meaning} → Meant m g → houseOf limits size g (g .state) ≡ formOf limits size g m
+house-meant : (size : ℕ) (g : Reading) {m : Meaning} → Meant m g → houseOf limits size g (g .state) ≡ formAnswer limits size g m
 house-meant size g a =
-    let d : houseOf limits size g (done (a .version) (a .records) (a .columns)) ≡ formOf limits size g (meaning (a .version) (a .records) (a .columns)) = rw (a .accepted .number) in
-    ap (houseOf limits size g) (a .accepted .state) ∙ d ∙ ap (formOf limits size g) (a .is)
+    let d : houseOf limits size g (done (a .version) (a .records) (a .columns)) ≡ formAnswer limits size g (headerMeaning (a .version) (a .records) (a .columns)) = rw (a .accepted .number) in
+    ap (houseOf limits size g) (a .accepted .state) ∙ d ∙ ap (formAnswer limits size g) (a .is)
 
 -- where a header means m, whose form fits the limits and the output, the call is accepted and writes that form
 pub form-written : {imposed : Option Version} {h : Bytes} {t : List ℕ} {out : Bytes} {r : HouseAnswer} {t′ : List ℕ} {out′ : Bytes} → HouseCall limits imposed h t out r t′ out′
-    → {m : Meaning} → means imposed (room t) h ≡ some m → Fits limits m → length (houseForm m) ≤ length out → IsAccepted r × (written r out′ ≡ houseForm m)
+    → {m : Meaning} → means imposed (room t) h ≡ some m → Fits limits m → length (houseForm m) ≤ length out → IsAccepted r × (formWritten r out′ ≡ houseForm m)
 unfolding house
 form-written {imposed} {h} {t} {out} {r} call {m} e f n =
     let g = reading limits imposed (room t) h in
     let a = was-meant g e in
-    let is : house limits imposed (room t) (length out) h ≡ formOf limits (length out) g m = house-meant (length out) g a in
+    let is : house limits imposed (room t) (length out) h ≡ formAnswer limits (length out) g m = house-meant (length out) g a in
     let d = fitting (length out) g m f n in (
-      is-accepted (r .outcome) (ap (λ (y : ToldForm). y .number) (call .answer) ∙ ap (λ (y : HouseReading). y .number) is ∙ d .0),
+      is-accepted (r .outcome) (ap (λ (y : FormMeaning). y .number) (call .answer) ∙ ap (λ (y : HouseReading). y .number) is ∙ d .0),
       wrote-form call (ap (λ (y : HouseReading). y .form) is ∙ d .1) n .1,
     )
 
 -- two accepted calls, on two headers: the headers mean the same exactly when the forms that were written are equal
 pub one-form : {imposed imposed′ : Option Version} {h h′ : Bytes} {t t₁ u u₁ : List ℕ} {out out₁ o o₁ : Bytes} {r s : HouseAnswer}
     → SizedOption imposed → SizedOption imposed′ → HouseCall limits imposed h t out r t₁ out₁ → HouseCall limits imposed′ h′ u o s u₁ o₁ → IsAccepted r → IsAccepted s
-    → (means imposed (room t) h ≡ means imposed′ (room u) h′) ↔ (written r out₁ ≡ written s o₁)
+    → (means imposed (room t) h ≡ means imposed′ (room u) h′) ↔ (formWritten r out₁ ≡ formWritten s o₁)
 one-form {imposed} {imposed′} {h} {h′} {t} {u = u} i j p q a b =
     let x = wrote p a in
     let y = wrote q b in
@@ -201,12 +182,12 @@ module _ {imposed : Option Version} {h : Bytes} {t : List ℕ} {out : Bytes} {r 
     (sized : SizedOption imposed) (call : HouseCall limits imposed h t out r t₁ out₁) (a : IsAccepted r) where
   -- what was written, read with a table of at least the same size
   again : (n : ℕ) → room t ≤ n
-      → (rs : List Record) × Accepted (wrote call a .version) rs (wrote call a .columns) (reading limits none n (written r out₁))
-      × (meaning (wrote call a .version) rs (wrote call a .columns) ≡ meaning (wrote call a .version) (wrote call a .records) (wrote call a .columns))
+      → (rs : List Record) × Accepted (wrote call a .version) rs (wrote call a .columns) (reading limits none n (formWritten r out₁))
+      × (headerMeaning (wrote call a .version) rs (wrote call a .columns) ≡ headerMeaning (wrote call a .version) (wrote call a .records) (wrote call a .columns))
   again n l =
       let x = wrote call a in
       let b = house-reads-back limits imposed (room t) h sized (x .accepted) (x .fits) in
-      let g = houseForm (meaning (x .version) (x .records) (x .columns)) in
+      let g = houseForm (headerMeaning (x .version) (x .records) (x .columns)) in
       rw (x .form) (b .0, more g (b .1) (rooms limits none (room t) n g l), b .2)
     where
       more : (g : Bytes) {v : Version} {rs : List Record} {c : Columns} → Accepted v rs c (reading limits none (room t) g)
@@ -214,12 +195,12 @@ module _ {imposed : Option Version} {h : Bytes} {t : List ℕ} {out : Bytes} {r 
       more g {v} {rs} {c} d = ⊎-elim (λ e. absurd (omega (arith, d .number, e))) (λ e. subst (Accepted v rs c) (sym e) d)
 
   -- reading what was written gives the same meaning
-  pub reads-back : (n : ℕ) → room t ≤ n → means none n (written r out₁) ≡ means imposed (room t) h
-  reads-back n l = let b = again n l in means-is none n (written r out₁) (b .1) ∙ ap some (b .2) ∙ sym (means-is imposed (room t) h (wrote call a .accepted))
+  pub reads-back : (n : ℕ) → room t ≤ n → means none n (formWritten r out₁) ≡ means imposed (room t) h
+  reads-back n l = let b = again n l in means-is none n (formWritten r out₁) (b .1) ∙ ap some (b .2) ∙ sym (means-is imposed (room t) h (wrote call a .accepted))
 
   -- a call on what was written, with a table of at least the same size and an output that holds it, is accepted and writes the same
-  pub fixed : {u u₁ : List ℕ} {o o₁ : Bytes} {s : HouseAnswer} → HouseCall limits none (written r out₁) u o s u₁ o₁ → room t ≤ room u → r .length ≤ length o
-      → IsAccepted s × (written s o₁ ≡ written r out₁)
+  pub fixed : {u u₁ : List ℕ} {o o₁ : Bytes} {s : HouseAnswer} → HouseCall limits none (formWritten r out₁) u o s u₁ o₁ → room t ≤ room u → r .length ≤ length o
+      → IsAccepted s × (formWritten s o₁ ≡ formWritten r out₁)
   fixed {u} {o = o} call′ l m =
       let x = wrote call a in
       let d = form-written call′ (reads-back (room u) l ∙ means-is imposed (room t) h (x .accepted)) (x .fits) (omega (arith, x .size)) in

@@ -62,21 +62,21 @@ seenUnder h prefix [] = false
 seenUnder h prefix (e ∷ es) = isUnder h prefix e || seenUnder h prefix es
 
 -- an entry whose key is not typed: an other map, or a text
-abbrev pub isOther : Entry → Bool
-isOther e = ltb 6 (e .kind) && ltb (e .kind) 9
+abbrev pub isOtherRecord : Entry → Bool
+isOtherRecord e = ltb 6 (e .kind) && ltb (e .kind) 9
 
 -- such an entry, and no record of its key is among those before it
 unfoldable pub isFirst : Bytes → List Entry → Entry → Bool
-isFirst h ahead e = isOther e && not (seenUnder h (prefixIn h e) ahead)
+isFirst h ahead e = isOtherRecord e && not (seenUnder h (prefixIn h e) ahead)
 
-abbrev pub given : Bool → List Bytes → List Bytes
-given true ls = ls
-given false ls = []
+abbrev pub linesIf : Bool → List Bytes → List Bytes
+linesIf true ls = ls
+linesIf false ls = []
 
 -- the form's lines of all records whose key is not typed, by its first appearance; `ahead` are the entries before
 unfoldable pub otherLines : Version → Bytes → List Entry → List Entry → List Entry → List Bytes
 otherLines v h all ahead [] = []
-otherLines v h all ahead (e ∷ es) = given (isFirst h ahead e) (picked v h (prefixIn h e) all) ++ otherLines v h all (ahead ++ e ∷ []) es
+otherLines v h all ahead (e ∷ es) = linesIf (isFirst h ahead e) (picked v h (prefixIn h e) all) ++ otherLines v h all (ahead ++ e ∷ []) es
 
 pub record PutsOthers (v : Version) (h : Bytes) (es : List Entry) (old : Bytes) (s r : Progress) (new : Bytes) : Type 0 where
   pub is : AllReadable v h es → WroteLines old s (otherLines v h es [] es) r new

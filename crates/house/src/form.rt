@@ -14,17 +14,15 @@ use records::file_format::FileFormat;
 use records::refusal::Refusal;
 ghost use mathlib.Core.Path.{_≡_};
 ghost use lib.ListN.{length};
-ghost use lib.Seq.{sets};
 ghost use Rattle.rules.specs.Sizes.{limits};
 ghost use Rattle.rules.specs.House.{house};
 ghost use Rattle.records.specs.Formats.{versionOf};
 ghost use Rattle.entries.specs.Values.{limitsOf};
-ghost use Rattle.entries.proofs.Stored.{Packed};
-ghost use Rattle.entries.specs.Tables.{room, stored, entriesIn};
-ghost use Rattle.header.specs.Parsers.{readInto};
+ghost use Rattle.entries.specs.Tables.{entriesIn};
 ghost use Rattle.house.specs.Forms.{columnLine, PutsRecords, PutsForm, WritesForm};
 ghost use Rattle.header.specs.Verdicts.{imposedOf};
-ghost use Rattle.house.specs.Answers.{refusedAs, answerOf, AnswersForm, HouseCall};
+ghost use Rattle.house.specs.Answers.{refusedAnswer, formAnswered, AnswersForm, HouseCall};
+ghost use Rattle.entries.specs.Words.{Packed};
 
 // The outcome, the line and its start, how many entries the table keeps, and the form's length, 0 if none was written.
 pub struct HouseAnswer {
@@ -91,7 +89,8 @@ fn write_form(
     out: &mut [u8],
 ) -> FormOutcome
     requires { ⌜ Packed (limitsOf limits) ⌝ }
-    ensures { λ r. ⌜ WritesForm (limitsOf limits) (versionOf version) (now (h .entry)) (entriesIn (now (kept .entry))) (now (out .entry)) r (now (out .exit)) ⌝ }
+    ensures { λ r. ⌜ WritesForm (limitsOf limits) (versionOf version) (now (h .entry)) (entriesIn (now (kept .entry))) (now (out .entry)) r
+        (now (out .exit)) ⌝ }
 {
     let mut nothing = [0u8; 0];
     let measured = put_form(h, kept, version, limits.line, &mut nothing);
@@ -111,7 +110,7 @@ fn write_form(
 }
 
 fn refuse(x: Refusal, line: usize, start: usize, entries: usize) -> HouseAnswer
-    ensures { λ r. ⌜ r ≡ refusedAs x line start entries ⌝ }
+    ensures { λ r. ⌜ r ≡ refusedAnswer x line start entries ⌝ }
 {
     HouseAnswer {
         outcome: Outcome::Refused(x),
@@ -124,7 +123,7 @@ fn refuse(x: Refusal, line: usize, start: usize, entries: usize) -> HouseAnswer
 
 // The answer after an accepted reading.
 fn answer(read: ReadAnswer, form: FormOutcome) -> HouseAnswer
-    ensures { λ r. ⌜ r ≡ answerOf read form ⌝ }
+    ensures { λ r. ⌜ r ≡ formAnswered read form ⌝ }
 {
     let entries = read.entries;
     let outcome = read.outcome;

@@ -36,7 +36,8 @@ pub fn put_key(
     out: &mut [u8],
     s: Progress,
 ) -> Progress
-    ensures { λ r. ⌜ PutsKey (versionOf version) (now (h .entry)) (entriesIn (now (kept .entry))) (now (prefix .entry)) (now (out .entry)) s r (now (out .exit)) ⌝ }
+    ensures { λ r. ⌜ PutsKey (versionOf version) (now (h .entry)) (entriesIn (now (kept .entry))) (now (prefix .entry)) (now (out .entry)) s r
+        (now (out .exit)) ⌝ }
 {
     let mut progress = s;
     let mut k = 0;

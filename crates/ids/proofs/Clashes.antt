@@ -21,15 +21,14 @@ use Rattle.rules.specs.Shown.{lineIn, idMeaning}
 use Rattle.rules.specs.Reading.{keyOf, idOf, isFields, besideOf, beside, clash}
 use Rattle.rules.specs.House.{writeFields, writeRecord}
 use Rattle.rules.proofs.Firsts.{on-ok}
-use Rattle.rules.proofs.Alls.{All}
 use Rattle.rules.proofs.Groups.{Apart}
 use Rattle.rules.proofs.Records.{Entered}
 use Rattle.rules.proofs.Sound.{Good}
 use Rattle.rules.proofs.Texts.{LineOf, record-in}
-use Rattle.rules.proofs.Trace.{Row, Rows}
-use Rattle.rules.proofs.Shows.{shows-map, ShowsPlain, shows-plain}
-use Rattle.ids.specs.Clashes.{clashNumber, hasKey, keySeen, isUnder, hasId, idSeen, clashBy, clashIn, prefixOf}
+use Rattle.rules.proofs.Shows.{shows-map, shows-plain}
+use Rattle.ids.specs.Clashes.{clashNumber, hasKey, keySeen, isOfKey, isOfId, idSeen, clashBy, clashIn, prefixOf}
 use Rattle.ids.proofs.KeyKinds.{typed-below, number-small, untyped-number, one-key}
+use Rattle.rules.specs.Claims.{All, Row, Rows, ShowsPlain}
 
 -- a line begins `##k=` where its key is k, since no key holds `=`
 key-starts : (k j rest : Bytes) → any (is 61) k ≡ false → any (is 61) j ≡ false → starts (k ++ 61 ∷ []) (j ++ 61 ∷ rest) ≡ same j k
@@ -74,7 +73,7 @@ module _ (lim : Limits) (h : Bytes) (v : Version) (e : Entry) where
         id = λ q. d .id;
       }
   kept (text k t) row g =
-      let d : ShowsPlain lim h v textKind (row .line) e = rw (row .entry) (shows-plain lim h v textKind (row .start) (row .line) refl refl (row .there .here) (row .there .inside)) in
+      let d : ShowsPlain h textKind (row .line) e = rw (row .entry) (shows-plain lim h v textKind (row .start) (row .line) refl refl (row .there .here) (row .there .inside)) in
       let l : row .line ≡ writeRecord (text k t) = on-ok (LineOf (row .line)) (record-in v (row .line)) (row .read) in
       record {
         kind = d .is-kind;
@@ -109,8 +108,8 @@ module _ (h prefix : Bytes) (kind : ℕ) (e : Entry) {n : ℕ} (ek : e .kind ≡
   unfolding hasKey
   key-parts f = ap₂ (λ (x : ℕ) (y : Bool). eqb x kind && y) ek f
 
-  id-parts : (m : Bytes) {q r : Bool} → isUnder h prefix kind e ≡ q → same (idMeaning h e) m ≡ r → hasId h prefix kind m e ≡ (eqb n kind && (q && r))
-  unfolding hasId
+  id-parts : (m : Bytes) {q r : Bool} → isOfKey h prefix kind e ≡ q → same (idMeaning h e) m ≡ r → isOfId h prefix kind m e ≡ (eqb n kind && (q && r))
+  unfolding isOfId
   id-parts m f g = ap₂ (λ (x : ℕ) (y : Bool). eqb x kind && y) ek (ap₂ _&&_ f g)
 
 module _ (h : Bytes) (v : Version) (k : Bytes) (plain : any (is 61) k ≡ false) (e : Entry) where
@@ -118,14 +117,14 @@ module _ (h : Bytes) (v : Version) (k : Bytes) (plain : any (is 61) k ≡ false)
   kind = mapKind (kindOf k)
 
   -- a typed kind's entries are under one key
-  under-key : (j : Bytes) → mapKind (kindOf j) ≡ kind → starts (prefixOf k) (lineIn h e) ≡ same j k → isUnder h (prefixOf k) kind e ≡ same j k
-  unfolding isUnder
+  under-key : (j : Bytes) → mapKind (kindOf j) ≡ kind → starts (prefixOf k) (lineIn h e) ≡ same j k → isOfKey h (prefixOf k) kind e ≡ same j k
+  unfolding isOfKey
   under-key j a s = elim (test (ltb kind 7)) [
     | pass l ↦ rw l (sym (same-self k) ∙ ap (λ (x : Bytes). same x k) (sym (one-key j k a (ltb-true kind 7 l))))
     | fail l ↦ rw l s
   ]
 
-  id-of-entry : (m : Bytes) (s : Record) → Entered v s → Kept h v e s → hasId h (prefixOf k) kind m e ≡ hasIdUnder v k m s
+  id-of-entry : (m : Bytes) (s : Record) → Entered v s → Kept h v e s → isOfId h (prefixOf k) kind m e ≡ hasIdUnder v k m s
   id-of-entry m (fileformat w) g d = absurd g
   id-of-entry m (text j t) g d =
       let n : 8 ≡ kind → ⊥ = λ i. omega (arith, number-small (kindOf k) .1) in
@@ -160,7 +159,7 @@ module _ (h : Bytes) (v : Version) (k : Bytes) (plain : any (is 61) k ≡ false)
 
 -- the records' answer, where each entry answers as its record does
 module _ (lim : Limits) (h : Bytes) (v : Version) where
-  ids-among : (prefix : Bytes) (kind : ℕ) (m : Bytes) (t : Record → Bool) → ((e : Entry) (s : Record) → Entered v s → Kept h v e s → hasId h prefix kind m e ≡ t s)
+  ids-among : (prefix : Bytes) (kind : ℕ) (m : Bytes) (t : Record → Bool) → ((e : Entry) (s : Record) → Entered v s → Kept h v e s → isOfId h prefix kind m e ≡ t s)
       → (es : List Entry) (rs : List Record) → Rows lim h v es rs → All (Entered v) rs → idSeen h prefix kind m es ≡ among t rs
   unfolding idSeen among
   ids-among prefix kind m t f [] [] rows g = refl
@@ -287,7 +286,7 @@ answer-text kind i t false k = rw k
 -- the fileformat line's entry has no part in it
 module _ (h prefix : Bytes) (e₀ : Entry) (format : e₀ .kind ≡ formatKind) (es : List Entry) where
   skip-id : (kind : ℕ) (m : Bytes) → 2 ≤ kind → idSeen h prefix kind m (e₀ ∷ es) ≡ idSeen h prefix kind m es
-  unfolding idSeen hasId
+  unfolding idSeen isOfId
   skip-id kind m l = rw (ne-eqb (e₀ .kind) kind (λ e. omega arith))
 
   skip-key : (kind : ℕ) → 2 ≤ kind → keySeen h prefix kind (e₀ ∷ es) ≡ keySeen h prefix kind es

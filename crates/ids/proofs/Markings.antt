@@ -16,11 +16,11 @@ use Rattle.values.proofs.Markings.{mark-length, mark-own, mark-kept, sure}
 use Rattle.rules.specs.Known.{other}
 use Rattle.rules.specs.Entry.{Entry, mapKind, textKind}
 use Rattle.rules.specs.Shown.{lineIn, idIn, idMeaning}
-use Rattle.rules.proofs.Alls.{All}
 use Rattle.entries.specs.declared.entry.Entry.{Entry as CodeEntry}
 use Rattle.entries.specs.Values.{entryOf}
-use Rattle.ids.specs.Clashes.{hasKey, keySeen, isUnder, hasId, idSeen, clashBy, clashIn}
+use Rattle.ids.specs.Clashes.{hasKey, keySeen, isOfKey, isOfId, idSeen, clashBy, clashIn}
 use Rattle.ids.specs.Marks.{markEntry, Marked, keyFound, idFound, clashFound}
+use Rattle.rules.specs.Claims.{All}
 
 -- What is marked stays so
 
@@ -84,12 +84,12 @@ module _ (h ms prefix : Bytes) (kind : ℕ) where
   ]
 
   id-marked : 2 ≤ kind → kind ≤ 7 → (m : Bytes) (es : List Entry) → All (Marked h ms) es → idSeen h prefix kind m es ≡ true → isMarked ms kind m ≡ true
-  unfolding idSeen hasId
+  unfolding idSeen isOfId
   id-marked n l m [] a f = absurd (false≢true f)
-  id-marked n l m (e ∷ es) a f = elim (test (hasId h prefix kind m e)) [
+  id-marked n l m (e ∷ es) a f = elim (test (isOfId h prefix kind m e)) [
     | pass g ↦
-        let k = eqb-true (e .kind) kind (and-l (eqb (e .kind) kind) (isUnder h prefix kind e && same (idMeaning h e) m) g) in
-        let i = and-r (isUnder h prefix kind e) (same (idMeaning h e) m) (and-r (eqb (e .kind) kind) (isUnder h prefix kind e && same (idMeaning h e) m) g) in
+        let k = eqb-true (e .kind) kind (and-l (eqb (e .kind) kind) (isOfKey h prefix kind e && same (idMeaning h e) m) g) in
+        let i = and-r (isOfKey h prefix kind e) (same (idMeaning h e) m) (and-r (eqb (e .kind) kind) (isOfKey h prefix kind e && same (idMeaning h e) m) g) in
         subst (λ (i : ℕ). isMarked ms i m ≡ true) k (subst (λ (x : Bytes). isMarked ms (e .kind) x ≡ true) (same-sound (idMeaning h e) m i) (a .0 .id (omega arith) (omega arith)))
     | fail g ↦ id-marked n l m es (a .1) (rw g at f)
   ]

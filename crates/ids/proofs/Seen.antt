@@ -24,19 +24,19 @@ use Rattle.entries.specs.declared.entry.Entry.{Entry as CodeEntry}
 use Rattle.entries.specs.Values.{entryOf}
 use Rattle.entries.specs.Tables.{room, entriesIn, entryIn}
 use Rattle.entries.proofs.Stored.{entries-here, entries-past}
-use Rattle.ids.specs.Clashes.{hasKey, keySeen, isUnder, hasId, idSeen, mapClash, clashBy, lastOf, MayEqual, Candidate}
+use Rattle.ids.specs.Clashes.{hasKey, keySeen, isOfKey, isOfId, idSeen, mapClash, clashBy, lastOf, MayEqual, Candidate}
 use Rattle.ids.specs.Marks.{markEntry}
 use Rattle.ids.specs.declared.scan.Clash.{Clash}
 use Rattle.ids.specs.declared.scan.Clash.the-variants.{Free, TypedId, Mixed, OtherId}
 
 -- what answers the needs of `is_under`
 module _ (h prefix : Bytes) (kind : ℕ) (e : Entry) where
-  pub typed-under : kind < 7 → true ≡ isUnder h prefix kind e
-  unfolding isUnder
+  pub typed-under : kind < 7 → true ≡ isOfKey h prefix kind e
+  unfolding isOfKey
   typed-under l = rw (lt-ltb kind 7 l)
 
-  pub other-under : 7 ≤ kind → {p : Bytes} → p ≡ lineIn h e → {r : Bool} → r ≡ starts prefix p → r ≡ isUnder h prefix kind e
-  unfolding isUnder
+  pub other-under : 7 ≤ kind → {p : Bytes} → p ≡ lineIn h e → {r : Bool} → r ≡ starts prefix p → r ≡ isOfKey h prefix kind e
+  unfolding isOfKey
   other-under l a b = b ∙ rw (le-ltb kind 7 l, a)
 
 pub ruleset unders = (typed-under, other-under)
@@ -72,19 +72,19 @@ pub ruleset mays = (may, other-length, other-last)
 -- what answers the needs of `is_candidate`; t and u are what the code's tests answered
 module _ {h : Bytes} (e : Entry) {prefix : Bytes} {kind : ℕ} {id : Bytes} {last : ℕ} {quoted : Bool} where
   pub other-kind : (e .kind ≡ kind → ⊥) → Candidate h e prefix kind id last quoted false
-  unfolding hasId
+  unfolding isOfId
   other-kind ne = record { passed = λ f. absurd (false≢true f); failed = λ l f. rw (ne-eqb (e .kind) kind ne) }
 
   module _ (ek : e .kind ≡ kind) {t : Bool} (m : MayEqual h e id last quoted t) where
     pub unequal : not t ≡ true → Candidate h e prefix kind id last quoted false
-    unfolding hasId
+    unfolding isOfId
     unequal n = record {
       passed = λ f. absurd (false≢true f);
-      failed = λ l f. rw (eq-eqb (e .kind) kind ek, m .other l (not-true t n)) (and-off (isUnder h prefix kind e) refl);
+      failed = λ l f. rw (eq-eqb (e .kind) kind ek, m .other l (not-true t n)) (and-off (isOfKey h prefix kind e) refl);
     }
 
-    pub candidate : {u : Bool} → u ≡ isUnder h prefix kind e → Candidate h e prefix kind id last quoted u
-    unfolding hasId
+    pub candidate : {u : Bool} → u ≡ isOfKey h prefix kind e → Candidate h e prefix kind id last quoted u
+    unfolding isOfId
     candidate eu = record {
       passed = λ f. rw (eq-eqb (e .kind) kind ek, ← eu, f);
       failed = λ l f. rw (eq-eqb (e .kind) kind ek, ← eu, f);
@@ -154,11 +154,11 @@ module _ {h prefix : Bytes} {kind : ℕ} {id : Bytes} {quoted : Bool} {t : List 
 
   module _ (l : k < n) {e : CodeEntry} (ee : entryOf e ≡ entryIn t k) where
     ids-turn : idSeen h prefix kind (meaning quoted id) (entriesIn t)
-        ≡ (hasId h prefix kind (meaning quoted id) (entryOf e) || idSeen h prefix kind (meaning quoted id) (drop (k + 1) (entriesIn t)))
+        ≡ (isOfId h prefix kind (meaning quoted id) (entryOf e) || idSeen h prefix kind (meaning quoted id) (drop (k + 1) (entriesIn t)))
     unfolding idSeen
     ids-turn = g .still ∙ rw (entries-here t k (rw (← en) l), ← ee)
 
-    ids-next : hasId h prefix kind (meaning quoted id) (entryOf e) ≡ false → Ids h prefix kind id quoted t found (k + 1)
+    ids-next : isOfId h prefix kind (meaning quoted id) (entryOf e) ≡ false → Ids h prefix kind id quoted t found (k + 1)
     ids-next f = record { none = g .none; still = ids-turn ∙ rw f }
 
     module _ {last : ℕ} {q : Bool} (m : Candidate h (entryOf e) prefix kind id last quoted q) where
@@ -168,7 +168,7 @@ module _ {h prefix : Bytes} {kind : ℕ} {id : Bytes} {quoted : Bool} {t : List 
       -- the code holds the entry's ID in p
       pub within-start : not q ≡ false → {p : Bytes} → p ≡ idIn h (entryOf e) → Within h prefix kind id quoted t found (k + 1) p (e .quoted) 0 0
       within-start f {p} ep =
-          let i : hasId h prefix kind (meaning quoted id) (entryOf e) ≡ same (meaning (e .quoted) p) (meaning quoted id) = m .passed (not-false q f) ∙ rw ep in
+          let i : isOfId h prefix kind (meaning quoted id) (entryOf e) ≡ same (meaning (e .quoted) p) (meaning quoted id) = m .passed (not-false q f) ∙ rw ep in
           record {
             comparing = compare p (e .quoted) id quoted;
             other = λ a. ids-next (i ∙ sym a);

@@ -33,16 +33,16 @@ keySeen h prefix kind [] = false
 keySeen h prefix kind (e ∷ es) = hasKey h prefix kind e || keySeen h prefix kind es
 
 -- a typed kind has one key; an other record's key is told by its line
-unfoldable pub isUnder : Bytes → Bytes → ℕ → Entry → Bool
-isUnder h prefix kind e = ltb kind 7 || starts prefix (lineIn h e)
+unfoldable pub isOfKey : Bytes → Bytes → ℕ → Entry → Bool
+isOfKey h prefix kind e = ltb kind 7 || starts prefix (lineIn h e)
 
 -- an entry of this kind and key whose ID has the meaning id
-unfoldable pub hasId : Bytes → Bytes → ℕ → Bytes → Entry → Bool
-hasId h prefix kind id e = eqb (e .kind) kind && (isUnder h prefix kind e && same (idMeaning h e) id)
+unfoldable pub isOfId : Bytes → Bytes → ℕ → Bytes → Entry → Bool
+isOfId h prefix kind id e = eqb (e .kind) kind && (isOfKey h prefix kind e && same (idMeaning h e) id)
 
 unfoldable pub idSeen : Bytes → Bytes → ℕ → Bytes → List Entry → Bool
 idSeen h prefix kind id [] = false
-idSeen h prefix kind id (e ∷ es) = hasId h prefix kind id e || idSeen h prefix kind id es
+idSeen h prefix kind id (e ∷ es) = isOfId h prefix kind id e || idSeen h prefix kind id es
 
 -- 20, then 21, for an other map: whether its key was seen with a text, and its ID
 abbrev pub mapClash : Bool → Bool → Clash
@@ -73,5 +73,5 @@ pub record MayEqual (h : Bytes) (e : Entry) (id : Bytes) (last : ℕ) (quoted r 
 
 -- where all tests pass, the IDs decide; where one fails, the entry is another
 pub record Candidate (h : Bytes) (e : Entry) (prefix : Bytes) (kind : ℕ) (id : Bytes) (last : ℕ) (quoted r : Bool) : Type 0 where
-  pub passed : r ≡ true → hasId h prefix kind (meaning quoted id) e ≡ same (idMeaning h e) (meaning quoted id)
-  pub failed : last ≡ lastOf id → r ≡ false → hasId h prefix kind (meaning quoted id) e ≡ false
+  pub passed : r ≡ true → isOfId h prefix kind (meaning quoted id) e ≡ same (idMeaning h e) (meaning quoted id)
+  pub failed : last ≡ lastOf id → r ≡ false → isOfId h prefix kind (meaning quoted id) e ≡ false

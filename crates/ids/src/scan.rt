@@ -16,7 +16,7 @@ ghost use Rattle.rules.specs.Entry.{mapKind, textKind};
 ghost use Rattle.rules.specs.Shown.{idMeaning};
 ghost use Rattle.entries.specs.Values.{entryOf};
 ghost use Rattle.entries.specs.Tables.{entriesIn};
-ghost use Rattle.ids.specs.Clashes.{lastOf, isUnder, MayEqual, Candidate, keySeen, idSeen, mapClash};
+ghost use Rattle.ids.specs.Clashes.{lastOf, isOfKey, MayEqual, Candidate, keySeen, idSeen, mapClash};
 ghost use Rattle.ids.specs.Marks.{markEntry, keyFound, idFound, clashFound};
 
 pub enum Clash {
@@ -35,7 +35,7 @@ struct Wanted {
 
 // A typed kind has one key; an other record's key is told by its line.
 fn is_under(h: &[u8], e: Entry, prefix: &[u8], kind: u8) -> bool
-    ensures { λ r. ⌜ r ≡ isUnder (now (h .entry)) (now (prefix .entry)) kind (entryOf e) ⌝ }
+    ensures { λ r. ⌜ r ≡ isOfKey (now (h .entry)) (now (prefix .entry)) kind (entryOf e) ⌝ }
 {
     if kind < kind::OTHER_MAP {
         return true;
@@ -171,7 +171,8 @@ fn has_id(h: &[u8], kept: &[u64], marks: &mut [u8], prefix: &[u8], new: Entry) -
 
 fn find_map_clash(h: &[u8], kept: &[u64], marks: &mut [u8], prefix: &[u8], new: Entry) -> Clash
     ensures clash { λ r.
-        ⌜ r ≡ mapClash (keyFound (now (h .entry)) (entriesIn (now (kept .entry))) (now (marks .entry)) (now (prefix .entry)) textKind) (idFound (now (h .entry)) (entriesIn (now (kept .entry))) (now (marks .entry)) (now (prefix .entry)) (entryOf new)) ⌝ }
+        ⌜ r ≡ mapClash (keyFound (now (h .entry)) (entriesIn (now (kept .entry))) (now (marks .entry)) (now (prefix .entry)) textKind)
+        (idFound (now (h .entry)) (entriesIn (now (kept .entry))) (now (marks .entry)) (now (prefix .entry)) (entryOf new)) ⌝ }
     ensures marks { λ _. ⌜ now (marks .exit) ≡ mark (mark (now (marks .entry)) (new .kind) (idMeaning (now (h .entry)) (entryOf new))) (mapKind other) [] ⌝ }
 {
     let mixed = has_key(h, kept, marks, prefix, kind::OTHER_TEXT);

@@ -17,18 +17,19 @@ use Rattle.values.proofs.Lists.{some-is}
 use Rattle.values.proofs.Sames.{same-sound}
 use Rattle.rules.specs.Answer.{unless}
 use Rattle.rules.specs.Version.{Version, v4-3, earlier}
-use Rattle.rules.specs.Known.{Kind, isIn, kindOf, letters, numberOr, letterIn, readNumber}
+use Rattle.rules.specs.Known.{Kind, isIn, kindOf, letters, countOr, letterIn, readNumber}
 use Rattle.rules.specs.Known.{count, letter}
 use Rattle.rules.specs.Known.{Number as Asked}
-use Rattle.rules.specs.Reserved.{Row, tableOf, lookRow, reserved, isNumber, declares}
+use Rattle.rules.specs.Reserved.{ReservedRow, tableOf, lookRow, reserved, isNumber, declares}
 use Rattle.rules.specs.Map.{valueNamed, misdeclared}
 use Rattle.records.specs.Keys.{bytesOf}
 use Rattle.records.specs.Numbers.{isInteger, isNumberOf, typeName}
 use Rattle.records.specs.Definitions.{asked, definitionMeans, outline, infoList, formatList}
-use Rattle.records.specs.Maps.{textIn, Declared}
+use Rattle.records.specs.Fields.{textIn}
+use Rattle.records.specs.Maps.{Declared}
 use Rattle.records.specs.Records.{fits}
-use Rattle.records.specs.declared.key.Key.{Key}
-use Rattle.records.specs.declared.key.Key.the-variants as key
+use Rattle.records.specs.declared.key.MapKey.{MapKey}
+use Rattle.records.specs.declared.key.MapKey.the-variants as key
 use Rattle.records.specs.declared.number.Number.{Number}
 use Rattle.records.specs.declared.number.Number.the-variants.{Count, A, R, G}
 use Rattle.records.specs.declared.number.ValueType.{ValueType}
@@ -56,11 +57,11 @@ module _ (v : Version) (kind : Kind) (l t : Bytes) (no : u64Read l ≡ integer.R
     | fail q ↦ sym q
   ]
 
-  letter-asked : (i : IntegerRead) → u64Read t ≡ i → isNumber (letter l) (numberOr (letterIn (letters v kind) t) i) ≡ same l t
+  letter-asked : (i : IntegerRead) → u64Read t ≡ i → isNumber (letter l) (countOr (letterIn (letters v kind) t) i) ≡ same l t
   letter-asked (integer.Value m) e = integer-not e
   letter-asked integer.Refused e = elim (test (isIn t (letters v kind))) [ pass q ↦ rw (isNumber, q) | fail q ↦ rw (isNumber, q) (letter-not q) ]
 
-count-asked : (n : ℕ) (ls : List Bytes) (t : Bytes) (i : IntegerRead) → isNumber (count n) (numberOr (letterIn ls t) i) ≡ isInteger n i
+count-asked : (n : ℕ) (ls : List Bytes) (t : Bytes) (i : IntegerRead) → isNumber (count n) (countOr (letterIn ls t) i) ≡ isInteger n i
 count-asked n ls t (integer.Value m) = eqb-sym n m
 count-asked n ls t integer.Refused = elim (test (isIn t ls)) [ pass q ↦ rw (isNumber, q) | fail q ↦ rw (isNumber, q) ]
 
@@ -72,7 +73,7 @@ module _ (v : Version) (kind : Kind) (t raw : Bytes) (q : Bool) (m : t ≡ meani
   number-asked R = letter-asked v kind (ascii "R") t refl refl (u64Read t) refl ∙ ap (same (ascii "R")) m
   number-asked G = letter-asked v kind (ascii "G") t refl refl (u64Read t) refl ∙ ap (same (ascii "G")) m
 
-  declares-as : (ty : Bytes) (p : Bool) {y : Bytes} → y ≡ meaning p ty → (d : Definition) (r : Option Row) → definitionMeans d ≡ outline r → declares r (readNumber v kind t) y ≡ fits d raw q ty p
+  declares-as : (ty : Bytes) (p : Bool) {y : Bytes} → y ≡ meaning p ty → (d : Definition) (r : Option ReservedRow) → definitionMeans d ≡ outline r → declares r (readNumber v kind t) y ≡ fits d raw q ty p
   declares-as ty p w Unreserved none e = refl
   declares-as ty p w Unreserved (some r) e = never cc
   declares-as ty p w (Of x z) none e = never cc
@@ -89,20 +90,20 @@ pub table-format : tableOf (kindOf (bytesOf key.Format)) ≡ formatList
 unfolding kindOf same
 table-format = sym format-rows
 
-module _ (v : Version) (key : Key) (s : Bytes) (id number kind : Text) {e : Bool} (a : e ≡ earlier v v4-3) where
+module _ (v : Version) (key : MapKey) (s : Bytes) (id number kind : Text) {e : Bool} (a : e ≡ earlier v v4-3) where
   pub unreserved-yet : e ≡ true → Declared v key s id number kind true
   unfolding misdeclared reserved
-  unreserved-yet f = record { is = λ k at tag named t. rw (misdeclared, reserved, sym a ∙ f) }
+  unreserved-yet f = record { is = λ at tag t. rw (misdeclared, reserved, sym a ∙ f) }
 
-  pub reserved-asked : e ≡ false → {rows : List Row} → tableOf (kindOf (bytesOf key)) ≡ rows → {n x y : Bytes} → n ≡ textIn s id → x ≡ textIn s number → y ≡ textIn s kind
+  pub reserved-asked : e ≡ false → {rows : List ReservedRow} → tableOf (kindOf (bytesOf key)) ≡ rows → {n x y : Bytes} → n ≡ textIn s id → x ≡ textIn s number → y ≡ textIn s kind
       → (d : Definition) → definitionMeans d ≡ outline (lookRow (meaning (id .quoted) n) rows) → {r : Bool} → r ≡ fits d x (number .quoted) y (kind .quoted) → Declared v key s id number kind r
   unfolding misdeclared reserved
   reserved-asked f {rows} q {n} {x} {y} i j l d m {r} z = record {
-    is = λ k at tag named t.
-        let row : lookRow (valueNamed v k (ascii "ID") (t .fs)) (tableOf (kindOf k)) ≡ lookRow (meaning (id .quoted) n) rows
-        = ap₂ lookRow (t .id-is ∙ ap (meaning (id .quoted)) (sym i)) (ap tableOf (named .kind) ∙ q) in
+    is = λ at tag t.
+        let row : lookRow (valueNamed v (bytesOf key) (ascii "ID") (t .fs)) (tableOf (kindOf (bytesOf key))) ≡ lookRow (meaning (id .quoted) n) rows
+        = ap₂ lookRow (t .id-is ∙ ap (meaning (id .quoted)) (sym i)) q in
         rw (misdeclared, reserved, sym a ∙ f, row) (ap (λ (b : Bool). unless b 18) (
-        declares-as v (kindOf k) (valueNamed v k (ascii "Number") (t .fs)) x (number .quoted) (t .number-is ∙ ap (meaning (number .quoted)) (sym j)) (t .raw ∙ ap u64Read (sym j))
+        declares-as v (kindOf (bytesOf key)) (valueNamed v (bytesOf key) (ascii "Number") (t .fs)) x (number .quoted) (t .number-is ∙ ap (meaning (number .quoted)) (sym j)) (t .raw ∙ ap u64Read (sym j))
         y (kind .quoted) (t .kind-is ∙ ap (meaning (kind .quoted)) (sym l)) d (lookRow (meaning (id .quoted) n) rows) m
         ∙ sym z));
   }

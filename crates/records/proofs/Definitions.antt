@@ -6,17 +6,17 @@ use mathlib.Core.Option.{Option, none, some}
 use Rattle.values.specs.Bytes.{Bytes}
 use Rattle.rules.specs.Known.{isIn}
 use Rattle.rules.specs.Known.{Number as Asked}
-use Rattle.rules.specs.Reserved.{Row, row, infoRows, formatRows, lookRow}
+use Rattle.rules.specs.Reserved.{ReservedRow, reservedRow, infoRows, formatRows, lookRow}
 use Rattle.records.specs.Lists.{listed}
 use Rattle.records.specs.Definitions.{outline, infoList, formatList}
 
 -- q is what the code's test answered
-module _ (id names : Bytes) (n : Asked) (t : Bytes) (rs : List Row) {q : Bool} (a : q ≡ isIn id (listed names)) where
-  pub row-here : q ≡ true → some (n, t) ≡ outline (lookRow id (row (listed names) n t ∷ rs))
+module _ (id names : Bytes) (n : Asked) (t : Bytes) (rs : List ReservedRow) {q : Bool} (a : q ≡ isIn id (listed names)) where
+  pub row-here : q ≡ true → some (n, t) ≡ outline (lookRow id (reservedRow (listed names) n t ∷ rs))
   unfolding lookRow
   row-here e = rw (lookRow, sym a ∙ e)
 
-  pub row-later : q ≡ false → {d : Option (Asked × Bytes)} → d ≡ outline (lookRow id rs) → d ≡ outline (lookRow id (row (listed names) n t ∷ rs))
+  pub row-later : q ≡ false → {d : Option (Asked × Bytes)} → d ≡ outline (lookRow id rs) → d ≡ outline (lookRow id (reservedRow (listed names) n t ∷ rs))
   unfolding lookRow
   row-later e f = rw (lookRow, sym a ∙ e) f
 

@@ -15,7 +15,7 @@ use Rattle.values.proofs.Tests.{not-true, not-false}
 use Rattle.values.proofs.Lists.{here, rest, from-at, from-begins}
 use Rattle.values.proofs.Fields.{before-part}
 use Rattle.values.proofs.Integers.{read-bound}
-use Rattle.rules.specs.Version.{version, earlier, versionOf, readParts, readVersion}
+use Rattle.rules.specs.Version.{version, earlier, versionFrom, readParts, readVersion}
 use Rattle.records.specs.Formats.{formatOf, formatRead}
 use Rattle.records.specs.Formats.{versionOf as versionIn}
 use Rattle.records.specs.declared.file_format.FileFormat.{FileFormat}
@@ -54,13 +54,13 @@ module _ (s : Bytes) {q : Bool} (a : q ≡ starts (ascii "VCFv") s) (e : not q �
   no-point h = rw (parts, readParts, point, drop-of-length-le s h)
 
   module _ (h : p < length s) where
-    both-parts : readParts (drop 4 s) ≡ versionOf (u32Read (take (p - 4) (drop 4 s))) (u32Read (take (length s - (p + 1)) (drop (p + 1) s)))
+    both-parts : readParts (drop 4 s) ≡ versionFrom (u32Read (take (p - 4) (drop 4 s))) (u32Read (take (length s - (p + 1)) (drop (p + 1) s)))
     unfolding readParts begins
     both-parts =
         let d = point ∙ here s p h in
         let x = before (is 46) (drop 4 s) in
         let k : x ≡ take (p - 4) (drop 4 s) = sym (before-part (is 46) s 4 f) in
-        rw (readParts, from-begins 46 (drop 4 s) d) (ap₂ (λ (a b : Bytes). versionOf (u32Read a) (u32Read b)) k (ap tail d ∙ sym (rest s (p + 1))))
+        rw (readParts, from-begins 46 (drop 4 s) d) (ap₂ (λ (a b : Bytes). versionFrom (u32Read a) (u32Read b)) k (ap tail d ∙ sym (rest s (p + 1))))
 
     pub bad-major : {m : IntegerRead} → m ≡ u32Read (take (p - 4) (drop 4 s)) → m ≡ integer.Refused → read.Refused ≡ formatRead (readVersion s)
     bad-major i r = rw (parts, both-parts, sym i ∙ r)

@@ -1,26 +1,37 @@
 -- Keys by their case. Assumes nothing.
-use Prim.Native.Nat.{ℕ}
-use mathlib.Core.Path.{_≡_, refl, sym, _∙_}
-use mathlib.Core.Bool.{Bool, true, false, not}
-use mathlib.Core.List.{List, [], _∷_}
+use Prim.Native.Nat.{ℕ, _+_}
+use mathlib.Core.Path.{_≡_, refl, sym, ap, ap₂, _∙_}
+use mathlib.Core.Bool.{Bool, true, false, not, _||_, _&&_}
+use mathlib.Core.List.{List, [], _∷_, map, tail}
+use mathlib.Core.Option.{Option, some}
 use lib.Dec.{eqb}
-use Rattle.values.specs.Bytes.{Bytes, ascii, same}
-use Rattle.values.proofs.Tests.{pass, fail, test}
+use lib.ListN.{length}
+use borrow.Author.Tests.{eq-eqb, ne-eqb}
+use Rattle.values.specs.Bytes.{Bytes, ascii, begins, same}
+use Rattle.values.specs.Field.{Field, writtenField}
+use Rattle.values.specs.Places.{textAt}
+use Rattle.values.specs.declared.string.Text.{Text}
+use Rattle.values.proofs.Tests.{pass, fail, test, not-true, not-false}
 use Rattle.values.proofs.Sames.{same-sound, same-sym}
-use Rattle.rules.specs.Version.{Version, v4-3, earlier}
-use Rattle.rules.specs.Known.{isIn, kindOf, isTyped, alwaysMap}
-use Rattle.rules.specs.Map.{isMeta}
-use Rattle.rules.specs.Entry.{mapKind}
-use Rattle.records.specs.Keys.{bytesOf, keys, among, keyNamed, Named, keyKind}
-use Rattle.records.specs.declared.key.Key.{Key}
-use Rattle.records.specs.declared.key.Key.the-variants.{FileFormat, Info, Filter, Format, AlternativeAllele, Contig, Meta, Pedigree, Other}
+use Rattle.rules.specs.Answer.{unless, first, judged}
+use Rattle.rules.specs.Version.{Version, v4-3, v4-5, earlier, since}
+use Rattle.rules.specs.Known.{Kind, INFO, FILTER, FORMAT, ALT, contig, other, KnownField, required, isIn, kindOf, isInfo, isFormat, isTyped, alwaysMap, namesId, nameOf}
+use Rattle.rules.specs.Map.{Scan, isMeta, isSome, readFields, checkFields, fieldNamed, missing, misdeclared, mapRefusal, readMap}
+use Rattle.rules.specs.Record.{looksMap, isMap}
+use Rattle.rules.specs.Entry.{mapKind, textNamed}
+use Rattle.records.specs.Keys.{bytesOf, keys, among, keyNamed, Named, kindBy, isMetaKey, isPedigreeKey, contextOf}
+use Rattle.records.specs.Formats.{versionOf}
+use Rattle.records.specs.declared.file_format.FileFormat.{FileFormat}
+use Rattle.records.specs.declared.key.MapContext.{MapContext}
+use Rattle.records.specs.declared.key.MapKey.{MapKey}
+use Rattle.records.specs.declared.key.MapKey.the-variants.{Info, Filter, Format, AlternativeAllele, Contig, Meta, Pedigree, Other}
 
 -- the keys are tried one after the other; q is what the code's test answered
-pub key-here : (j : Key) (js : List Key) (k : Bytes) {q : Bool} → q ≡ same k (bytesOf j) → q ≡ true → j ≡ among (j ∷ js) k
+pub key-here : (j : MapKey) (js : List MapKey) (k : Bytes) {q : Bool} → q ≡ same k (bytesOf j) → q ≡ true → j ≡ among (j ∷ js) k
 unfolding among
 key-here j js k a e = rw (among, sym a ∙ e)
 
-pub key-later : (j : Key) (js : List Key) (k : Bytes) {q : Bool} → q ≡ same k (bytesOf j) → q ≡ false → {x : Key} → x ≡ among js k → x ≡ among (j ∷ js) k
+pub key-later : (j : MapKey) (js : List MapKey) (k : Bytes) {q : Bool} → q ≡ same k (bytesOf j) → q ≡ false → {x : MapKey} → x ≡ among js k → x ≡ among (j ∷ js) k
 unfolding among
 key-later j js k a e f = rw (among, sym a ∙ e) f
 
@@ -30,25 +41,76 @@ key-none k = refl
 
 pub ruleset tried = (key-here, key-later, key-none)
 
-pub meta-brackets : (v : Version) {q : Bool} → q ≡ earlier v v4-3 → not q ≡ isMeta v (bytesOf Meta)
+meta-case : (key : MapKey) → isMetaKey key ≡ same (bytesOf key) (ascii "META")
 unfolding same
-meta-brackets v a = rw a
+meta-case Info = refl
+meta-case Filter = refl
+meta-case Format = refl
+meta-case AlternativeAllele = refl
+meta-case Contig = refl
+meta-case Meta = refl
+meta-case Pedigree = refl
+meta-case Other = refl
 
-pub key-kind : (key : Key) → mapKind (kindOf (bytesOf key)) ≡ keyKind key
+pedigree-case : (key : MapKey) → isPedigreeKey key ≡ same (bytesOf key) (ascii "PEDIGREE")
+unfolding same
+pedigree-case Info = refl
+pedigree-case Filter = refl
+pedigree-case Format = refl
+pedigree-case AlternativeAllele = refl
+pedigree-case Contig = refl
+pedigree-case Meta = refl
+pedigree-case Pedigree = refl
+pedigree-case Other = refl
+
+module _ (key : MapKey) {q : Bool} (a : q ≡ isMetaKey key) where
+  is-meta : {x : Bool} → q ≡ x → same (bytesOf key) (ascii "META") ≡ x
+  is-meta e = sym (meta-case key) ∙ sym a ∙ e
+
+  pub meta-always : q ≡ true → true ≡ alwaysMap (bytesOf key)
+  unfolding alwaysMap
+  meta-always e = rw (is-meta e)
+
+  pub pedigree-always : q ≡ false → {p : Bool} → p ≡ isPedigreeKey key → p ≡ alwaysMap (bytesOf key)
+  unfolding alwaysMap
+  pedigree-always e b = rw (is-meta e) (b ∙ pedigree-case key)
+
+  pub no-brackets : (v : Version) → not q ≡ true → false ≡ isMeta v (bytesOf key)
+  no-brackets v e = rw (is-meta (not-true q e))
+
+  pub meta-brackets : (v : Version) → not q ≡ false → {e : Bool} → e ≡ earlier v v4-3 → not e ≡ isMeta v (bytesOf key)
+  meta-brackets v e b = rw (is-meta (not-false q e), b)
+
+module _ (key : MapKey) (v : Version) {q : Bool} (a : q ≡ isPedigreeKey key) where
+  pub not-pedigree : not q ≡ true → false ≡ (same (bytesOf key) (ascii "PEDIGREE") && earlier v v4-3)
+  not-pedigree e = rw (← pedigree-case key, ← a, not-true q e)
+
+  pub pedigree-lineage : not q ≡ false → {e : Bool} → e ≡ earlier v v4-3 → e ≡ (same (bytesOf key) (ascii "PEDIGREE") && earlier v v4-3)
+  pedigree-lineage e b = rw (← pedigree-case key, ← a, not-false q e) b
+
+pub context-of : (key : MapKey) (version : FileFormat) (start : ℕ) {b : Bool} → b ≡ isMeta (versionOf version) (bytesOf key)
+    → _≡_ {A = MapContext} (record { key = key; version = version; brackets = b; start = start }) (contextOf key version start)
+context-of key version start e = ap (λ (b : Bool). record { key = key; version = version; brackets = b; start = start }) e
+
+pub ruleset always = (meta-always, pedigree-always)
+
+pub ruleset brackets = (no-brackets, meta-brackets)
+
+pub ruleset lineages = (not-pedigree, pedigree-lineage)
+
+pub kind-by-case : (key : MapKey) → kindOf (bytesOf key) ≡ kindBy key
 unfolding kindOf same
-key-kind FileFormat = refl
-key-kind Info = refl
-key-kind Filter = refl
-key-kind Format = refl
-key-kind AlternativeAllele = refl
-key-kind Contig = refl
-key-kind Meta = refl
-key-kind Pedigree = refl
-key-kind Other = refl
+kind-by-case Info = refl
+kind-by-case Filter = refl
+kind-by-case Format = refl
+kind-by-case AlternativeAllele = refl
+kind-by-case Contig = refl
+kind-by-case Meta = refl
+kind-by-case Pedigree = refl
+kind-by-case Other = refl
 
-typed-kind : (key : Key) → not (eqb (keyKind key) 7) ≡ isTyped (bytesOf key)
+typed-kind : (key : MapKey) → not (eqb (mapKind (kindBy key)) 7) ≡ isTyped (bytesOf key)
 unfolding isTyped isIn same
-typed-kind FileFormat = refl
 typed-kind Info = refl
 typed-kind Filter = refl
 typed-kind Format = refl
@@ -58,13 +120,52 @@ typed-kind Meta = refl
 typed-kind Pedigree = refl
 typed-kind Other = refl
 
+info-kind : (kind : Kind) → eqb (mapKind kind) 2 ≡ isInfo kind
+info-kind INFO = refl
+info-kind FILTER = refl
+info-kind FORMAT = refl
+info-kind ALT = refl
+info-kind contig = refl
+info-kind other = refl
+
+format-kind : (kind : Kind) → eqb (mapKind kind) 4 ≡ isFormat kind
+format-kind INFO = refl
+format-kind FILTER = refl
+format-kind FORMAT = refl
+format-kind ALT = refl
+format-kind contig = refl
+format-kind other = refl
+
 -- the typed keys are those whose maps have a kind of their own
-pub typed-by-kind : (key : Key) {n : ℕ} → n ≡ keyKind key → not (eqb n 7) ≡ isTyped (bytesOf key)
+pub typed-by-kind : (key : MapKey) {n : ℕ} → n ≡ mapKind (kindBy key) → not (eqb n 7) ≡ isTyped (bytesOf key)
 typed-by-kind key e = rw e (typed-kind key)
 
+pub info-by-kind : (key : MapKey) {n : ℕ} → n ≡ mapKind (kindBy key) → eqb n 2 ≡ isInfo (kindBy key)
+info-by-kind key e = rw e (info-kind (kindBy key))
+
+module _ (key : MapKey) (v : Version) {n : ℕ} (a : n ≡ mapKind (kindBy key)) where
+  pub not-format : (n ≡ 4 → ⊥) → false ≡ (isFormat (kindBy key) && since v4-5 v)
+  not-format h = rw (← format-kind (kindBy key), ← a, ne-eqb n 4 h)
+
+  pub format-since : n ≡ 4 → {e : Bool} → e ≡ earlier v v4-5 → not e ≡ (isFormat (kindBy key) && since v4-5 v)
+  format-since h b = rw (← format-kind (kindBy key), ← a, eq-eqb n 4 h, b)
+
+pub ruleset kinds = (info-by-kind, not-format, format-since)
+
 -- a key, and its case
-known-key : (key : Key) (k : Bytes) → same k (bytesOf key) ≡ true → Named k key
-known-key key k e = rw (same-sound k (bytesOf key) e) (record { kind = refl; typed = refl; always = refl; meta = refl; pedigree = refl; format = refl })
+unformatted : (key : MapKey) → same (bytesOf key) (ascii "fileformat") ≡ false
+unfolding same
+unformatted Info = refl
+unformatted Filter = refl
+unformatted Format = refl
+unformatted AlternativeAllele = refl
+unformatted Contig = refl
+unformatted Meta = refl
+unformatted Pedigree = refl
+unformatted Other = refl
+
+known-key : (key : MapKey) (k : Bytes) → same k (bytesOf key) ≡ true → Named k key
+known-key key k e = rw (same-sound k (bytesOf key) e) (record { kind = refl; typed = refl; always = refl; meta = refl; pedigree = refl; format = unformatted key })
 
 pub record Unnamed (k : Bytes) : Type 0 where
   pub info : same k (ascii "INFO") ≡ false
@@ -94,11 +195,11 @@ unfolding same
 named-other k u = record { kind = other-kind k u; typed = other-typed k u; always = other-always k u; meta = u .meta; pedigree = u .pedigree; format = u .fileformat }
 
 -- none of these
-abbrev NoneOf : List Key → Bytes → Type 0
+abbrev NoneOf : List MapKey → Bytes → Type 0
 NoneOf [] k = Unit {0}
 NoneOf (j ∷ js) k = (same k (bytesOf j) ≡ false) × NoneOf js k
 
-among-named : (js : List Key) (k : Bytes) → (NoneOf js k → Named k Other) → Named k (among js k)
+among-named : (js : List MapKey) (k : Bytes) → (NoneOf js k → Named k Other) → Named k (among js k)
 unfolding among
 among-named [] k f = f tt
 among-named (j ∷ js) k f = elim (test (same k (bytesOf j))) [
@@ -107,8 +208,8 @@ among-named (j ∷ js) k f = elim (test (same k (bytesOf j))) [
 ]
 
 -- a key has what its case has
-pub named : (k : Bytes) → Named k (keyNamed k)
-named k = among-named keys k (λ a. named-other k (record {
+pub named : (k : Bytes) → same k (ascii "fileformat") ≡ false → Named k (keyNamed k)
+named k e = among-named keys k (λ a. named-other k (record {
   info = a .0;
   format = a .1 .0;
   contig = a .1 .1 .0;
@@ -116,5 +217,59 @@ named k = among-named keys k (λ a. named-other k (record {
   alt = a .1 .1 .1 .1 .0;
   meta = a .1 .1 .1 .1 .1 .0;
   pedigree = a .1 .1 .1 .1 .1 .1 .0;
-  fileformat = a .1 .1 .1 .1 .1 .1 .1 .0;
+  fileformat = e;
 }))
+
+-- What the rules read of a map goes by the case of its key
+
+module _ (v : Version) (k : Bytes) (key : MapKey) (n : Named k key) where
+  pub name-by-case : (field : Bytes) → nameOf v k field ≡ nameOf v (bytesOf key) field
+  unfolding nameOf namesId
+  name-by-case field = rw (nameOf, namesId, n .pedigree)
+
+  check-by-case : (seen : List Bytes) (fs : List Field) → checkFields v k seen fs ≡ checkFields v (bytesOf key) seen fs
+  unfolding checkFields
+  check-by-case seen [] = refl
+  check-by-case seen (f ∷ fs) = rw (name-by-case (f .key), n .kind, check-by-case (nameOf v (bytesOf key) (f .key) ∷ seen) fs)
+
+  field-by-case : (name : Bytes) (fs : List Field) → fieldNamed v k name fs ≡ fieldNamed v (bytesOf key) name fs
+  unfolding fieldNamed
+  field-by-case name [] = refl
+  field-by-case name (f ∷ fs) =
+      ap₂ (λ (b : Bool) (o : Option Field). elim b [ true ↦ some f | false ↦ o ]) (ap (λ (x : Bytes). same x name) (name-by-case (f .key))) (field-by-case name fs)
+
+  pub text-by-case : (name : Bytes) (at : ℕ) (fs : List Field) → textNamed v k name at fs ≡ textNamed v (bytesOf key) name at fs
+  unfolding textNamed
+  text-by-case name at [] = refl
+  text-by-case name at (f ∷ fs) =
+      ap₂ (λ (b : Bool) (o : Option (Bytes × Text)). elim b [ true ↦ some (f .key, textAt (at + length (f .key) + 1) (f .value)) | false ↦ o ])
+      (ap (λ (x : Bytes). same x name) (name-by-case (f .key))) (text-by-case name (at + length (writtenField f) + 1) fs)
+
+  asks-by-case : (fs : List Field) (rs : List KnownField) → map (λ (r : KnownField). unless (isSome (fieldNamed v k (r .name) fs)) (r .missing)) rs
+      ≡ map (λ (r : KnownField). unless (isSome (fieldNamed v (bytesOf key) (r .name) fs)) (r .missing)) rs
+  asks-by-case fs [] = refl
+  asks-by-case fs (r ∷ rs) = ap₂ _∷_ (ap (λ (o : Option Field). unless (isSome o) (r .missing)) (field-by-case (r .name) fs)) (asks-by-case fs rs)
+
+  missing-by-case : (fs : List Field) → missing v k fs ≡ missing v (bytesOf key) fs
+  unfolding missing
+  missing-by-case fs = rw (n .kind) (ap first (asks-by-case fs (required (kindOf (bytesOf key)))))
+
+  misdeclared-by-case : (fs : List Field) → misdeclared v k fs ≡ misdeclared v (bytesOf key) fs
+  unfolding misdeclared
+  misdeclared-by-case fs = rw (n .kind, field-by-case (ascii "ID") fs, field-by-case (ascii "Number") fs, field-by-case (ascii "Type") fs)
+
+  refusal-by-case : (x : Scan) → mapRefusal v k x ≡ mapRefusal v (bytesOf key) x
+  unfolding mapRefusal
+  refusal-by-case x = rw (check-by-case [] (x .0), missing-by-case (x .0), misdeclared-by-case (x .0))
+
+  pub map-by-case : (x : Bytes) → readMap v k x ≡ readMap v (bytesOf key) x
+  unfolding readMap
+  map-by-case x = elim (test (begins 60 x)) [
+    | pass e ↦ rw (readMap, e, n .meta, n .always) (
+        let s = readFields (isMeta v (bytesOf key)) (alwaysMap (bytesOf key)) (tail x) in
+        ap (λ (m : ℕ). judged m (s .0)) (refusal-by-case s))
+    | fail e ↦ rw (readMap, e)
+  ]
+
+  pub looks-by-case : (x : Bytes) → isMap v k x ≡ isMap v (bytesOf key) x
+  looks-by-case x = ap₂ (λ (t a : Bool). t || (a || looksMap v x)) (n .typed) (n .always)

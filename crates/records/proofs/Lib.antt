@@ -5,10 +5,10 @@ pub mod Lists
 pub mod Numbers
 pub mod Definitions
 pub mod Tags
-pub mod Maps
-pub mod Names
 pub mod Checks
 pub mod Walks
+pub mod Maps
+pub mod Fields
 pub mod Steps
 pub mod Loops
 pub mod Required
@@ -16,4 +16,3 @@ pub mod Typed
 pub mod Declares
 pub mod Records
 pub mod Determined
-pub mod Searches

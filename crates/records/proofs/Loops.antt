@@ -8,102 +8,88 @@ use lib.Dec.{eqb}
 use lib.ListN.{length, drop, getD, drop-of-length-le}
 use borrow.Author.Tests.{eqb-true}
 use Rattle.values.specs.Bytes.{Bytes, is, empty, begins}
-use Rattle.values.specs.Field.{Field, writtenField}
+use Rattle.values.specs.Field.{Field}
 use Rattle.values.specs.declared.cursor.Cursor.{Cursor}
 use Rattle.values.proofs.Tests.{and-r, not-true, not-false}
 use Rattle.values.proofs.Lists.{here}
 use Rattle.rules.specs.Answer.{unless, first}
 use Rattle.rules.specs.Version.{Version}
 use Rattle.rules.specs.Known.{alwaysMap}
-use Rattle.rules.specs.Map.{more, done, wrong, after, closing, Scan, scan, readFields, checkFields, isMeta}
+use Rattle.rules.specs.Map.{done, wrong, after, closingRefusal, Scan, scan, readFields, checkFields}
 use Rattle.rules.specs.Entry.{textNamed}
-use Rattle.records.specs.Keys.{bytesOf, Named}
-use Rattle.records.specs.Tags.{knownBy, Suits}
-use Rattle.records.specs.Maps.{get, noSlots, closes, closesAt, bareAt, FieldsFrom, Held, Walk, scannedFrom, StepIs, StepMoves, Steps, ScanIs, Scans, FieldsAre}
-use Rattle.records.specs.declared.key.Key.{Key}
+use Rattle.records.specs.Formats.{versionOf}
+use Rattle.records.specs.Keys.{bytesOf, contextOf, versionIn, keyBytes}
+use Rattle.records.specs.Maps.{get, noSlots, closes, closesAt, bareAt, Held, Walk, scannedFrom, StepIs, StepMoves, ReadsField, WalksFields, fieldsAfter, ReadsFields}
+use Rattle.records.specs.declared.file_format.FileFormat.{FileFormat}
+use Rattle.records.specs.declared.key.MapKey.{MapKey}
+use Rattle.records.specs.declared.key.MapContext.{MapContext}
 use Rattle.records.specs.declared.refusal.Refusal.{Refusal}
 use Rattle.records.specs.declared.refusal.Refusal.the-variants.{InvalidMap}
 use Rattle.records.specs.declared.tag.Tag.{Tag}
-use Rattle.records.specs.declared.tag.Tag.the-variants.{Id, Number, ValueType, Description, Idx, Length, Other}
-use Rattle.records.specs.declared.tag.Known.{Known}
+use Rattle.records.specs.declared.tag.Tag.the-variants.{Id, Number, ValueType, Description, Length, Md5, Url, Idx, Other}
 use Rattle.records.specs.declared.map.Slot.the-variants as slot
 use Rattle.records.specs.declared.map.Slots.{Slots}
 use Rattle.records.specs.declared.map.FieldStep.{FieldStep}
 use Rattle.records.specs.declared.map.FieldStep.the-variants as step
 use Rattle.records.specs.declared.map.FieldsRead.{FieldsRead}
 use Rattle.records.specs.declared.map.FieldsRead.the-variants as fields
-use Rattle.rules.proofs.Scans.{scan-more}
-
--- fields that were read stand first in the scan
-walk-scan : (m : Bool) (s : Bytes) (start : ℕ) (before : List Field) (at fuel : ℕ) → FieldsFrom m s start before at → length (drop start s) ≤ fuel
-    → (n : ℕ) × (length (drop at s) ≤ n) × (scan fuel m (drop start s) ≡ scannedFrom m s before at n)
-unfolding after
-walk-scan m s start [] at fuel w h = rw (← w) (fuel, h, refl)
-walk-scan m s start (f ∷ fs) at fuel w h =
-    let t = drop (start + length (writtenField f) + 1) s in
-    let x = scan-more m (drop start s) (w .0) fuel h (comma t) in
-    let y = walk-scan m s (start + length (writtenField f) + 1) fs at (x .0) (w .1) (x .1) in
-    (y .0, y .1, x .2 ∙ rw (y .2))
-  where
-    comma : (t : Bytes) → after (44 ∷ t) ≡ more t
-    comma t = refl
+use Rattle.records.proofs.Walks.{walk-scan}
 
 no-slot : (t : Tag) → get t noSlots ≡ slot.Empty
 no-slot Id = refl
 no-slot Number = refl
 no-slot ValueType = refl
 no-slot Description = refl
-no-slot Idx = refl
 no-slot Length = refl
+no-slot Md5 = refl
+no-slot Url = refl
+no-slot Idx = refl
 no-slot Other = refl
 
-none-held : (n : Known) (v : Version) (k : Bytes) (start : ℕ) → Held n v k start [] noSlots
+none-held : (v : Version) (k : Bytes) (start : ℕ) → Held v k start [] noSlots
 unfolding textNamed
-none-held n v k start = record { each = λ t e i. no-slot t }
+none-held v k start = record { each = λ t e i. no-slot t; plainly = refl }
 
 -- the fields before the cursor
-pub record Walking (n : Known) (v : Version) (m : Bool) (s : Bytes) (start at : ℕ) (slots : Slots) (plain : Bool) : Type 0 where
-  pub before : (k : Bytes) → Suits n k → (before : List Field) × Walk n v k m s start before at slots plain
+pub record Walking (x : MapContext) (s : Bytes) (at : ℕ) (slots : Slots) : Type 0 where
+  pub before : List Field
+  pub walk : Walk x s before at slots
 
-pub walk-start : (n : Known) (v : Version) (m : Bool) (s : Bytes) (start : ℕ) {slots : Slots} → slots ≡ noSlots → Walking n v m s start start slots true
+pub walk-start : (x : MapContext) (s : Bytes) {slots : Slots} → slots ≡ noSlots → Walking x s (x .start) slots
 unfolding checkFields
-walk-start n v m s start e = record { before = λ k suits. ([], record { fields = refl; fine = refl; held = rw e (none-held n v k start); plainly = refl }) }
+walk-start x s e = record { before = []; walk = record { fields = refl; fine = refl; held = rw e (none-held (versionIn x) (keyBytes x) (x .start)) } }
 
-module _ {n : Known} {v : Version} {m : Bool} {s : Bytes} {start at : ℕ} {slots : Slots} {plain : Bool} (g : Walking n v m s start at slots plain) {r : FieldStep} (a : Steps n v m s start at slots plain r) where
-  stepped : {x : FieldStep} → r ≡ x → (k : Bytes) (suits : Suits n k) → StepIs n v k m s start (g .before k suits .0) at x
-  stepped e k suits = subst (StepIs n v k m s start (g .before k suits .0) at) e (a .is k (g .before k suits .0) suits (g .before k suits .1))
+module _ {x : MapContext} {s : Bytes} {at : ℕ} {slots : Slots} (g : Walking x s at slots) {r : FieldStep} (a : ReadsField x s at slots r) where
+  stepped : {y : FieldStep} → r ≡ y → StepIs x s (g .before) at y
+  stepped e = subst (StepIs x s (g .before) at) e (a .is (g .before) (g .walk))
 
-  moved : {x : FieldStep} → r ≡ x → StepMoves s at x
-  moved e = subst (StepMoves s at) e (a .moves)
+  pub walk-next : {d : Cursor} {kept : Slots} → r ≡ step.Next d kept → Walking x s (d .at) kept
+  walk-next e = let y = stepped e in record { before = g .before ++ y .0 ∷ []; walk = y .1 }
 
-  pub walk-next : {d : Cursor} {kept : Slots} {still : Bool} → r ≡ step.Next d kept still → Walking n v m s start (d .at) kept still
-  walk-next e = record { before = λ k suits. let x = stepped e k suits in (g .before k suits .0 ++ x .0 ∷ [], x .1) }
+  pub walk-less : {d : Cursor} {kept : Slots} → r ≡ step.Next d kept → length s - d .at < length s - at
+  walk-less e = let y = subst (StepMoves s at) e (a .moves) in omega arith
 
-  pub walk-less : {d : Cursor} {kept : Slots} {still : Bool} → r ≡ step.Next d kept still → length s - d .at < length s - at
-  walk-less e = let x = moved e in omega arith
+  scanned : (j : ℕ) × (length (drop at s) ≤ j) × (scan (length (drop (x .start) s)) (x .brackets) (drop (x .start) s) ≡ scannedFrom (x .brackets) s (g .before) at j)
+  scanned = walk-scan (x .brackets) s (x .start) (g .before) at (length (drop (x .start) s)) (g .walk .fields) (omega arith)
 
-  scanned : (k : Bytes) (suits : Suits n k)
-      → (j : ℕ) × (length (drop at s) ≤ j) × (scan (length (drop start s)) m (drop start s) ≡ scannedFrom m s (g .before k suits .0) at j)
-  scanned k suits = walk-scan m s start (g .before k suits .0) at (length (drop start s)) (g .before k suits .1 .fields) (omega arith)
+  pub walk-refused : {y : Refusal} → r ≡ step.Refused y → WalksFields x s (fields.Refused y)
+  walk-refused e = record { is = let z = scanned in rw (z .2) (stepped e (z .0) (z .1)) }
 
-  pub walk-refused : {x : Refusal} → r ≡ step.Refused x → Scans n v m s start (fields.Refused x)
-  walk-refused e = record { is = λ k suits. let y = scanned k suits in rw (y .2) (stepped e k suits (y .0) (y .1)) }
-
-  pub walk-last : {kept : Slots} → r ≡ step.Last kept → Scans n v m s start (fields.Fields kept)
+  pub walk-last : {kept : Slots} → r ≡ step.Last kept → WalksFields x s (fields.Fields kept)
   unfolding first
   walk-last e = record {
-    is = λ k suits.
-        let y = scanned k suits in
-        let x = stepped e k suits in
-        let z = x .3 (y .0) (y .1) in
-        rw (y .2, z) (rw (x .2), x .1);
+    is =
+        let z = scanned in
+        let y = stepped e in
+        let w = y .3 (z .0) (z .1) in
+        rw (z .2, w) (rw (y .2), y .1);
   }
 
 pub ruleset walks = (walk-start, walk-next, walk-less, walk-refused, walk-last)
 
 -- No field at all
 
-module _ (s : Bytes) (c : Cursor) (key : Key) {q : Bool} (a : q ≡ alwaysMap (bytesOf key)) where
+module _ (s : Bytes) (c : Cursor) (key : MapKey) {q : Bool} (a : q ≡ alwaysMap (bytesOf key)) where
   pub bare-never : q ≡ true → false ≡ bareAt s (c .at) (alwaysMap (bytesOf key))
   bare-never e = rw (sym a ∙ e)
 
@@ -119,39 +105,38 @@ pub ruleset bares = (bare-never, bare-end, bare-byte)
 abbrev noField : ℕ → Scan
 noField n = ([], n)
 
-closed-after : (x : Bytes) → empty x || begins 62 x ≡ true → closing (after x) ≡ unless (closes x) 8
+closed-after : (x : Bytes) → empty x || begins 62 x ≡ true → closingRefusal (after x) ≡ unless (closes x) 8
 unfolding after begins
 closed-after [] e = refl
 closed-after (b ∷ x) e = rw (eqb-true b 62 e) (go (empty x))
   where
-    go : (q : Bool) → closing (elim q [ true ↦ done | false ↦ wrong ]) ≡ unless q 8
+    go : (q : Bool) → closingRefusal (elim q [ true ↦ done | false ↦ wrong ]) ≡ unless q 8
     go true = refl
     go false = refl
 
-module _ (v : Version) (key : Key) (s : Bytes) (c : Cursor) {q : Bool} (a : q ≡ bareAt s (c .at) (alwaysMap (bytesOf key))) where
-  pub fields-read : not q ≡ true → {n : Known} → n ≡ knownBy key → {m : Bool} → m ≡ isMeta v (bytesOf key) → {r : FieldsRead} → Scans n v m s (c .at) r → FieldsAre v key s (c .at) r
+module _ (version : FileFormat) (key : MapKey) (s : Bytes) (c : Cursor) {q : Bool} (a : q ≡ bareAt s (c .at) (alwaysMap (bytesOf key))) where
+  pub fields-read : not q ≡ true → {x : MapContext} → x ≡ contextOf key version (c .at) → {r : FieldsRead} → WalksFields x s r → ReadsFields (versionOf version) key s (c .at) r
   unfolding readFields
-  fields-read e {n} f {m} g {r} h = record {
-    is = λ k named.
-        let b : bareAt s (c .at) (alwaysMap k) ≡ false = rw (named .always) (sym a ∙ not-true q e) in
-        let w : isMeta v k ≡ m = rw (named .meta) (sym g) in
-        rw (readFields, b, w) (subst (λ (n : Known). ScanIs n v k (c .at) (scan (length (drop (c .at) s)) m (drop (c .at) s)) r) f
-        (h .is k (record { key = key; is = f; named = named })));
+  fields-read e f {r} h = record {
+    is =
+        let y = subst (λ (x : MapContext). WalksFields x s r) f h .is in
+        let b = sym a ∙ not-true q e in
+        rw (readFields, b) y;
   }
 
   module _ (e : not q ≡ false) where
-    bare : (k : Bytes) → Named k key → readFields (isMeta v k) (alwaysMap k) (drop (c .at) s) ≡ ([], unless (closes (drop (c .at) s)) 8)
+    bare : fieldsAfter (versionOf version) (bytesOf key) s (c .at) ≡ ([], unless (closes (drop (c .at) s)) 8)
     unfolding readFields
-    bare k named =
-        let b : bareAt s (c .at) (alwaysMap k) ≡ true = rw (named .always) (sym a ∙ not-false q e) in
-        rw (readFields, b) (ap noField (closed-after (drop (c .at) s) (and-r (not (alwaysMap k)) _ b)))
+    bare =
+        let b = sym a ∙ not-false q e in
+        rw (readFields, b) (ap noField (closed-after (drop (c .at) s) (and-r (not (alwaysMap (bytesOf key))) _ b)))
 
-    pub fields-none : {x : Bool} → x ≡ closesAt s (c .at) → x ≡ true → {slots : Slots} → slots ≡ noSlots → FieldsAre v key s (c .at) (fields.Fields slots)
+    pub fields-none : {x : Bool} → x ≡ closesAt s (c .at) → x ≡ true → {slots : Slots} → slots ≡ noSlots → ReadsFields (versionOf version) key s (c .at) (fields.Fields slots)
     unfolding first checkFields
-    fields-none f g h = record { is = λ k named. rw (bare k named, sym f ∙ g) (refl, rw h (none-held (knownBy key) v k (c .at))) }
+    fields-none f g h = record { is = rw (bare, sym f ∙ g) (refl, rw h (none-held (versionOf version) (bytesOf key) (c .at))) }
 
-    pub fields-unclosed : {x : Bool} → x ≡ closesAt s (c .at) → x ≡ false → FieldsAre v key s (c .at) (fields.Refused InvalidMap)
+    pub fields-unclosed : {x : Bool} → x ≡ closesAt s (c .at) → x ≡ false → ReadsFields (versionOf version) key s (c .at) (fields.Refused InvalidMap)
     unfolding first checkFields
-    fields-unclosed f g = record { is = λ k named. rw (bare k named, sym f ∙ g) }
+    fields-unclosed f g = record { is = rw (bare, sym f ∙ g) }
 
 pub ruleset all-fields = (fields-read, fields-none, fields-unclosed)

@@ -1,32 +1,31 @@
 -- Maps: the code's tests of what stands around the fields. Assumes nothing.
 use Prim.Native.Nat.{ℕ, _+_, _-_, _≤_, _<_}
 use native.Mathlib.Omega.{arith}
-use mathlib.Core.Path.{_≡_, refl, sym, _∙_}
-use mathlib.Core.Bool.{Bool, true, false, not, _||_, _&&_}
+use mathlib.Core.Path.{_≡_, refl, sym, ap, _∙_}
+use mathlib.Core.Bool.{Bool, true, false, _||_, _&&_}
 use mathlib.Core.List.{[], _∷_}
 use lib.Dec.{eqb}
 use lib.ListN.{length, drop, take, getD, drop-of-length-le}
 use borrow.Author.Tests.{eq-eqb, ne-eqb}
 use Rattle.values.specs.Bytes.{Bytes, ascii, is, empty, begins, starts}
-use Rattle.values.specs.Places.{to, separatorAt}
+use Rattle.values.specs.Places.{cursorAt, separatorAt}
 use Rattle.values.specs.declared.field.Separator.{Separator}
 use Rattle.values.specs.declared.field.Separator.the-variants as separator
 use Rattle.values.specs.declared.cursor.Cursor.{Cursor}
-use Rattle.values.proofs.Tests.{not-true, not-false}
 use Rattle.values.proofs.Lists.{here, rest, Stands, there, past, stands}
 use Rattle.values.proofs.Fields.{placed-comma, placed-other}
 use Rattle.rules.specs.Version.{Version, v4-3, v4-5, earlier, since}
 use Rattle.rules.specs.Map.{done, wrong, after}
 use Rattle.rules.specs.Record.{looksMap}
-use Rattle.records.specs.Maps.{opensAt, closes, closesAt, afterPlaced, afterAt, checkNumber, tagRefusal, put}
+use Rattle.records.specs.Maps.{opensAt, closes, closesAt, afterPlaced, afterAt, checkNumber, rawRefusal, put}
 use Rattle.values.specs.Value.{meaning}
 use Rattle.rules.specs.Answer.{unless}
-use Rattle.rules.specs.Known.{isIn}
+use Rattle.rules.specs.Known.{Kind, isInfo, isFormat, isIn, letters, types}
 use Rattle.records.specs.Refusals.{number}
+use Rattle.records.specs.Tags.{tagRow}
 use Rattle.records.specs.Numbers.{isCount, lettersOf, typesOf}
 use Rattle.records.specs.declared.refusal.Refusal.{Refusal}
 use Rattle.records.specs.declared.refusal.Refusal.the-variants.{InvalidNumber, InvalidType, InvalidInteger}
-use Rattle.records.specs.declared.tag.Known.{Known}
 use Rattle.records.specs.declared.tag.Tag.{Tag}
 use Rattle.records.specs.declared.tag.Tag.the-variants.{Number, ValueType, Idx, Length}
 use Rattle.records.specs.declared.map.Slot.{Slot}
@@ -60,7 +59,7 @@ module _ (s : Bytes) (at : ℕ) where
   unfolding begins
   open-past h = rw (drop-of-length-le s h)
 
-  pub open-here : at < length s → getD s at 0 ≡ 60 → prefix.Consumed (to (at + 1)) ≡ opensAt s at
+  pub open-here : at < length s → getD s at 0 ≡ 60 → prefix.Consumed (cursorAt (at + 1)) ≡ opensAt s at
   unfolding begins
   open-here h e = rw (here s at h, begins, eq-eqb (getD s at 0) 60 e)
 
@@ -85,7 +84,7 @@ pub ruleset opens = (open-past, open-here, open-other)
 
 pub ruleset closings = (close-past, close-other, close-last)
 
-comma-after : (at : ℕ) (x : Bytes) → begins 44 x ≡ true → afters.More (to (at + 1)) ≡ afterPlaced at (after x)
+comma-after : (at : ℕ) (x : Bytes) → begins 44 x ≡ true → afters.More (cursorAt (at + 1)) ≡ afterPlaced at (after x)
 unfolding after begins
 comma-after at [] e = cc
 comma-after at (b ∷ x) e = rw (after, e)
@@ -129,27 +128,21 @@ check-refused x b e = rw e
 
 pub ruleset checks = (check-passed, check-refused)
 
-pub not-format : (n : Known) (v : Version) → not (n .format) ≡ true → false ≡ (n .format && since v4-5 v)
-not-format n v e = rw (not-true (n .format) e)
+module _ (v : Version) (kind : Kind) (t : Tag) (s : Bytes) (q : Bool) where
+  pub number-checked : t ≡ Number → {l : Bool} → l ≡ (isFormat kind && since v4-5 v) → {b : Bool} → b ≡ (isCount s || isIn (meaning q s) (lettersOf l)) → {r : ℕ}
+      → r ≡ unless b (number InvalidNumber) → r ≡ rawRefusal v kind s q (tagRow t)
+  unfolding letters
+  number-checked e f g h = rw e (h ∙ ap (λ (b : Bool). unless b 11) (g ∙ ap (λ (l : Bool). isCount s || isIn (meaning q s) (lettersOf l)) f))
 
-pub format-since : (n : Known) (v : Version) → not (n .format) ≡ false → {e : Bool} → e ≡ earlier v v4-5 → not e ≡ (n .format && since v4-5 v)
-format-since n v e a = rw (not-false (n .format) e, a)
+  pub type-checked : t ≡ ValueType → {f : Bool} → f ≡ isInfo kind → {b : Bool} → b ≡ isIn (meaning q s) (typesOf f) → {r : ℕ}
+      → r ≡ unless b (number InvalidType) → r ≡ rawRefusal v kind s q (tagRow t)
+  unfolding types
+  type-checked e f g h = rw e (h ∙ ap (λ (b : Bool). unless b 12) (g ∙ ap (λ (l : Bool). isIn (meaning q s) (typesOf l)) f))
 
-pub ruleset locals = (not-format, format-since)
-
-module _ (n : Known) (v : Version) (t : Tag) (s : Bytes) (q : Bool) where
-  pub number-checked : t ≡ Number → {l : Bool} → l ≡ (n .format && since v4-5 v) → {b : Bool} → b ≡ (isCount s || isIn (meaning q s) (lettersOf l)) → {r : ℕ}
-      → r ≡ unless b (number InvalidNumber) → r ≡ tagRefusal n v t s q
-  number-checked e f g h = rw (e, ← f, ← g) h
-
-  pub type-checked : t ≡ ValueType → {b : Bool} → b ≡ isIn (meaning q s) (typesOf (n .info)) → {r : ℕ}
-      → r ≡ unless b (number InvalidType) → r ≡ tagRefusal n v t s q
-  type-checked e g h = rw (e, ← g) h
-
-  pub idx-checked : t ≡ Idx → {b : Bool} → b ≡ isCount s → {r : ℕ} → r ≡ unless b (number InvalidInteger) → r ≡ tagRefusal n v t s q
+  pub idx-checked : t ≡ Idx → {b : Bool} → b ≡ isCount s → {r : ℕ} → r ≡ unless b (number InvalidInteger) → r ≡ rawRefusal v kind s q (tagRow t)
   idx-checked e g h = rw (e, ← g) h
 
-  pub length-checked : t ≡ Length → {b : Bool} → b ≡ isCount s → {r : ℕ} → r ≡ unless b (number InvalidInteger) → r ≡ tagRefusal n v t s q
+  pub length-checked : t ≡ Length → {b : Bool} → b ≡ isCount s → {r : ℕ} → r ≡ unless b (number InvalidInteger) → r ≡ rawRefusal v kind s q (tagRow t)
   length-checked e g h = rw (e, ← g) h
 
 pub ruleset values = (number-checked, type-checked, idx-checked, length-checked)

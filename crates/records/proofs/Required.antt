@@ -14,21 +14,20 @@ use Rattle.values.specs.declared.string.Text.{Text}
 use Rattle.values.proofs.Tests.{pass, fail, test, never}
 use Rattle.rules.specs.Answer.{refuse, unless, first, judged}
 use Rattle.rules.specs.Version.{Version, v4-3, since}
-use Rattle.rules.specs.Known.{kindOf, nameOf, required, alwaysMap}
+use Rattle.rules.specs.Known.{kindOf, KnownField, idField, rows, rowNamed, nameOf, required, alwaysMap}
 use Rattle.rules.specs.Reserved.{tableOf, lookRow, reserved}
 use Rattle.rules.specs.Map.{Scan, after, scan, readFields, isMeta, checkFields, isSome, fieldNamed, missing, misdeclared, mapRefusal, readMap}
 use Rattle.rules.specs.Entry.{textNamed}
 use Rattle.rules.specs.House.{writeFields}
-use Rattle.rules.proofs.Alls.{All}
 use Rattle.rules.proofs.Fields.{was-more, was-done, was-wrong, see-after, no-field, a-field, see-field}
 use Rattle.rules.proofs.Texts.{fields-in}
 use Rattle.rules.proofs.Shows.{AnyAt}
 use Rattle.values.proofs.Lists.{on-some}
 use Rattle.values.proofs.Raws.{Raw, field-raw}
-use Rattle.records.specs.Keys.{bytesOf, Named}
-use Rattle.records.specs.Tags.{knownBy, isKept, knows, tagName}
-use Rattle.records.specs.Maps.{get, slotted, opened, opensAt, Held, scanRefusal, ScanIs, FieldsAre, OpenIs, OpenAre, MapIs, MapAre, Identified, Described}
-use Rattle.records.specs.declared.key.Key.{Key}
+use Rattle.records.specs.Keys.{bytesOf}
+use Rattle.records.specs.Tags.{tagRow, isKept, tagName}
+use Rattle.records.specs.Maps.{get, slotted, opened, opensAt, Held, scanRefusal, ScanIs, fieldsAfter, ReadsFields, OpenIs, OpensMap, ParsesMap, Identified, Described}
+use Rattle.records.specs.declared.key.MapKey.{MapKey}
 use Rattle.records.specs.declared.refusal.Refusal.{Refusal}
 use Rattle.records.specs.declared.refusal.Refusal.the-variants.{InvalidMap, MissingId, MissingDescription}
 use Rattle.records.specs.declared.tag.Tag.{Tag}
@@ -42,7 +41,9 @@ use Rattle.records.specs.declared.map.FieldsRead.{FieldsRead}
 use Rattle.records.specs.declared.map.FieldsRead.the-variants as fields
 use Rattle.records.specs.declared.map.MapRead.the-variants as maps
 use Rattle.records.proofs.Refusals.{number-suc}
+use Rattle.records.proofs.Tags.{id-row}
 use Rattle.records.proofs.Walks.{first-alone}
+use Rattle.rules.specs.Claims.{All}
 
 -- The opening of a map
 
@@ -74,23 +75,23 @@ scan-refused : (v : Version) (k : Bytes) (z : Scan) {m : ℕ} → scanRefusal v 
 unfolding mapRefusal
 scan-refused v k z {m} e = scan-first (checkFields v k [] (z .0)) (z .1) (missing v k (z .0)) (misdeclared v k (z .0)) m e
 
-module _ (v : Version) (key : Key) (s : Bytes) (c : Cursor) {r : Prefix} (a : r ≡ opensAt s (c .at)) where
-  pub map-unopened : r ≡ prefix.Missing → OpenAre v key s (c .at) (fields.Refused InvalidMap)
+module _ (v : Version) (key : MapKey) (s : Bytes) (c : Cursor) {r : Prefix} (a : r ≡ opensAt s (c .at)) where
+  pub map-unopened : r ≡ prefix.Missing → OpensMap v key s (c .at) (fields.Refused InvalidMap)
   unfolding readMap
-  map-unopened e = record { is = λ k named. rw (readMap, no-open (c .at) (begins 60 (drop (c .at) s)) (sym a ∙ e)) }
+  map-unopened e = record { is = rw (readMap, no-open (c .at) (begins 60 (drop (c .at) s)) (sym a ∙ e)) }
 
-  pub map-opened : {d : Cursor} → r ≡ prefix.Consumed d → (x : FieldsRead) → FieldsAre v key s (d .at) x → OpenAre v key s (c .at) x
-  map-opened {d} e x f = record { is = λ k named. go k x (subst (λ (i : ℕ). ScanIs (knownBy key) v k i (readFields (isMeta v k) (alwaysMap k) (drop i s)) x) (sym (o .1)) (f .is k named)) }
+  pub map-opened : {d : Cursor} → r ≡ prefix.Consumed d → (x : FieldsRead) → ReadsFields v key s (d .at) x → OpensMap v key s (c .at) x
+  map-opened {d} e x f = record { is = go x (subst (λ (i : ℕ). ScanIs v (bytesOf key) i (fieldsAfter v (bytesOf key) s i) x) (sym (o .1)) (f .is)) }
     where
       o : (begins 60 (drop (c .at) s) ≡ true) × (c .at + 1 ≡ d .at)
       o = is-open (c .at) (begins 60 (drop (c .at) s)) (sym a ∙ e)
 
-      go : (k : Bytes) (x : FieldsRead) → ScanIs (knownBy key) v k (c .at + 1) (readFields (isMeta v k) (alwaysMap k) (drop (c .at + 1) s)) x → OpenIs v key k s (c .at) x
-      go k (fields.Fields slots) h = (o .0, h)
-      go k (fields.Refused y) h =
-          let z = readFields (isMeta v k) (alwaysMap k) (drop (c .at + 1) s) in
+      go : (x : FieldsRead) → ScanIs v (bytesOf key) (c .at + 1) (fieldsAfter v (bytesOf key) s (c .at + 1)) x → OpenIs v (bytesOf key) s (c .at) x
+      go (fields.Fields slots) h = (o .0, h)
+      go (fields.Refused y) h =
+          let z = fieldsAfter v (bytesOf key) s (c .at + 1) in
           let m = number-suc y in
-          map-read v k s (c .at) (o .0) ∙ judged-suc (z .0) (scan-refused v k z (h ∙ m .1)) ∙ ap refuse (sym (m .1))
+          map-read v (bytesOf key) s (c .at) (o .0) ∙ judged-suc (z .0) (scan-refused v (bytesOf key) z (h ∙ m .1)) ∙ ap refuse (sym (m .1))
 
 pub ruleset openings = (map-unopened, map-opened)
 
@@ -113,8 +114,8 @@ text-some v k name at (f ∷ fs) = elim (test (same (nameOf v k (f .key)) name))
 ]
 
 -- the first that is missing
-abbrev pub asks : Version → Bytes → List Field → Bytes × ℕ → ℕ
-asks v k fs r = unless (isSome (fieldNamed v k (r .0) fs)) (r .1)
+abbrev pub asks : Version → Bytes → List Field → KnownField → ℕ
+asks v k fs r = unless (isSome (fieldNamed v k (r .name) fs)) (r .missing)
 
 pub asked-first : (b : Bool) (m : ℕ) (ns : List ℕ) → b ≡ false → first (unless b (suc m) ∷ ns) ≡ suc m
 unfolding first
@@ -124,7 +125,7 @@ pub asked-later : (b : Bool) (m : ℕ) (ns : List ℕ) → b ≡ true → first 
 unfolding first
 asked-later b m ns e = rw e
 
-missing-of : (v : Version) (k : Bytes) (fs : List Field) {rs : List (Bytes × ℕ)} → required (kindOf k) ≡ rs → missing v k fs ≡ first (map (asks v k fs) rs)
+missing-of : (v : Version) (k : Bytes) (fs : List Field) {rs : List KnownField} → required (kindOf k) ≡ rs → missing v k fs ≡ first (map (asks v k fs) rs)
 unfolding missing
 missing-of v k fs e = rw e
 
@@ -184,36 +185,38 @@ begins-inside c (b ∷ s) zero e = omega arith
 begins-inside c (b ∷ s) (suc at) e = let h = begins-inside c s at e in omega arith
 
 -- a map whose fields were read
-pub record Fielded (v : Version) (key : Key) (k s : Bytes) (at : ℕ) (slots : Slots) : Type 0 where
+pub record Fielded (v : Version) (k s : Bytes) (at : ℕ) (slots : Slots) : Type 0 where
   pub fs : List Field
   pub read : readMap v k (drop at s) ≡ judged (first (missing v k fs ∷ misdeclared v k fs ∷ [])) fs
-  pub held : Held (knownBy key) v k (at + 1) fs slots
-  pub named : Named k key
+  pub held : Held v k (at + 1) fs slots
   pub stand : AnyAt s (at + 1) fs
   pub raw : All RawField fs
 
-module _ (v : Version) (key : Key) (k s : Bytes) (at : ℕ) (slots : Slots) where
-  pub fielded : Named k key → OpenIs v key k s at (fields.Fields slots) → Fielded v key k s at slots
-  fielded named o =
-      let z = readFields (isMeta v k) (alwaysMap k) (drop (at + 1) s) in
+module _ (v : Version) (k s : Bytes) (at : ℕ) (slots : Slots) where
+  pub fielded : OpenIs v k s at (fields.Fields slots) → Fielded v k s at slots
+  fielded o =
+      let z = fieldsAfter v k s (at + 1) in
       record {
         fs = z .0;
         read = map-read v k s at (o .0) ∙ ap (λ (n : ℕ). judged n (z .0)) (judged-first v k z (o .1 .0));
         held = o .1 .1;
-        named = named;
         stand = any-at s (at + 1) (z .0) (fields-in (isMeta v k) (alwaysMap k) (drop (at + 1) s) (first-pair (checkFields v k [] (z .0)) (z .1) (o .1 .0) .1)) (begins-inside 60 s at (o .0));
         raw = fields-raw (isMeta v k) (alwaysMap k) (drop (at + 1) s);
       }
 
-module _ {v : Version} {key : Key} {k s : Bytes} {at : ℕ} {slots : Slots} (f : Fielded v key k s at slots) where
-  pub holds : (t : Tag) → isKept t ≡ true → knows (knownBy key) t ≡ true → {x : Slot} → get t slots ≡ x → slotted (textNamed v k (tagName t) (at + 1) (f .fs)) ≡ x
-  holds t a b e = sym (f .held .each t a b) ∙ e
+-- a field that the kind has and that is kept
+abbrev pub Keeps : Bytes → Tag → Type 0
+Keeps k t = (isKept t ≡ true) × (rowNamed (tagName t) (rows (kindOf k)) ≡ tagRow t)
 
-  pub has : (t : Tag) → isKept t ≡ true → knows (knownBy key) t ≡ true → {x : Slot} → get t slots ≡ x → isSome (fieldNamed v k (tagName t) (f .fs)) ≡ isFilled x
-  has t a b {x} e =
+module _ {v : Version} {k s : Bytes} {at : ℕ} {slots : Slots} (f : Fielded v k s at slots) where
+  pub holds : (t : Tag) → Keeps k t → {x : Slot} → get t slots ≡ x → slotted (textNamed v k (tagName t) (at + 1) (f .fs)) ≡ x
+  holds t a e = sym (f .held .each t (a .0) (a .1)) ∙ e
+
+  pub has : (t : Tag) → Keeps k t → {x : Slot} → get t slots ≡ x → isSome (fieldNamed v k (tagName t) (f .fs)) ≡ isFilled x
+  has t a {x} e =
       sym (text-some v k (tagName t) (at + 1) (f .fs))
       ∙ sym (filled-some (textNamed v k (tagName t) (at + 1) (f .fs)))
-      ∙ ap isFilled (holds t a b e)
+      ∙ ap isFilled (holds t a e)
 
   pub lacks : {m : ℕ} → missing v k (f .fs) ≡ suc m → readMap v k (drop at s) ≡ refuse (suc m)
   lacks {m} e = f .read ∙ judged-suc (f .fs) (first-front m (misdeclared v k (f .fs) ∷ []) e)
@@ -221,58 +224,54 @@ module _ {v : Version} {key : Key} {k s : Bytes} {at : ℕ} {slots : Slots} (f :
   pub whole : missing v k (f .fs) ≡ 0 → readMap v k (drop at s) ≡ judged (misdeclared v k (f .fs)) (f .fs)
   whole e = f .read ∙ ap (λ (n : ℕ). judged n (f .fs)) (first-after (misdeclared v k (f .fs) ∷ []) e ∙ first-alone (misdeclared v k (f .fs)))
 
-  pub asks-of : {rs : List (Bytes × ℕ)} → required (kindOf (bytesOf key)) ≡ rs → missing v k (f .fs) ≡ first (map (asks v k (f .fs)) rs)
-  asks-of q = missing-of v k (f .fs) (ap required (f .named .kind) ∙ q)
+  pub asks-of : {rs : List KnownField} → required (kindOf k) ≡ rs → missing v k (f .fs) ≡ first (map (asks v k (f .fs)) rs)
+  asks-of q = missing-of v k (f .fs) q
 
-  pub unreserved : tableOf (kindOf (bytesOf key)) ≡ [] → misdeclared v k (f .fs) ≡ 0
-  unreserved q = misdeclared-not v k (f .fs) (ap tableOf (f .named .kind) ∙ q)
+-- every kind has the ID
+pub keeps-id : (k : Bytes) → Keeps k Id
+keeps-id k = (refl, id-row (kindOf k))
 
 -- Maps with an ID, and maps with an ID and a Description
 
-module _ (v : Version) (key : Key) (s : Bytes) (c : Cursor) {r : FieldsRead} (o : OpenAre v key s (c .at) r) where
-  pub map-refused : {x : Refusal} → r ≡ fields.Refused x → MapAre v key s (c .at) (maps.Refused x)
-  map-refused e = record { is = λ k named. subst (OpenIs v key k s (c .at)) e (o .is k named) }
+module _ (v : Version) (key : MapKey) (s : Bytes) (c : Cursor) {r : FieldsRead} (o : OpensMap v key s (c .at) r) where
+  pub map-refused : {x : Refusal} → r ≡ fields.Refused x → ParsesMap v key s (c .at) (maps.Refused x)
+  map-refused e = record { is = subst (OpenIs v (bytesOf key) s (c .at)) e (o .is) }
 
   module _ {slots : Slots} (e : r ≡ fields.Fields slots) where
-    fielded-as : (k : Bytes) → Named k key → Fielded v key k s (c .at) slots
-    fielded-as k named = fielded v key k s (c .at) slots named (subst (OpenIs v key k s (c .at)) e (o .is k named))
+    abbrev f : Fielded v (bytesOf key) s (c .at) slots
+    f = fielded v (bytesOf key) s (c .at) slots (subst (OpenIs v (bytesOf key) s (c .at)) e (o .is))
 
-    no-id : slots .id ≡ slot.Empty → {rs : List (Bytes × ℕ)} → required (kindOf (bytesOf key)) ≡ (ascii "ID", 14) ∷ rs → MapAre v key s (c .at) (maps.Refused MissingId)
-    no-id i {rs} q = record { is = λ k named. let f = fielded-as k named in lacks f (asks-of f q ∙ asked-first (isSome (fieldNamed v k (ascii "ID") (f .fs))) 13 (map (asks v k (f .fs)) rs) (has f Id refl refl i)) }
+    no-id : slots .id ≡ slot.Empty → {rs : List KnownField} → required (kindOf (bytesOf key)) ≡ idField ∷ rs → ParsesMap v key s (c .at) (maps.Refused MissingId)
+    no-id i {rs} q = record { is = lacks f (asks-of f q ∙ asked-first (isSome (fieldNamed v (bytesOf key) (ascii "ID") (f .fs))) 13 _ (has f Id (keeps-id (bytesOf key)) i)) }
 
-    pub id-missing : slots .id ≡ slot.Empty → Identified key → MapAre v key s (c .at) (maps.Refused MissingId)
+    pub id-missing : slots .id ≡ slot.Empty → Identified key → ParsesMap v key s (c .at) (maps.Refused MissingId)
     id-missing i d = no-id i (d .needs)
 
-    pub id-missing-too : slots .id ≡ slot.Empty → Described key → MapAre v key s (c .at) (maps.Refused MissingId)
+    pub id-missing-too : slots .id ≡ slot.Empty → Described key → ParsesMap v key s (c .at) (maps.Refused MissingId)
     id-missing-too i d = no-id i (d .needs)
 
     module _ {id : Text} {g : ℕ} (i : slots .id ≡ slot.Filled id g) where
-      past-id : {rs : List (Bytes × ℕ)} → required (kindOf (bytesOf key)) ≡ (ascii "ID", 14) ∷ rs → (k : Bytes) (named : Named k key) → missing v k (fielded-as k named .fs) ≡ first (map (asks v k (fielded-as k named .fs)) rs)
-      past-id {rs} q k named =
-          let f = fielded-as k named in
-          asks-of f q ∙ asked-later (isSome (fieldNamed v k (ascii "ID") (f .fs))) 14 (map (asks v k (f .fs)) rs) (has f Id refl refl i)
+      past-id : {rs : List KnownField} → required (kindOf (bytesOf key)) ≡ idField ∷ rs → missing v (bytesOf key) (f .fs) ≡ first (map (asks v (bytesOf key) (f .fs)) rs)
+      past-id q = asks-of f q ∙ asked-later (isSome (fieldNamed v (bytesOf key) (ascii "ID") (f .fs))) 14 _ (has f Id (keeps-id (bytesOf key)) i)
 
-      given : (k : Bytes) (named : Named k key) → missing v k (fielded-as k named .fs) ≡ 0 → tableOf (kindOf (bytesOf key)) ≡ [] → MapIs v k s (c .at) (maps.Map id g)
-      given k named m t =
-          let f = fielded-as k named in
-          (f .fs, whole f m ∙ ap (λ (n : ℕ). judged n (f .fs)) (unreserved f t), holds f Id refl refl i)
+      given : missing v (bytesOf key) (f .fs) ≡ 0 → tableOf (kindOf (bytesOf key)) ≡ [] → ParsesMap v key s (c .at) (maps.Map id g)
+      given m t = record {
+        is = (f .fs, whole f m ∙ ap (λ (n : ℕ). judged n (f .fs)) (misdeclared-not v (bytesOf key) (f .fs) t), holds f Id (keeps-id (bytesOf key)) i);
+      }
 
-      pub id-given : Identified key → MapAre v key s (c .at) (maps.Map id g)
+      pub id-given : Identified key → ParsesMap v key s (c .at) (maps.Map id g)
       unfolding first
-      id-given d = record { is = λ k named. given k named (past-id (d .needs) k named) (d .free) }
+      id-given d = given (past-id (d .needs)) (d .free)
 
-      pub description-missing : slots .description ≡ slot.Empty → Described key → MapAre v key s (c .at) (maps.Refused MissingDescription)
+      pub description-missing : slots .description ≡ slot.Empty → Described key → ParsesMap v key s (c .at) (maps.Refused MissingDescription)
       description-missing x d = record {
-        is = λ k named. let f = fielded-as k named in
-            lacks f (past-id (d .needs) k named ∙ asked-first (isSome (fieldNamed v k (ascii "Description") (f .fs))) 16 [] (has f Description refl (d .known) x));
+        is = lacks f (past-id (d .needs) ∙ asked-first (isSome (fieldNamed v (bytesOf key) (ascii "Description") (f .fs))) 16 [] (has f Description (refl, d .known) x));
       }
 
-      pub description-given : {t : Text} {h : ℕ} → slots .description ≡ slot.Filled t h → Described key → MapAre v key s (c .at) (maps.Map id g)
+      pub description-given : {t : Text} {h : ℕ} → slots .description ≡ slot.Filled t h → Described key → ParsesMap v key s (c .at) (maps.Map id g)
       unfolding first
-      description-given x d = record {
-        is = λ k named. let f = fielded-as k named in
-            given k named (past-id (d .needs) k named ∙ asked-later (isSome (fieldNamed v k (ascii "Description") (f .fs))) 17 [] (has f Description refl (d .known) x)) (d .free);
-      }
+      description-given x d =
+          given (past-id (d .needs) ∙ asked-later (isSome (fieldNamed v (bytesOf key) (ascii "Description") (f .fs))) 17 [] (has f Description (refl, d .known) x)) (d .free)
 
 pub ruleset identified = (map-refused, id-missing, id-given)
 

@@ -1,10 +1,10 @@
 -- Fields one after the other: their checks, their texts and their scan. Assumes nothing.
-use Prim.Native.Nat.{ℕ, zero, suc, _+_}
+use Prim.Native.Nat.{ℕ, zero, suc, _+_, _≤_}
 use mathlib.Core.Path.{_≡_, refl, sym, ap, _∙_}
 use mathlib.Core.Bool.{Bool, true, false, not, _||_}
 use mathlib.Core.List.{List, [], _∷_, _++_}
 use mathlib.Core.Option.{Option, none, some}
-use lib.ListN.{length}
+use lib.ListN.{length, drop}
 use Rattle.values.specs.Bytes.{Bytes, same}
 use Rattle.values.specs.Value.{meaningOf}
 use Rattle.values.specs.Field.{Field, writtenField}
@@ -12,9 +12,10 @@ use Rattle.values.proofs.Tests.{pass, fail, test}
 use Rattle.rules.specs.Answer.{unless, first}
 use Rattle.rules.specs.Version.{Version}
 use Rattle.rules.specs.Known.{isIn, kindOf, nameOf}
-use Rattle.rules.specs.Map.{isSome, fieldRefusal, checkFields}
+use Rattle.rules.specs.Map.{isSome, knownNamed, valueRefusal, checkFields, more, after, scan}
+use Rattle.rules.proofs.Scans.{scan-more}
 use Rattle.rules.specs.Entry.{textNamed}
-use Rattle.records.specs.Maps.{FieldsFrom, namesOf}
+use Rattle.records.specs.Maps.{FieldsFrom, namesOf, scannedFrom}
 
 -- The first refusal
 
@@ -50,7 +51,7 @@ unfolding checkFields
 check-append v k seen [] ys = sym (first-zero-left (checkFields v k seen ys ∷ []) ∙ first-alone (checkFields v k seen ys))
 check-append v k seen (x ∷ xs) ys =
     rw (check-append v k (nameOf v k (x .key) ∷ seen) xs ys)
-    (first-three (fieldRefusal v (kindOf k) (x .key) (meaningOf (x .value))) (unless (not (isIn (nameOf v k (x .key)) seen)) 10)
+    (first-three (valueRefusal v (kindOf k) (meaningOf (x .value)) (knownNamed v k (x .key))) (unless (not (isIn (nameOf v k (x .key)) seen)) 10)
     (checkFields v k (nameOf v k (x .key) ∷ seen) xs) (checkFields v k (seenAfter v k (nameOf v k (x .key) ∷ seen) xs) ys))
 
 seen-in : (v : Version) (k x : Bytes) (seen : List Bytes) (fs : List Field) → isIn x (seenAfter v k seen fs) ≡ (isIn x seen || isIn x (namesOf v k fs))
@@ -70,7 +71,7 @@ seen-in v k x seen (f ∷ fs) = seen-in v k x (nameOf v k (f .key) ∷ seen) fs 
 -- one field after fields that passed
 module _ (v : Version) (k : Bytes) (before : List Field) (fine : checkFields v k [] before ≡ 0) (f : Field) where
   passed : (ys : List Field) → checkFields v k [] (before ++ f ∷ ys)
-      ≡ first (fieldRefusal v (kindOf k) (f .key) (meaningOf (f .value)) ∷ unless (not (isIn (nameOf v k (f .key)) (namesOf v k before))) 10
+      ≡ first (valueRefusal v (kindOf k) (meaningOf (f .value)) (knownNamed v k (f .key)) ∷ unless (not (isIn (nameOf v k (f .key)) (namesOf v k before))) 10
       ∷ checkFields v k (nameOf v k (f .key) ∷ seenAfter v k [] before) ys ∷ [])
   unfolding checkFields isIn
   passed ys =
@@ -83,10 +84,10 @@ module _ (v : Version) (k : Bytes) (before : List Field) (fine : checkFields v k
         seen-in v k (nameOf v k (f .key)) [] before,
       )
 
-  pub value-refused : {m : ℕ} → fieldRefusal v (kindOf k) (f .key) (meaningOf (f .value)) ≡ suc m → (ys : List Field) → checkFields v k [] (before ++ f ∷ ys) ≡ suc m
+  pub value-refused : {m : ℕ} → valueRefusal v (kindOf k) (meaningOf (f .value)) (knownNamed v k (f .key)) ≡ suc m → (ys : List Field) → checkFields v k [] (before ++ f ∷ ys) ≡ suc m
   value-refused e ys = passed ys ∙ rw (e, first-suc)
 
-  module _ (e : fieldRefusal v (kindOf k) (f .key) (meaningOf (f .value)) ≡ 0) where
+  module _ (e : valueRefusal v (kindOf k) (meaningOf (f .value)) (knownNamed v k (f .key)) ≡ 0) where
     pub name-refused : isIn (nameOf v k (f .key)) (namesOf v k before) ≡ true → (ys : List Field) → checkFields v k [] (before ++ f ∷ ys) ≡ 10
     unfolding first
     name-refused i ys = passed ys ∙ rw (e, i)
@@ -117,3 +118,19 @@ text-in v k name start (f ∷ fs) = elim (test (same (nameOf v k (f .key)) name)
   | pass e ↦ rw (textNamed, e)
   | fail e ↦ rw (textNamed, e) (text-in v k name (start + length (writtenField f) + 1) fs)
 ]
+
+-- The scan
+
+-- fields that were read stand first in the scan
+pub walk-scan : (m : Bool) (s : Bytes) (start : ℕ) (before : List Field) (at fuel : ℕ) → FieldsFrom m s start before at → length (drop start s) ≤ fuel
+    → (n : ℕ) × (length (drop at s) ≤ n) × (scan fuel m (drop start s) ≡ scannedFrom m s before at n)
+unfolding after
+walk-scan m s start [] at fuel w h = rw (← w) (fuel, h, refl)
+walk-scan m s start (f ∷ fs) at fuel w h =
+    let t = drop (start + length (writtenField f) + 1) s in
+    let x = scan-more m (drop start s) (w .0) fuel h (comma t) in
+    let y = walk-scan m s (start + length (writtenField f) + 1) fs at (x .0) (w .1) (x .1) in
+    (y .0, y .1, x .2 ∙ rw (y .2))
+  where
+    comma : (t : Bytes) → after (44 ∷ t) ≡ more t
+    comma t = refl

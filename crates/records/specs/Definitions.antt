@@ -4,7 +4,7 @@ use mathlib.Core.Option.{Option, none, some}
 use Rattle.values.specs.Bytes.{Bytes, ascii}
 use Rattle.rules.specs.Known.{count, letter}
 use Rattle.rules.specs.Known.{Number as Asked}
-use Rattle.rules.specs.Reserved.{Row, row}
+use Rattle.rules.specs.Reserved.{ReservedRow, reservedRow}
 use Rattle.records.specs.Lists.{listed}
 use Rattle.records.specs.Numbers.{typeName}
 use Rattle.records.specs.declared.number.Number.{Number}
@@ -23,38 +23,38 @@ abbrev pub definitionMeans : Definition → Option (Asked × Bytes)
 definitionMeans (Of n t) = some (asked n, typeName t)
 definitionMeans Unreserved = none
 
-abbrev pub outline : Option Row → Option (Asked × Bytes)
+abbrev pub outline : Option ReservedRow → Option (Asked × Bytes)
 outline none = none
 outline (some r) = some (r .number, r .type)
 
-abbrev pub infoCounts : List Row
+abbrev pub infoCounts : List ReservedRow
 infoCounts =
-    row (listed (ascii "AA")) (count 1) (ascii "String")
-    ∷ row (listed (ascii "AN,DP,END,MQ0,NS")) (count 1) (ascii "Integer")
-    ∷ row (listed (ascii "BQ,MQ")) (count 1) (ascii "Float")
-    ∷ row (listed (ascii "SB")) (count 4) (ascii "Integer")
-    ∷ row (listed (ascii "DB,H2,H3,SOMATIC,VALIDATED,1000G")) (count 0) (ascii "Flag")
+    reservedRow (listed (ascii "AA")) (count 1) (ascii "String")
+    ∷ reservedRow (listed (ascii "AN,DP,END,MQ0,NS")) (count 1) (ascii "Integer")
+    ∷ reservedRow (listed (ascii "BQ,MQ")) (count 1) (ascii "Float")
+    ∷ reservedRow (listed (ascii "SB")) (count 4) (ascii "Integer")
+    ∷ reservedRow (listed (ascii "DB,H2,H3,SOMATIC,VALIDATED,1000G")) (count 0) (ascii "Flag")
     ∷ []
 
-abbrev pub infoList : List Row
+abbrev pub infoList : List ReservedRow
 infoList =
-    row (listed (ascii "AC")) (letter (ascii "A")) (ascii "Integer")
-    ∷ row (listed (ascii "CIGAR")) (letter (ascii "A")) (ascii "String")
-    ∷ row (listed (ascii "AF")) (letter (ascii "A")) (ascii "Float")
-    ∷ row (listed (ascii "AD,ADF,ADR")) (letter (ascii "R")) (ascii "Integer")
+    reservedRow (listed (ascii "AC")) (letter (ascii "A")) (ascii "Integer")
+    ∷ reservedRow (listed (ascii "CIGAR")) (letter (ascii "A")) (ascii "String")
+    ∷ reservedRow (listed (ascii "AF")) (letter (ascii "A")) (ascii "Float")
+    ∷ reservedRow (listed (ascii "AD,ADF,ADR")) (letter (ascii "R")) (ascii "Integer")
     ∷ infoCounts
 
-abbrev pub formatScores : List Row
+abbrev pub formatScores : List ReservedRow
 formatScores =
-    row (listed (ascii "HQ")) (count 2) (ascii "Integer")
-    ∷ row (listed (ascii "GL,GP")) (letter (ascii "G")) (ascii "Float")
-    ∷ row (listed (ascii "PL,PP")) (letter (ascii "G")) (ascii "Integer")
+    reservedRow (listed (ascii "HQ")) (count 2) (ascii "Integer")
+    ∷ reservedRow (listed (ascii "GL,GP")) (letter (ascii "G")) (ascii "Float")
+    ∷ reservedRow (listed (ascii "PL,PP")) (letter (ascii "G")) (ascii "Integer")
     ∷ []
 
-abbrev pub formatList : List Row
+abbrev pub formatList : List ReservedRow
 formatList =
-    row (listed (ascii "AD,ADF,ADR")) (letter (ascii "R")) (ascii "Integer")
-    ∷ row (listed (ascii "EC")) (letter (ascii "A")) (ascii "Integer")
-    ∷ row (listed (ascii "DP,GQ,MQ,PQ,PS")) (count 1) (ascii "Integer")
-    ∷ row (listed (ascii "FT,GT")) (count 1) (ascii "String")
+    reservedRow (listed (ascii "AD,ADF,ADR")) (letter (ascii "R")) (ascii "Integer")
+    ∷ reservedRow (listed (ascii "EC")) (letter (ascii "A")) (ascii "Integer")
+    ∷ reservedRow (listed (ascii "DP,GQ,MQ,PQ,PS")) (count 1) (ascii "Integer")
+    ∷ reservedRow (listed (ascii "FT,GT")) (count 1) (ascii "String")
     ∷ formatScores

@@ -1,16 +1,20 @@
--- Which kind of record a key names. Assumes nothing.
+-- Which kind of map a key names. Assumes nothing.
 use Prim.Native.Nat.{ℕ}
 use mathlib.Core.Path.{_≡_}
-use mathlib.Core.Bool.{true, false}
+use mathlib.Core.Bool.{Bool, true, false}
 use mathlib.Core.List.{List, [], _∷_}
 use Rattle.values.specs.Bytes.{Bytes, ascii, same}
-use Rattle.rules.specs.Known.{kindOf, isTyped, alwaysMap}
-use Rattle.records.specs.declared.key.Key.{Key}
-use Rattle.records.specs.declared.key.Key.the-variants.{FileFormat, Info, Filter, Format, AlternativeAllele, Contig, Meta, Pedigree, Other}
+use Rattle.rules.specs.Known.{Kind, INFO, FILTER, FORMAT, ALT, contig, other, kindOf, isTyped, alwaysMap}
+use Rattle.rules.specs.Version.{Version}
+use Rattle.rules.specs.Map.{isMeta}
+use Rattle.records.specs.Formats.{versionOf}
+use Rattle.records.specs.declared.file_format.FileFormat.{FileFormat}
+use Rattle.records.specs.declared.key.MapContext.{MapContext}
+use Rattle.records.specs.declared.key.MapKey.{MapKey}
+use Rattle.records.specs.declared.key.MapKey.the-variants.{Info, Filter, Format, AlternativeAllele, Contig, Meta, Pedigree, Other}
 
 -- the key that a case stands for; other keys are alike in all that depends on the case
-abbrev pub bytesOf : Key → Bytes
-bytesOf FileFormat = ascii "fileformat"
+abbrev pub bytesOf : MapKey → Bytes
 bytesOf Info = ascii "INFO"
 bytesOf Filter = ascii "FILTER"
 bytesOf Format = ascii "FORMAT"
@@ -20,36 +24,64 @@ bytesOf Meta = ascii "META"
 bytesOf Pedigree = ascii "PEDIGREE"
 bytesOf Other = []
 
-abbrev pub untypedKeys : List Key
-untypedKeys = Meta ∷ Pedigree ∷ FileFormat ∷ []
+abbrev pub untypedKeys : List MapKey
+untypedKeys = Meta ∷ Pedigree ∷ []
 
-abbrev pub keys : List Key
+abbrev pub keys : List MapKey
 keys = Info ∷ Format ∷ Contig ∷ Filter ∷ AlternativeAllele ∷ untypedKeys
 
-unfoldable pub among : List Key → Bytes → Key
+unfoldable pub among : List MapKey → Bytes → MapKey
 among [] k = Other
 among (j ∷ js) k = elim (same k (bytesOf j)) [ true ↦ j | false ↦ among js k ]
 
-abbrev pub keyNamed : Bytes → Key
+abbrev pub keyNamed : Bytes → MapKey
 keyNamed k = among keys k
 
--- all that the rules ask of a key is what they ask of its case
-pub record Named (k : Bytes) (key : Key) : Type 0 where
+-- the key of a map or a text: all that the rules ask of it is what they ask of its case
+pub record Named (k : Bytes) (key : MapKey) : Type 0 where
   pub kind : kindOf k ≡ kindOf (bytesOf key)
   pub typed : isTyped k ≡ isTyped (bytesOf key)
   pub always : alwaysMap k ≡ alwaysMap (bytesOf key)
   pub meta : same k (ascii "META") ≡ same (bytesOf key) (ascii "META")
   pub pedigree : same k (ascii "PEDIGREE") ≡ same (bytesOf key) (ascii "PEDIGREE")
-  pub format : same k (ascii "fileformat") ≡ same (bytesOf key) (ascii "fileformat")
+  pub format : same k (ascii "fileformat") ≡ false
 
--- the kind of a map's entry
-abbrev pub keyKind : Key → ℕ
-keyKind FileFormat = 7
-keyKind Info = 2
-keyKind Filter = 3
-keyKind Format = 4
-keyKind AlternativeAllele = 5
-keyKind Contig = 6
-keyKind Meta = 7
-keyKind Pedigree = 7
-keyKind Other = 7
+abbrev pub kindBy : MapKey → Kind
+kindBy Info = INFO
+kindBy Filter = FILTER
+kindBy Format = FORMAT
+kindBy AlternativeAllele = ALT
+kindBy Contig = contig
+kindBy Meta = other
+kindBy Pedigree = other
+kindBy Other = other
+
+abbrev pub isMetaKey : MapKey → Bool
+isMetaKey Info = false
+isMetaKey Filter = false
+isMetaKey Format = false
+isMetaKey AlternativeAllele = false
+isMetaKey Contig = false
+isMetaKey Meta = true
+isMetaKey Pedigree = false
+isMetaKey Other = false
+
+abbrev pub isPedigreeKey : MapKey → Bool
+isPedigreeKey Info = false
+isPedigreeKey Filter = false
+isPedigreeKey Format = false
+isPedigreeKey AlternativeAllele = false
+isPedigreeKey Contig = false
+isPedigreeKey Meta = false
+isPedigreeKey Pedigree = true
+isPedigreeKey Other = false
+
+-- what the fields of a map are read by
+abbrev pub contextOf : MapKey → FileFormat → ℕ → MapContext
+contextOf key version start = record { key = key; version = version; brackets = isMeta (versionOf version) (bytesOf key); start = start }
+
+abbrev pub versionIn : MapContext → Version
+versionIn x = versionOf (x .version)
+
+abbrev pub keyBytes : MapContext → Bytes
+keyBytes x = bytesOf (x .key)

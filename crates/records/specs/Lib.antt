@@ -5,5 +5,6 @@ pub mod Lists
 pub mod Numbers
 pub mod Definitions
 pub mod Tags
+pub mod Fields
 pub mod Maps
 pub mod Records

@@ -1,30 +1,31 @@
 -- A map as the code reads it: one field after the other, with the texts that are kept. Assumes nothing.
-use Prim.Native.Nat.{ℕ, _+_, _-_, _≤_, _<_}
+use Prim.Native.Nat.{ℕ, _+_, _≤_, _<_}
 use mathlib.Core.Path.{_≡_}
 use mathlib.Core.Bool.{Bool, true, false, not, _||_, _&&_}
 use mathlib.Core.List.{List, [], _∷_, _++_, map}
 use mathlib.Core.Option.{Option, none, some}
-use lib.ListN.{length, take, drop}
+use lib.ListN.{length, drop}
 use Rattle.values.specs.Bytes.{Bytes, ascii, is, empty, begins}
 use Rattle.values.specs.Value.{meaning}
 use Rattle.values.specs.Integer.{u64Read}
 use Rattle.values.specs.Field.{Field, writtenField, readField}
-use Rattle.values.specs.Places.{to}
+use Rattle.values.specs.Places.{cursorAt}
 use Rattle.values.specs.declared.string.Text.{Text}
 use Rattle.rules.specs.Answer.{ok, refuse, unless, first, judged}
-use Rattle.rules.specs.Version.{Version, v4-5, since}
-use Rattle.rules.specs.Known.{isIn, kindOf, required, nameOf, tagOf, alwaysMap}
+use Rattle.rules.specs.Version.{Version}
+use Rattle.rules.specs.Known.{Kind, Reads, KnownField, anyText, aNumber, aType, anInteger, rows, rowNamed, idField, descriptionField, isIn, kindOf, required, nameOf, tagOf, letters, types, alwaysMap}
 use Rattle.rules.specs.Reserved.{tableOf}
-use Rattle.rules.specs.Map.{After, more, done, wrong, after, Scan, scan, readFields, isMeta, checkFields, valueNamed, misdeclared, readMap}
+use Rattle.rules.specs.Map.{After, more, done, wrong, after, Scan, scan, readFields, isMeta, knownNamed, checkFields, valueNamed, misdeclared, readMap}
 use Rattle.rules.specs.Entry.{textNamed}
 use Rattle.records.specs.Refusals.{number}
-use Rattle.records.specs.Keys.{bytesOf, Named}
-use Rattle.records.specs.declared.key.Key.{Key}
-use Rattle.records.specs.Numbers.{isCount, lettersOf, typesOf}
-use Rattle.records.specs.Tags.{knownBy, tagName, knows, tagBy, isKept, Suits}
-use Rattle.records.specs.declared.tag.Known.{Known}
+use Rattle.records.specs.Keys.{bytesOf, versionIn, keyBytes}
+use Rattle.records.specs.Numbers.{isCount}
+use Rattle.records.specs.Tags.{tagRow, tagName, isRequired, isKept}
+use Rattle.records.specs.Fields.{textIn, meaningIn}
+use Rattle.records.specs.declared.key.MapKey.{MapKey}
+use Rattle.records.specs.declared.key.MapContext.{MapContext}
 use Rattle.records.specs.declared.tag.Tag.{Tag}
-use Rattle.records.specs.declared.tag.Tag.the-variants.{Id, Number, ValueType, Description, Idx, Length, Other}
+use Rattle.records.specs.declared.tag.Tag.the-variants.{Id, Number, ValueType, Description, Length, Md5, Url, Idx, Other}
 use Rattle.records.specs.declared.map.Slot.{Slot}
 use Rattle.records.specs.declared.map.Slot.the-variants as slot
 use Rattle.records.specs.declared.map.Slots.{Slots}
@@ -46,7 +47,7 @@ use Rattle.records.specs.declared.map.TypedRead.{TypedRead}
 use Rattle.records.specs.declared.map.TypedRead.the-variants as typed
 
 abbrev pub opened : ℕ → Bool → Prefix
-opened at true = prefix.Consumed (to (at + 1))
+opened at true = prefix.Consumed (cursorAt (at + 1))
 opened at false = prefix.Missing
 
 abbrev pub opensAt : Bytes → ℕ → Prefix
@@ -61,7 +62,7 @@ abbrev pub closesAt : Bytes → ℕ → Bool
 closesAt s at = closes (drop at s)
 
 abbrev pub afterPlaced : ℕ → After → AfterRead
-afterPlaced at (more r) = afters.More (to (at + 1))
+afterPlaced at (more r) = afters.More (cursorAt (at + 1))
 afterPlaced at done = afters.Closed
 afterPlaced at wrong = afters.Other
 
@@ -73,37 +74,45 @@ abbrev pub checkNumber : Check → ℕ
 checkNumber check.Passed = 0
 checkNumber (check.Refused x) = number x
 
--- 11 to 13 of a value: its bytes, and whether they stand between quotes
-abbrev pub tagRefusal : Known → Version → Tag → Bytes → Bool → ℕ
-tagRefusal n v Id s q = 0
-tagRefusal n v Number s q = unless (isCount s || isIn (meaning q s) (lettersOf (n .format && since v4-5 v))) 11
-tagRefusal n v ValueType s q = unless (isIn (meaning q s) (typesOf (n .info))) 12
-tagRefusal n v Description s q = 0
-tagRefusal n v Idx s q = unless (isCount s) 13
-tagRefusal n v Length s q = unless (isCount s) 13
-tagRefusal n v Other s q = 0
+-- 11 to 13 of a value's bytes, of which an integer is read as they stand; `q`: they stand between quotes
+abbrev pub misreadRaw : Version → Kind → Bytes → Bool → Reads → ℕ
+misreadRaw v kind s q anyText = 0
+misreadRaw v kind s q aNumber = unless (isCount s || isIn (meaning q s) (letters v kind)) 11
+misreadRaw v kind s q aType = unless (isIn (meaning q s) (types kind)) 12
+misreadRaw v kind s q anInteger = unless (isCount s) 13
+
+abbrev pub rawRefusal : Version → Kind → Bytes → Bool → Option KnownField → ℕ
+rawRefusal v kind s q none = 0
+rawRefusal v kind s q (some r) = misreadRaw v kind s q (r .reads)
 
 -- the texts that are kept
 abbrev pub noSlots : Slots
-noSlots = record { id = slot.Empty; number = slot.Empty; kind = slot.Empty; description = slot.Empty }
+noSlots = record { id = slot.Empty; number = slot.Empty; kind = slot.Empty; description = slot.Empty; plain = true }
 
 abbrev pub get : Tag → Slots → Slot
 get Id x = x .id
 get Number x = x .number
 get ValueType x = x .kind
 get Description x = x .description
-get Idx x = slot.Empty
 get Length x = slot.Empty
+get Md5 x = slot.Empty
+get Url x = slot.Empty
+get Idx x = slot.Empty
 get Other x = slot.Empty
 
+abbrev pub mixed : Slots → Slots
+mixed x = record { id = x .id; number = x .number; kind = x .kind; description = x .description; plain = false }
+
 abbrev pub put : Tag → Slot → Slots → Slots
-put Id t x = record { id = t; number = x .number; kind = x .kind; description = x .description }
-put Number t x = record { id = x .id; number = t; kind = x .kind; description = x .description }
-put ValueType t x = record { id = x .id; number = x .number; kind = t; description = x .description }
-put Description t x = record { id = x .id; number = x .number; kind = x .kind; description = t }
-put Idx t x = x
-put Length t x = x
-put Other t x = x
+put Id t x = record { id = t; number = x .number; kind = x .kind; description = x .description; plain = x .plain }
+put Number t x = record { id = x .id; number = t; kind = x .kind; description = x .description; plain = x .plain }
+put ValueType t x = record { id = x .id; number = x .number; kind = t; description = x .description; plain = x .plain }
+put Description t x = record { id = x .id; number = x .number; kind = x .kind; description = t; plain = x .plain }
+put Length t x = mixed x
+put Md5 t x = mixed x
+put Url t x = mixed x
+put Idx t x = mixed x
+put Other t x = mixed x
 
 -- a field that stands at a place, with a `,` after it
 abbrev pub FieldThen : Bool → Bytes → ℕ → Field → Type 0
@@ -126,29 +135,34 @@ abbrev pub slotted : Option (Bytes × Text) → Slot
 slotted none = slot.Empty
 slotted (some p) = slot.Filled (p .1) (tagOf (p .0))
 
+-- the ID's text, and which name stands for it; the fields stand at the place `at`
+abbrev pub idSlot : Version → Bytes → ℕ → List Field → Slot
+idSlot v k at fs = slotted (textNamed v k (ascii "ID") at fs)
+
 abbrev pub namesOf : Version → Bytes → List Field → List Bytes
 namesOf v k fs = map (λ (f : Field). nameOf v k (f .key)) fs
 
--- the texts that are kept of the fields that stand at `start`
-pub record Held (n : Known) (v : Version) (k : Bytes) (start : ℕ) (fs : List Field) (slots : Slots) : Type 0 where
-  pub each : (t : Tag) → isKept t ≡ true → knows n t ≡ true → get t slots ≡ slotted (textNamed v k (tagName t) start fs)
-
 -- whether each of these fields is of those that are kept
-abbrev pub allKept : Known → Version → List Field → Bool
-allKept n v [] = true
-allKept n v (f ∷ fs) = isKept (tagBy n v (f .key)) && allKept n v fs
+abbrev pub allKept : Version → Bytes → List Field → Bool
+allKept v k [] = true
+allKept v k (f ∷ fs) = isRequired (knownNamed v k (f .key)) && allKept v k fs
 
--- the fields from `start` up to `at` were read, and none was refused; `plain`: each of them is kept
-pub record Walk (n : Known) (v : Version) (k : Bytes) (m : Bool) (s : Bytes) (start : ℕ) (before : List Field) (at : ℕ) (slots : Slots) (plain : Bool) : Type 0 where
-  pub fields : FieldsFrom m s start before at
-  pub fine : checkFields v k [] before ≡ 0
-  pub held : Held n v k start before slots
-  pub plainly : plain ≡ allKept n v before
+-- the texts that are kept of the fields that stand at `start`, each under the tag of a field that the kind has
+pub record Held (v : Version) (k : Bytes) (start : ℕ) (fs : List Field) (slots : Slots) : Type 0 where
+  pub each : (t : Tag) → isKept t ≡ true → rowNamed (tagName t) (rows (kindOf k)) ≡ tagRow t
+      → get t slots ≡ slotted (textNamed v k (tagName t) start fs)
+  pub plainly : slots .plain ≡ allKept v k fs
+
+-- the fields from the first up to `at` were read, and none was refused
+pub record Walk (x : MapContext) (s : Bytes) (before : List Field) (at : ℕ) (slots : Slots) : Type 0 where
+  pub fields : FieldsFrom (x .brackets) s (x .start) before at
+  pub fine : checkFields (versionIn x) (keyBytes x) [] before ≡ 0
+  pub held : Held (versionIn x) (keyBytes x) (x .start) before slots
 
 -- whether a field of this name stood before
-pub record Repeats (m : Bool) (s : Bytes) (start at : ℕ) (field : Bytes) (t : Tag) (slots : Slots) (plain r : Bool) : Type 0 where
-  pub is : (n : Known) (v : Version) (k : Bytes) (before : List Field) → Suits n k → t ≡ tagBy n v field → Walk n v k m s start before at slots plain
-      → r ≡ isIn (nameOf v k field) (namesOf v k before)
+pub record Repeats (x : MapContext) (s : Bytes) (at : ℕ) (field : Bytes) (t : Tag) (slots : Slots) (r : Bool) : Type 0 where
+  pub is : (before : List Field) → tagRow t ≡ knownNamed (versionIn x) (keyBytes x) field → Walk x s before at slots
+      → r ≡ isIn (nameOf (versionIn x) (keyBytes x) field) (namesOf (versionIn x) (keyBytes x) before)
 
 -- the refusal of fields, and of what ended them
 abbrev pub scanRefusal : Version → Bytes → Scan → ℕ
@@ -158,97 +172,101 @@ scanRefusal v k x = first (checkFields v k [] (x .0) ∷ x .1 ∷ [])
 abbrev pub scannedFrom : Bool → Bytes → List Field → ℕ → ℕ → Scan
 scannedFrom m s before at fuel = (before ++ scan fuel m (drop at s) .0, scan fuel m (drop at s) .1)
 
--- a field that passed, and what is to be kept of it
-pub record Taken (n : Known) (v : Version) (k : Bytes) (m : Bool) (s : Bytes) (start : ℕ) (before : List Field) (at : ℕ) (slots : Slots) (g : Tag) (t : Slot) (next : ℕ) : Type 0 where
-  pub field : Field
-  pub read : readField m (drop at s) ≡ some (field, drop next s)
-  pub size : next ≡ at + length (writtenField field)
-  pub tag : g ≡ tagBy n v (field .key)
-  pub fine : checkFields v k [] (before ++ field ∷ []) ≡ 0
-  pub held : Held n v k start (before ++ field ∷ []) (put g t slots)
+-- whatever follows, the fields are refused by this number
+abbrev pub RefusedFrom : MapContext → Bytes → List Field → ℕ → ℕ → Type 0
+RefusedFrom x s before at n =
+    (fuel : ℕ) → length (drop at s) ≤ fuel → scanRefusal (versionIn x) (keyBytes x) (scannedFrom (x .brackets) s before at fuel) ≡ n
 
-abbrev pub TakenIs : Known → Version → Bytes → Bool → Bytes → ℕ → List Field → ℕ → Slots → FieldTaken → Type 0
-TakenIs n v k m s start before at slots (taken.Field g t next) = Taken n v k m s start before at slots g t (next .at)
-TakenIs n v k m s start before at slots (taken.Refused x) = (fuel : ℕ) → length (drop at s) ≤ fuel → scanRefusal v k (scannedFrom m s before at fuel) ≡ number x
+-- a field that passed, and what is to be kept of it
+pub record Taken (x : MapContext) (s : Bytes) (before : List Field) (at : ℕ) (slots : Slots) (g : Tag) (t : Slot) (next : ℕ) : Type 0 where
+  pub field : Field
+  pub read : readField (x .brackets) (drop at s) ≡ some (field, drop next s)
+  pub size : next ≡ at + length (writtenField field)
+  pub fine : checkFields (versionIn x) (keyBytes x) [] (before ++ field ∷ []) ≡ 0
+  pub held : Held (versionIn x) (keyBytes x) (x .start) (before ++ field ∷ []) (put g t slots)
+
+abbrev pub TakenIs : MapContext → Bytes → List Field → ℕ → Slots → FieldTaken → Type 0
+TakenIs x s before at slots (taken.Field g t next) = Taken x s before at slots g t (next .at)
+TakenIs x s before at slots (taken.Refused y) = RefusedFrom x s before at (number y)
 
 abbrev pub TakenMoves : Bytes → ℕ → FieldTaken → Type 0
 TakenMoves s at (taken.Field g t next) = (at < next .at) × (next .at ≤ length s)
 TakenMoves s at (taken.Refused x) = Unit {0}
 
-pub record Takes (n : Known) (v : Version) (m : Bool) (s : Bytes) (start at : ℕ) (slots : Slots) (plain : Bool) (r : FieldTaken) : Type 0 where
+-- the field at a place was taken, or refused, whatever fields were read before it
+pub record TakesField (x : MapContext) (s : Bytes) (at : ℕ) (slots : Slots) (r : FieldTaken) : Type 0 where
   pub moves : TakenMoves s at r
-  pub is : (k : Bytes) (before : List Field) → Suits n k → Walk n v k m s start before at slots plain → TakenIs n v k m s start before at slots r
+  pub is : (before : List Field) → Walk x s before at slots → TakenIs x s before at slots r
 
--- one field more
-abbrev pub StepIs : Known → Version → Bytes → Bool → Bytes → ℕ → List Field → ℕ → FieldStep → Type 0
-StepIs n v k m s start before at (step.Next d slots plain) = (f : Field) × Walk n v k m s start (before ++ f ∷ []) (d .at) slots plain
-StepIs n v k m s start before at (step.Last slots) =
-    (f : Field) × Held n v k start (before ++ f ∷ []) slots × (checkFields v k [] (before ++ f ∷ []) ≡ 0)
-    × ((fuel : ℕ) → length (drop at s) ≤ fuel → scan fuel m (drop at s) ≡ (f ∷ [], 0))
-StepIs n v k m s start before at (step.Refused x) = (fuel : ℕ) → length (drop at s) ≤ fuel → scanRefusal v k (scannedFrom m s before at fuel) ≡ number x
+abbrev pub StepIs : MapContext → Bytes → List Field → ℕ → FieldStep → Type 0
+StepIs x s before at (step.Next d slots) = (f : Field) × Walk x s (before ++ f ∷ []) (d .at) slots
+StepIs x s before at (step.Last slots) =
+    (f : Field) × Held (versionIn x) (keyBytes x) (x .start) (before ++ f ∷ []) slots
+    × (checkFields (versionIn x) (keyBytes x) [] (before ++ f ∷ []) ≡ 0)
+    × ((fuel : ℕ) → length (drop at s) ≤ fuel → scan fuel (x .brackets) (drop at s) ≡ (f ∷ [], 0))
+StepIs x s before at (step.Refused y) = RefusedFrom x s before at (number y)
 
 abbrev pub StepMoves : Bytes → ℕ → FieldStep → Type 0
-StepMoves s at (step.Next d slots plain) = (at < d .at) × (d .at ≤ length s)
+StepMoves s at (step.Next d slots) = (at < d .at) × (d .at ≤ length s)
 StepMoves s at (step.Last slots) = Unit {0}
 StepMoves s at (step.Refused x) = Unit {0}
 
-pub record Steps (n : Known) (v : Version) (m : Bool) (s : Bytes) (start at : ℕ) (slots : Slots) (plain : Bool) (r : FieldStep) : Type 0 where
+-- the field at a place was read with what follows it
+pub record ReadsField (x : MapContext) (s : Bytes) (at : ℕ) (slots : Slots) (r : FieldStep) : Type 0 where
   pub moves : StepMoves s at r
-  pub is : (k : Bytes) (before : List Field) → Suits n k → Walk n v k m s start before at slots plain → StepIs n v k m s start before at r
+  pub is : (before : List Field) → Walk x s before at slots → StepIs x s before at r
 
 -- the fields of a map, and what is kept of them
-abbrev pub ScanIs : Known → Version → Bytes → ℕ → Scan → FieldsRead → Type 0
-ScanIs n v k start x (fields.Fields slots) = (scanRefusal v k x ≡ 0) × Held n v k start (x .0) slots
-ScanIs n v k start x (fields.Refused y) = scanRefusal v k x ≡ number y
+abbrev pub ScanIs : Version → Bytes → ℕ → Scan → FieldsRead → Type 0
+ScanIs v k start x (fields.Fields slots) = (scanRefusal v k x ≡ 0) × Held v k start (x .0) slots
+ScanIs v k start x (fields.Refused y) = scanRefusal v k x ≡ number y
 
-pub record Scans (n : Known) (v : Version) (m : Bool) (s : Bytes) (start : ℕ) (r : FieldsRead) : Type 0 where
-  pub is : (k : Bytes) → Suits n k → ScanIs n v k start (scan (length (drop start s)) m (drop start s)) r
+-- one field or more were read
+pub record WalksFields (x : MapContext) (s : Bytes) (r : FieldsRead) : Type 0 where
+  pub is : ScanIs (versionIn x) (keyBytes x) (x .start) (scan (length (drop (x .start) s)) (x .brackets) (drop (x .start) s)) r
 
 abbrev pub bareAt : Bytes → ℕ → Bool → Bool
 bareAt s at needed = not needed && (empty (drop at s) || begins 62 (drop at s))
 
--- the fields after the `<` of a map under a key of this case
-pub record FieldsAre (v : Version) (key : Key) (s : Bytes) (start : ℕ) (r : FieldsRead) : Type 0 where
-  pub is : (k : Bytes) → Named k key → ScanIs (knownBy key) v k start (readFields (isMeta v k) (alwaysMap k) (drop start s)) r
+-- the fields after the `<` of a map
+abbrev pub fieldsAfter : Version → Bytes → Bytes → ℕ → Scan
+fieldsAfter v k s start = readFields (isMeta v k) (alwaysMap k) (drop start s)
 
--- a map from its `<` on, before the required fields and the reserved IDs are looked at
-abbrev pub OpenIs : Version → Key → Bytes → Bytes → ℕ → FieldsRead → Type 0
-OpenIs v key k s at (fields.Fields slots) = (begins 60 (drop at s) ≡ true) × ScanIs (knownBy key) v k (at + 1) (readFields (isMeta v k) (alwaysMap k) (drop (at + 1) s)) (fields.Fields slots)
-OpenIs v key k s at (fields.Refused x) = readMap v k (drop at s) ≡ refuse (number x)
+-- the fields after the `<` of a map under a key of this case were read
+pub record ReadsFields (v : Version) (key : MapKey) (s : Bytes) (start : ℕ) (r : FieldsRead) : Type 0 where
+  pub is : ScanIs v (bytesOf key) start (fieldsAfter v (bytesOf key) s start) r
 
-pub record OpenAre (v : Version) (key : Key) (s : Bytes) (at : ℕ) (r : FieldsRead) : Type 0 where
-  pub is : (k : Bytes) → Named k key → OpenIs v key k s at r
+abbrev pub OpenIs : Version → Bytes → Bytes → ℕ → FieldsRead → Type 0
+OpenIs v k s at (fields.Fields slots) = (begins 60 (drop at s) ≡ true) × ScanIs v k (at + 1) (fieldsAfter v k s (at + 1)) (fields.Fields slots)
+OpenIs v k s at (fields.Refused x) = readMap v k (drop at s) ≡ refuse (number x)
 
--- a map: the place of its ID, and which name stands for it
+-- a map was read from its `<` on, before the required fields and the reserved IDs are looked at
+pub record OpensMap (v : Version) (key : MapKey) (s : Bytes) (at : ℕ) (r : FieldsRead) : Type 0 where
+  pub is : OpenIs v (bytesOf key) s at r
+
 abbrev pub MapIs : Version → Bytes → Bytes → ℕ → MapRead → Type 0
-MapIs v k s at (maps.Map id tag) = (fs : List Field) × (readMap v k (drop at s) ≡ ok fs) × (slotted (textNamed v k (ascii "ID") (at + 1) fs) ≡ slot.Filled id tag)
+MapIs v k s at (maps.Map id tag) = (fs : List Field) × (readMap v k (drop at s) ≡ ok fs) × (idSlot v k (at + 1) fs ≡ slot.Filled id tag)
 MapIs v k s at (maps.Refused x) = readMap v k (drop at s) ≡ refuse (number x)
 
-pub record MapAre (v : Version) (key : Key) (s : Bytes) (at : ℕ) (r : MapRead) : Type 0 where
-  pub is : (k : Bytes) → Named k key → MapIs v k s at r
+-- a map under a key of this case was parsed: the place of its ID, and which name stands for it
+pub record ParsesMap (v : Version) (key : MapKey) (s : Bytes) (at : ℕ) (r : MapRead) : Type 0 where
+  pub is : MapIs v (bytesOf key) s at r
 
 -- the kinds in which the ID alone is required, and those with a Description too; neither has reserved IDs
-pub record Identified (key : Key) : Type 0 where
-  pub needs : required (kindOf (bytesOf key)) ≡ (ascii "ID", 14) ∷ []
+pub record Identified (key : MapKey) : Type 0 where
+  pub needs : required (kindOf (bytesOf key)) ≡ idField ∷ []
   pub free : tableOf (kindOf (bytesOf key)) ≡ []
 
-pub record Described (key : Key) : Type 0 where
-  pub needs : required (kindOf (bytesOf key)) ≡ (ascii "ID", 14) ∷ (ascii "Description", 17) ∷ []
+pub record Described (key : MapKey) : Type 0 where
+  pub needs : required (kindOf (bytesOf key)) ≡ idField ∷ descriptionField ∷ []
   pub free : tableOf (kindOf (bytesOf key)) ≡ []
-  pub known : knownBy key .described ≡ true
-
--- the bytes of a text, and what they mean
-abbrev pub textIn : Bytes → Text → Bytes
-textIn s t = take (t .end - t .start) (drop (t .start) s)
-
-abbrev pub meaningIn : Bytes → Text → Bytes
-meaningIn s t = meaning (t .quoted) (textIn s t)
+  pub known : rowNamed (ascii "Description") (rows (kindOf (bytesOf key))) ≡ some descriptionField
 
 -- an INFO or FORMAT map whose fields are all there: where its ID, Number and Type stand; its definition is still to be looked at
 pub record Typed (v : Version) (k s : Bytes) (at : ℕ) (id : Text) (tag : ℕ) (number kind : Text) : Type 0 where
   pub fs : List Field
   pub read : readMap v k (drop at s) ≡ judged (misdeclared v k fs) fs
-  pub named : slotted (textNamed v k (ascii "ID") (at + 1) fs) ≡ slot.Filled id tag
+  pub named : idSlot v k (at + 1) fs ≡ slot.Filled id tag
   pub id-is : valueNamed v k (ascii "ID") fs ≡ meaningIn s id
   pub number-is : valueNamed v k (ascii "Number") fs ≡ meaningIn s number
   pub kind-is : valueNamed v k (ascii "Type") fs ≡ meaningIn s kind
@@ -258,9 +276,10 @@ abbrev pub TypedIs : Version → Bytes → Bytes → ℕ → TypedRead → Type 
 TypedIs v k s at (typed.Typed id tag number kind) = Typed v k s at id tag number kind
 TypedIs v k s at (typed.Refused x) = readMap v k (drop at s) ≡ refuse (number x)
 
-pub record TypedAre (v : Version) (key : Key) (s : Bytes) (at : ℕ) (r : TypedRead) : Type 0 where
-  pub is : (k : Bytes) → Named k key → TypedIs v k s at r
+-- an INFO or FORMAT map was parsed
+pub record ParsesTyped (v : Version) (key : MapKey) (s : Bytes) (at : ℕ) (r : TypedRead) : Type 0 where
+  pub is : TypedIs v (bytesOf key) s at r
 
 -- whether a definition is the one that its ID asks for
-pub record Declared (v : Version) (key : Key) (s : Bytes) (id number kind : Text) (r : Bool) : Type 0 where
-  pub is : (k : Bytes) (at tag : ℕ) → Named k key → (t : Typed v k s at id tag number kind) → misdeclared v k (t .fs) ≡ unless r 18
+pub record Declared (v : Version) (key : MapKey) (s : Bytes) (id number kind : Text) (r : Bool) : Type 0 where
+  pub is : (at tag : ℕ) (t : Typed v (bytesOf key) s at id tag number kind) → misdeclared v (bytesOf key) (t .fs) ≡ unless r 18

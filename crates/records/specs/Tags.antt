@@ -1,80 +1,43 @@
--- What the key of a field names in a map of its kind, by the case of the map's key. Assumes nothing.
-use mathlib.Core.Bool.{Bool, true, false, _||_, _&&_}
+-- The known field that a tag stands for. Assumes nothing.
+use mathlib.Core.Bool.{Bool, false, not}
 use mathlib.Core.List.{List, [], _∷_}
-use Rattle.values.specs.Bytes.{Bytes, ascii, same}
-use Rattle.rules.specs.Version.{Version, v4-3, earlier}
-use mathlib.Core.Path.{_≡_}
-use Rattle.records.specs.Keys.{Named}
-use Rattle.records.specs.declared.key.Key.{Key}
-use Rattle.records.specs.declared.key.Key.the-variants as key
+use mathlib.Core.Option.{Option, none, some}
+use lib.Dec.{eqb}
+use Rattle.values.specs.Bytes.{Bytes}
+use Rattle.rules.specs.Known.{Kind, KnownField, idField, numberField, typeField, descriptionField, lengthField, md5Field, urlField, idxField, rows}
 use Rattle.records.specs.declared.tag.Tag.{Tag}
-use Rattle.records.specs.declared.tag.Tag.the-variants.{Id, Number, ValueType, Description, Idx, Length, Other}
-use Rattle.records.specs.declared.tag.Known.{Known}
+use Rattle.records.specs.declared.tag.Tag.the-variants.{Id, Number, ValueType, Description, Length, Md5, Url, Idx, Other}
 
-abbrev pub row : Bool → Bool → Bool → Bool → Bool → Bool → Known
-row info format described indexed sized lineage =
-    record { info = info; format = format; described = described; indexed = indexed; sized = sized; lineage = lineage }
+abbrev pub tagRow : Tag → Option KnownField
+tagRow Id = some idField
+tagRow Number = some numberField
+tagRow ValueType = some typeField
+tagRow Description = some descriptionField
+tagRow Length = some lengthField
+tagRow Md5 = some md5Field
+tagRow Url = some urlField
+tagRow Idx = some idxField
+tagRow Other = none
 
-abbrev pub knownBy : Key → Known
-knownBy key.FileFormat = row false false false false false false
-knownBy key.Info = row true false true true false false
-knownBy key.Filter = row false false true true false false
-knownBy key.Format = row false true true true false false
-knownBy key.AlternativeAllele = row false false true false false false
-knownBy key.Contig = row false false false true true false
-knownBy key.Meta = row false false false false false false
-knownBy key.Pedigree = row false false false false false true
-knownBy key.Other = row false false false false false false
+abbrev pub nameIn : Option KnownField → Bytes
+nameIn none = []
+nameIn (some r) = r .name
 
 abbrev pub tagName : Tag → Bytes
-tagName Id = ascii "ID"
-tagName Number = ascii "Number"
-tagName ValueType = ascii "Type"
-tagName Description = ascii "Description"
-tagName Idx = ascii "IDX"
-tagName Length = ascii "length"
-tagName Other = []
+tagName t = nameIn (tagRow t)
 
-abbrev pub tags : List Tag
-tags = Id ∷ Number ∷ ValueType ∷ Description ∷ Idx ∷ Length ∷ []
+abbrev pub isRequired : Option KnownField → Bool
+isRequired none = false
+isRequired (some r) = not (eqb (r .missing) 0)
 
-unfoldable pub among : List Tag → Bytes → Tag
-among [] field = Other
-among (t ∷ ts) field = elim (same field (tagName t)) [ true ↦ t | false ↦ among ts field ]
-
-abbrev pub tagNamed : Bytes → Tag
-tagNamed field = among tags field
-
-abbrev pub knows : Known → Tag → Bool
-knows n Id = true
-knows n Number = n .info || n .format
-knows n ValueType = n .info || n .format
-knows n Description = n .described
-knows n Idx = n .indexed
-knows n Length = n .sized
-knows n Other = false
-
-abbrev pub namesIdIn : Known → Version → Bytes → Bool
-namesIdIn n v field = n .lineage && (earlier v v4-3 && (same field (ascii "Child") || same field (ascii "Derived")))
-
-abbrev pub kept : Known → Tag → Tag
-kept n t = elim (knows n t) [ true ↦ t | false ↦ Other ]
-
-unfoldable pub tagBy : Known → Version → Bytes → Tag
-tagBy n v field = elim (namesIdIn n v field) [ true ↦ Id | false ↦ kept n (tagNamed field) ]
-
--- the fields that are kept while a map is read
+-- the required fields are kept while a map is read
 abbrev pub isKept : Tag → Bool
-isKept Id = true
-isKept Number = true
-isKept ValueType = true
-isKept Description = true
-isKept Idx = false
-isKept Length = false
-isKept Other = false
+isKept t = isRequired (tagRow t)
 
--- the known fields are those of the map's key
-pub record Suits (n : Known) (k : Bytes) : Type 0 where
-  pub key : Key
-  pub is : n ≡ knownBy key
-  pub named : Named k key
+abbrev pub pastFirst : List KnownField → List KnownField
+pastFirst [] = []
+pastFirst (r ∷ rs) = rs
+
+-- the known fields after the ID
+abbrev pub afterId : Kind → List KnownField
+afterId kind = pastFirst (rows kind)

@@ -2,6 +2,7 @@
 mod alternative_allele;
 mod contig;
 mod definition;
+pub mod field;
 pub mod file_format;
 mod filter;
 mod format;

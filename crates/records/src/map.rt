@@ -1,10 +1,12 @@
 // A map: `<`, fields parted by `,`, then `>` as the last byte of the line.
+use crate::field;
+use crate::field::FieldFound;
 use crate::file_format::FileFormat;
-use crate::key::Key;
+use crate::key::MapContext;
+use crate::key::MapKey;
 use crate::number;
 use crate::refusal::Refusal;
 use crate::tag;
-use crate::tag::Known;
 use crate::tag::Tag;
 use values::bytes;
 use values::cursor::Cursor;
@@ -14,15 +16,15 @@ use values::string::Text;
 ghost use mathlib.Core.Path.{_≡_};
 ghost use mathlib.Core.Bool.{_&&_};
 ghost use lib.ListN.{drop};
-ghost use Rattle.values.specs.Field.{Field};
-ghost use Rattle.rules.specs.Record.{looksMap};
-ghost use Rattle.records.specs.Formats.{versionOf};
 ghost use Rattle.rules.specs.Answer.{unless};
 ghost use Rattle.rules.specs.Version.{v4-5, since};
+ghost use Rattle.rules.specs.Known.{isFormat, isInfo, alwaysMap};
+ghost use Rattle.rules.specs.Record.{looksMap};
+ghost use Rattle.records.specs.Formats.{versionOf};
 ghost use Rattle.records.specs.Refusals.{number};
-ghost use Rattle.records.specs.Maps.{opensAt, closesAt, afterAt, checkNumber, tagRefusal, noSlots, get, put, HasKey, Repeats, Takes, Steps, Scans, bareAt, FieldsAre, OpenAre, Identified, Described, MapAre};
-ghost use Rattle.rules.specs.Known.{alwaysMap};
-ghost use Rattle.records.specs.Keys.{bytesOf};
+ghost use Rattle.records.specs.Keys.{bytesOf, kindBy};
+ghost use Rattle.records.specs.Tags.{tagRow};
+ghost use Rattle.records.specs.Maps.{opensAt, closesAt, afterAt, checkNumber, rawRefusal, noSlots, get, put, mixed, HasKey, Repeats, TakesField, ReadsField, WalksFields, bareAt, ReadsFields, OpensMap, Identified, Described, ParsesMap};
 
 // A text that was read, and which name stood for the ID.
 pub enum Slot {
@@ -30,12 +32,13 @@ pub enum Slot {
     Filled(Text, u8),
 }
 
-// The fields that are kept while a map is read.
+// The fields that are kept while a map is read; `plain`: each field so far is one of them.
 pub struct Slots {
     pub id: Slot,
     pub number: Slot,
     pub kind: Slot,
     pub description: Slot,
+    pub plain: bool,
 }
 
 pub enum Check {
@@ -60,9 +63,9 @@ pub enum FieldTaken {
     Refused(Refusal),
 }
 
-// Past a field: where the next one stands, what is kept, and whether all fields so far are kept.
+// Past a field: where the next one stands, and what is kept.
 pub enum FieldStep {
-    Next(Cursor, Slots, bool),
+    Next(Cursor, Slots),
     Last(Slots),
     Refused(Refusal),
 }
@@ -145,12 +148,18 @@ fn pass_or(passed: bool, refusal: Refusal) -> Check
     Check::Refused(refusal)
 }
 
-impl Known {
+impl MapKey {
+    fn is_info(self) -> bool
+        ensures { λ r. ⌜ r ≡ isInfo (kindBy self) ⌝ }
+    {
+        self.kind() == 2
+    }
+
     // FORMAT from 4.5 has more letters.
     fn has_local_letters(self, version: FileFormat) -> bool
-        ensures { λ r. ⌜ r ≡ (self .format && since v4-5 (versionOf version)) ⌝ }
+        ensures { λ r. ⌜ r ≡ (isFormat (kindBy self) && since v4-5 (versionOf version)) ⌝ }
     {
-        if !self.format {
+        if self.kind() != 4 {
             return false;
         }
         !version.lt(FileFormat::V4_5)
@@ -158,7 +167,7 @@ impl Known {
 
     // Number, Type, IDX and length have rules of their own.
     fn check_value(self, version: FileFormat, tag: Tag, s: &[u8], quoted: bool) -> Check
-        ensures { λ r. ⌜ checkNumber r ≡ tagRefusal self (versionOf version) tag (now (s .entry)) quoted ⌝ }
+        ensures { λ r. ⌜ checkNumber r ≡ rawRefusal (versionOf version) (kindBy self) (now (s .entry)) quoted (tagRow tag) ⌝ }
     {
         match tag {
             Tag::Id => Check::Passed,
@@ -166,10 +175,15 @@ impl Known {
                 let local = self.has_local_letters(version);
                 pass_or(number::is_number(s, quoted, local), Refusal::InvalidNumber)
             }
-            Tag::ValueType => pass_or(number::is_type(s, quoted, self.info), Refusal::InvalidType),
+            Tag::ValueType => {
+                let flag = self.is_info();
+                pass_or(number::is_type(s, quoted, flag), Refusal::InvalidType)
+            }
             Tag::Description => Check::Passed,
-            Tag::Idx => pass_or(number::is_count(s), Refusal::InvalidInteger),
             Tag::Length => pass_or(number::is_count(s), Refusal::InvalidInteger),
+            Tag::Md5 => Check::Passed,
+            Tag::Url => Check::Passed,
+            Tag::Idx => pass_or(number::is_count(s), Refusal::InvalidInteger),
             Tag::Other => Check::Passed,
         }
     }
@@ -184,6 +198,7 @@ impl Slots {
             number: Slot::Empty,
             kind: Slot::Empty,
             description: Slot::Empty,
+            plain: true,
         }
     }
 
@@ -195,9 +210,28 @@ impl Slots {
             Tag::Number => self.number,
             Tag::ValueType => self.kind,
             Tag::Description => self.description,
-            Tag::Idx => Slot::Empty,
             Tag::Length => Slot::Empty,
+            Tag::Md5 => Slot::Empty,
+            Tag::Url => Slot::Empty,
+            Tag::Idx => Slot::Empty,
             Tag::Other => Slot::Empty,
+        }
+    }
+
+    // A field that is not kept stood too.
+    fn mixed(self) -> Slots
+        ensures { λ r. ⌜ r ≡ mixed self ⌝ }
+    {
+        let id = self.id;
+        let number = self.number;
+        let kind = self.kind;
+        let description = self.description;
+        Slots {
+            id,
+            number,
+            kind,
+            description,
+            plain: false,
         }
     }
 
@@ -208,72 +242,59 @@ impl Slots {
         let number = self.number;
         let kind = self.kind;
         let description = self.description;
+        let plain = self.plain;
         match tag {
             Tag::Id => Slots {
                 id: slot,
                 number,
                 kind,
                 description,
+                plain,
             },
             Tag::Number => Slots {
                 id,
                 number: slot,
                 kind,
                 description,
+                plain,
             },
             Tag::ValueType => Slots {
                 id,
                 number,
                 kind: slot,
                 description,
+                plain,
             },
             Tag::Description => Slots {
                 id,
                 number,
                 kind,
                 description: slot,
+                plain,
             },
-            Tag::Idx => self,
-            Tag::Length => self,
-            Tag::Other => self,
+            Tag::Length => self.mixed(),
+            Tag::Md5 => self.mixed(),
+            Tag::Url => self.mixed(),
+            Tag::Idx => self.mixed(),
+            Tag::Other => self.mixed(),
         }
     }
 }
 
-// Whether a field from `start` on, before `upto`, has this key.
+// Whether a field from `start` on, before `upto`, has this key: the first one that has it is looked for.
 fn has_key(s: &[u8], start: usize, upto: usize, brackets: bool, key: &[u8]) -> bool
     ensures { λ r. ⌜ HasKey brackets (now (s .entry)) start upto (now (key .entry)) r ⌝ }
 {
-    let mut c = Cursor { at: start };
-    while c.at < upto {
-        let at = c.at;
-        let FieldRead::Field(equals, _, next) = c.split_field(s, brackets) else {
-            return false;
-        };
-        if bytes::same(bytes::part(s, at, equals), key) {
-            return true;
-        }
-        let Separator::Comma(d) = next.consume_separator(s) else {
-            return false;
-        };
-        c = d;
-    }
-    false
+    let FieldFound::Found(text) = field::find_field(s, start, brackets, key) else {
+        return false;
+    };
+    text.start < upto
 }
 
 // Whether a field of the same name stands before `at`: the kept ones are at hand, others are looked for, unless each
-// field before is kept (`plain`).
-fn is_repeated(
-    s: &[u8],
-    start: usize,
-    at: usize,
-    brackets: bool,
-    field: &[u8],
-    tag: Tag,
-    slots: Slots,
-    plain: bool,
-) -> bool
-    ensures { λ r. ⌜ Repeats brackets (now (s .entry)) start at (now (field .entry)) tag slots plain r ⌝ }
+// field before is kept.
+fn is_repeated(s: &[u8], map: MapContext, at: usize, field: &[u8], tag: Tag, slots: Slots) -> bool
+    ensures { λ r. ⌜ Repeats map (now (s .entry)) at (now (field .entry)) tag slots r ⌝ }
 {
     if tag.is_kept() {
         return match slots.get(tag) {
@@ -281,61 +302,46 @@ fn is_repeated(
             Slot::Filled(_, _) => true,
         };
     }
+    let plain = slots.plain;
     if plain {
         return false;
     }
-    has_key(s, start, at, brackets, field)
+    has_key(s, map.start, at, map.brackets, field)
 }
 
 // The field at the cursor: its tag, what is to be kept of it, and past it.
-fn take_field(
-    s: &[u8],
-    start: usize,
-    c: Cursor,
-    known: Known,
-    version: FileFormat,
-    brackets: bool,
-    slots: Slots,
-    plain: bool,
-) -> FieldTaken
-    ensures { λ r. ⌜ Takes known (versionOf version) brackets (now (s .entry)) start (c .at) slots plain r ⌝ }
+fn take_field(s: &[u8], map: MapContext, c: Cursor, slots: Slots) -> FieldTaken
+    ensures { λ r. ⌜ TakesField map (now (s .entry)) (c .at) slots r ⌝ }
 {
     let at = c.at;
-    let FieldRead::Field(equals, text, next) = c.split_field(s, brackets) else {
+    let key = map.key;
+    let version = map.version;
+    let FieldRead::Field(equals, text, next) = c.split_field(s, map.brackets) else {
         return FieldTaken::Refused(Refusal::InvalidField);
     };
     let field = bytes::part(s, at, equals);
-    let tag = known.tag(version, field);
+    let tag = key.tag(version, field);
     let value = bytes::part(s, text.start, text.end);
-    match known.check_value(version, tag, value, text.quoted) {
+    match key.check_value(version, tag, value, text.quoted) {
         Check::Refused(x) => return FieldTaken::Refused(x),
         Check::Passed => {}
     }
-    if is_repeated(s, start, at, brackets, field, tag, slots, plain) {
+    if is_repeated(s, map, at, field, tag, slots) {
         return FieldTaken::Refused(Refusal::DuplicateTag);
     }
     FieldTaken::Field(tag, Slot::Filled(text, tag::id_tag(field)), next)
 }
 
 // The same, and what follows it.
-fn read_field(
-    s: &[u8],
-    start: usize,
-    c: Cursor,
-    known: Known,
-    version: FileFormat,
-    brackets: bool,
-    slots: Slots,
-    plain: bool,
-) -> FieldStep
-    ensures { λ r. ⌜ Steps known (versionOf version) brackets (now (s .entry)) start (c .at) slots plain r ⌝ }
+fn read_field(s: &[u8], map: MapContext, c: Cursor, slots: Slots) -> FieldStep
+    ensures { λ r. ⌜ ReadsField map (now (s .entry)) (c .at) slots r ⌝ }
 {
-    match take_field(s, start, c, known, version, brackets, slots, plain) {
+    match take_field(s, map, c, slots) {
         FieldTaken::Refused(x) => FieldStep::Refused(x),
         FieldTaken::Field(tag, slot, next) => {
             let kept = slots.put(tag, slot);
             match after_field(s, next) {
-                After::More(d) => FieldStep::Next(d, kept, plain & tag.is_kept()),
+                After::More(d) => FieldStep::Next(d, kept),
                 After::Closed => FieldStep::Last(kept),
                 After::Other => FieldStep::Refused(Refusal::InvalidMap),
             }
@@ -343,26 +349,17 @@ fn read_field(
     }
 }
 
-// One field or more, from the cursor on.
-fn walk_fields(
-    s: &[u8],
-    from: Cursor,
-    known: Known,
-    version: FileFormat,
-    brackets: bool,
-) -> FieldsRead
-    ensures { λ r. ⌜ Scans known (versionOf version) brackets (now (s .entry)) (from .at) r ⌝ }
+// One field or more, from the first on.
+fn walk_fields(s: &[u8], map: MapContext) -> FieldsRead
+    ensures { λ r. ⌜ WalksFields map (now (s .entry)) r ⌝ }
 {
-    let start = from.at;
-    let mut c = from;
+    let mut c = Cursor { at: map.start };
     let mut slots = Slots::empty();
-    let mut plain = true;
     loop {
-        match read_field(s, start, c, known, version, brackets, slots, plain) {
-            FieldStep::Next(d, kept, still) => {
+        match read_field(s, map, c, slots) {
+            FieldStep::Next(d, kept) => {
                 c = d;
                 slots = kept;
-                plain = still;
             }
             FieldStep::Last(kept) => return FieldsRead::Fields(kept),
             FieldStep::Refused(x) => return FieldsRead::Refused(x),
@@ -371,7 +368,7 @@ fn walk_fields(
 }
 
 // If `>` or the end follows `<`, a map has no fields, but META and PEDIGREE need one.
-fn is_bare(s: &[u8], c: Cursor, key: Key) -> bool
+fn is_bare(s: &[u8], c: Cursor, key: MapKey) -> bool
     ensures { λ r. ⌜ r ≡ bareAt (now (s .entry)) (c .at) (alwaysMap (bytesOf key)) ⌝ }
 {
     if key.is_always_map() {
@@ -385,13 +382,12 @@ fn is_bare(s: &[u8], c: Cursor, key: Key) -> bool
 }
 
 // The fields after the `<`, up to the `>` at the end of the line.
-pub fn parse_fields(s: &[u8], c: Cursor, key: Key, version: FileFormat) -> FieldsRead
-    ensures { λ r. ⌜ FieldsAre (versionOf version) key (now (s .entry)) (c .at) r ⌝ }
+pub fn parse_fields(s: &[u8], c: Cursor, key: MapKey, version: FileFormat) -> FieldsRead
+    ensures { λ r. ⌜ ReadsFields (versionOf version) key (now (s .entry)) (c .at) r ⌝ }
 {
     if !is_bare(s, c, key) {
-        let known = tag::known_of(key);
-        let brackets = key.has_brackets(version);
-        return walk_fields(s, c, known, version, brackets);
+        let map = key.context(version, c.at);
+        return walk_fields(s, map);
     }
     if consume_suffix(s, c) {
         return FieldsRead::Fields(Slots::empty());
@@ -400,8 +396,8 @@ pub fn parse_fields(s: &[u8], c: Cursor, key: Key, version: FileFormat) -> Field
 }
 
 // A map from its `<` on, up to the end of the line.
-pub fn parse_map(s: &[u8], c: Cursor, key: Key, version: FileFormat) -> FieldsRead
-    ensures { λ r. ⌜ OpenAre (versionOf version) key (now (s .entry)) (c .at) r ⌝ }
+pub fn parse_map(s: &[u8], c: Cursor, key: MapKey, version: FileFormat) -> FieldsRead
+    ensures { λ r. ⌜ OpensMap (versionOf version) key (now (s .entry)) (c .at) r ⌝ }
 {
     let Prefix::Consumed(d) = consume_prefix(s, c) else {
         return FieldsRead::Refused(Refusal::InvalidMap);
@@ -410,8 +406,8 @@ pub fn parse_map(s: &[u8], c: Cursor, key: Key, version: FileFormat) -> FieldsRe
 }
 
 // A map of a kind in which the ID alone is required.
-pub fn parse_identified(s: &[u8], c: Cursor, key: Key, version: FileFormat) -> MapRead
-    ensures { λ r. ⌜ (Identified key → MapAre (versionOf version) key (now (s .entry)) (c .at) r) ⌝ }
+pub fn parse_identified(s: &[u8], c: Cursor, key: MapKey, version: FileFormat) -> MapRead
+    ensures { λ r. ⌜ (Identified key → ParsesMap (versionOf version) key (now (s .entry)) (c .at) r) ⌝ }
 {
     match parse_map(s, c, key, version) {
         FieldsRead::Refused(x) => MapRead::Refused(x),
@@ -426,8 +422,8 @@ pub fn parse_identified(s: &[u8], c: Cursor, key: Key, version: FileFormat) -> M
 }
 
 // A map of a kind in which the ID and a Description are required.
-pub fn parse_described(s: &[u8], c: Cursor, key: Key, version: FileFormat) -> MapRead
-    ensures { λ r. ⌜ (Described key → MapAre (versionOf version) key (now (s .entry)) (c .at) r) ⌝ }
+pub fn parse_described(s: &[u8], c: Cursor, key: MapKey, version: FileFormat) -> MapRead
+    ensures { λ r. ⌜ (Described key → ParsesMap (versionOf version) key (now (s .entry)) (c .at) r) ⌝ }
 {
     match parse_map(s, c, key, version) {
         FieldsRead::Refused(x) => MapRead::Refused(x),

@@ -1,7 +1,9 @@
 // A record: `##`, a key of one byte or more up to the first `=`, a value.
+use crate::file_format;
 use crate::file_format::FileFormat;
+use crate::file_format::FileFormatRead;
 use crate::key;
-use crate::key::Key;
+use crate::key::MapKey;
 use crate::refusal::Refusal;
 use crate::value;
 use crate::value::ValueParsed;
@@ -10,19 +12,31 @@ use values::cursor::Cursor;
 use values::string::Text;
 ghost use mathlib.Core.Path.{_≡_};
 ghost use mathlib.Core.Bool.{true};
+ghost use lib.ListN.{drop};
 ghost use Rattle.values.specs.Bytes.{ascii, starts};
+ghost use Rattle.rules.specs.Version.{readVersion};
 ghost use Rattle.records.specs.Formats.{versionOf};
-ghost use Rattle.records.specs.Records.{KeyedIs, RecordAre};
+ghost use Rattle.records.specs.Records.{KeyedIs, versionRecord, ParsesRecord};
 
+// The key, and past its `=`.
 pub enum KeyParsed {
-    Key(Key, Cursor),
+    FileFormat(Cursor),
+    Map(MapKey, Cursor),
     Refused,
 }
 
-// A map has its key, the place of its value, its ID and which name stands for that; a text the place of its value.
+// A map: its key, where its value stands, its ID and which name stands for that.
+pub struct MapRecord {
+    pub key: MapKey,
+    pub value: usize,
+    pub id: Text,
+    pub tag: u8,
+}
+
+// A text has the place of its value.
 pub enum RecordRead {
     FileFormat(FileFormat),
-    Map(Key, usize, Text, u8),
+    Map(MapRecord),
     Text(usize),
     Refused(Refusal),
 }
@@ -44,23 +58,43 @@ fn parse_key(s: &[u8]) -> KeyParsed
     if s.len() <= end {
         return KeyParsed::Refused;
     }
-    let key = key::key_of(bytes::part(s, 2, end));
-    KeyParsed::Key(key, Cursor { at: end + 1 })
+    let name = bytes::part(s, 2, end);
+    let next = Cursor { at: end + 1 };
+    if bytes::same(name, b"fileformat") {
+        return KeyParsed::FileFormat(next);
+    }
+    KeyParsed::Map(key::map_key_of(name), next)
+}
+
+// The value of a fileformat line.
+fn parse_version(s: &[u8], c: Cursor) -> RecordRead
+    ensures { λ r. ⌜ r ≡ versionRecord (readVersion (drop (c .at) (now (s .entry)))) ⌝ }
+{
+    let value = bytes::part(s, c.at, s.len());
+    let FileFormatRead::Version(version) = file_format::parse_file_format(value) else {
+        return RecordRead::Refused(Refusal::InvalidFileFormat);
+    };
+    RecordRead::FileFormat(version)
 }
 
 pub fn parse_record(s: &[u8], version: FileFormat) -> RecordRead
-    ensures { λ r. ⌜ RecordAre (versionOf version) (now (s .entry)) r ⌝ }
+    ensures { λ r. ⌜ ParsesRecord (versionOf version) (now (s .entry)) r ⌝ }
 {
     if !consume_prefix(s) {
         return RecordRead::Refused(Refusal::InvalidRecord);
     }
-    let KeyParsed::Key(key, next) = parse_key(s) else {
-        return RecordRead::Refused(Refusal::InvalidRecord);
-    };
-    match value::parse_value(s, next, key, version) {
-        ValueParsed::FileFormat(v) => RecordRead::FileFormat(v),
-        ValueParsed::Map(id, tag) => RecordRead::Map(key, next.at, id, tag),
-        ValueParsed::Text => RecordRead::Text(next.at),
-        ValueParsed::Refused(x) => RecordRead::Refused(x),
+    match parse_key(s) {
+        KeyParsed::FileFormat(next) => parse_version(s, next),
+        KeyParsed::Map(key, next) => match value::parse_value(s, next, key, version) {
+            ValueParsed::Map(id, tag) => RecordRead::Map(MapRecord {
+                key,
+                value: next.at,
+                id,
+                tag,
+            }),
+            ValueParsed::Text => RecordRead::Text(next.at),
+            ValueParsed::Refused(x) => RecordRead::Refused(x),
+        },
+        KeyParsed::Refused => RecordRead::Refused(Refusal::InvalidRecord),
     }
 }

@@ -1,96 +1,32 @@
-// What the key of a field names in a map of its kind.
+// The table of known fields: what the key of a field names in a map of its kind.
 use crate::file_format::FileFormat;
-use crate::key::Key;
+use crate::key::MapKey;
 use values::bytes;
 ghost use mathlib.Core.Path.{_≡_};
-ghost use mathlib.Core.Bool.{_||_};
-ghost use Rattle.rules.specs.Known.{tagOf};
+ghost use mathlib.Core.Bool.{_&&_};
+ghost use Rattle.values.specs.Bytes.{ascii, same};
+ghost use Rattle.rules.specs.Version.{v4-3, earlier};
+ghost use Rattle.rules.specs.Known.{INFO, FILTER, ALT, contig, rowNamed, nameOf, tagOf};
+ghost use Rattle.rules.specs.Map.{isSome, knownNamed};
 ghost use Rattle.records.specs.Formats.{versionOf};
-ghost use Rattle.records.specs.Tags.{row, knownBy, knows, tagNamed, namesIdIn, tagBy, isKept};
+ghost use Rattle.records.specs.Keys.{bytesOf, kindBy};
+ghost use Rattle.records.specs.Tags.{tagRow, isKept, afterId};
 
+// Other: the field is no known one.
 pub enum Tag {
     Id,
     Number,
     ValueType,
     Description,
-    Idx,
     Length,
+    Md5,
+    Url,
+    Idx,
     Other,
 }
 
-// Which fields besides the ID are known in a kind of map: Number and Type as INFO or as FORMAT has them, Description, IDX,
-// length. `lineage`: Child and Derived name the ID before 4.3.
-pub struct Known {
-    pub info: bool,
-    pub format: bool,
-    pub described: bool,
-    pub indexed: bool,
-    pub sized: bool,
-    pub lineage: bool,
-}
-
-fn known_row(
-    info: bool,
-    format: bool,
-    described: bool,
-    indexed: bool,
-    sized: bool,
-    lineage: bool,
-) -> Known
-    ensures { λ r. ⌜ r ≡ row info format described indexed sized lineage ⌝ }
-{
-    Known {
-        info,
-        format,
-        described,
-        indexed,
-        sized,
-        lineage,
-    }
-}
-
-pub fn known_of(key: Key) -> Known
-    ensures { λ r. ⌜ r ≡ knownBy key ⌝ }
-{
-    match key {
-        Key::FileFormat => known_row(false, false, false, false, false, false),
-        Key::Info => known_row(true, false, true, true, false, false),
-        Key::Filter => known_row(false, false, true, true, false, false),
-        Key::Format => known_row(false, true, true, true, false, false),
-        Key::AlternativeAllele => known_row(false, false, true, false, false, false),
-        Key::Contig => known_row(false, false, false, true, true, false),
-        Key::Meta => known_row(false, false, false, false, false, false),
-        Key::Pedigree => known_row(false, false, false, false, false, true),
-        Key::Other => known_row(false, false, false, false, false, false),
-    }
-}
-
-fn tag_named(field: &[u8]) -> Tag
-    ensures { λ r. ⌜ r ≡ tagNamed (now (field .entry)) ⌝ }
-{
-    if bytes::same(field, b"ID") {
-        return Tag::Id;
-    }
-    if bytes::same(field, b"Number") {
-        return Tag::Number;
-    }
-    if bytes::same(field, b"Type") {
-        return Tag::ValueType;
-    }
-    if bytes::same(field, b"Description") {
-        return Tag::Description;
-    }
-    if bytes::same(field, b"IDX") {
-        return Tag::Idx;
-    }
-    if bytes::same(field, b"length") {
-        return Tag::Length;
-    }
-    Tag::Other
-}
-
 impl Tag {
-    // Id, Number, Type and Description are kept while a map is read.
+    // The required fields are kept while a map is read.
     pub fn is_kept(self) -> bool
         ensures { λ r. ⌜ r ≡ isKept self ⌝ }
     {
@@ -99,63 +35,28 @@ impl Tag {
             Tag::Number => true,
             Tag::ValueType => true,
             Tag::Description => true,
-            Tag::Idx => false,
             Tag::Length => false,
+            Tag::Md5 => false,
+            Tag::Url => false,
+            Tag::Idx => false,
             Tag::Other => false,
         }
     }
-}
 
-impl Known {
-    fn is_typed(self) -> bool
-        ensures { λ r. ⌜ r ≡ (self .info || self .format) ⌝ }
+    pub fn is_known(self) -> bool
+        ensures { λ r. ⌜ r ≡ isSome (tagRow self) ⌝ }
     {
-        if self.info {
-            return true;
-        }
-        self.format
-    }
-
-    fn has(self, tag: Tag) -> bool
-        ensures { λ r. ⌜ r ≡ knows self tag ⌝ }
-    {
-        match tag {
+        match self {
             Tag::Id => true,
-            Tag::Number => self.is_typed(),
-            Tag::ValueType => self.is_typed(),
-            Tag::Description => self.described,
-            Tag::Idx => self.indexed,
-            Tag::Length => self.sized,
+            Tag::Number => true,
+            Tag::ValueType => true,
+            Tag::Description => true,
+            Tag::Length => true,
+            Tag::Md5 => true,
+            Tag::Url => true,
+            Tag::Idx => true,
             Tag::Other => false,
         }
-    }
-
-    fn names_id(self, version: FileFormat, field: &[u8]) -> bool
-        ensures { λ r. ⌜ r ≡ namesIdIn self (versionOf version) (now (field .entry)) ⌝ }
-    {
-        if !self.lineage {
-            return false;
-        }
-        if !version.lt(FileFormat::V4_3) {
-            return false;
-        }
-        if bytes::same(field, b"Child") {
-            return true;
-        }
-        bytes::same(field, b"Derived")
-    }
-
-    pub fn tag(self, version: FileFormat, field: &[u8]) -> Tag
-        ensures { λ r. ⌜ r ≡ tagBy self (versionOf version) (now (field .entry)) ⌝ }
-    {
-        if self.names_id(version, field) {
-            return Tag::Id;
-        }
-        let tag = tag_named(field);
-        if self.has(tag) {
-            return tag;
-        }
-        Tag::Other
     }
 }
 
@@ -170,4 +71,106 @@ pub fn id_tag(field: &[u8]) -> u8
         return 2;
     }
     0
+}
+
+// The fields after the ID.
+
+fn alternative_allele_tag(field: &[u8]) -> Tag
+    ensures { λ r. ⌜ tagRow r ≡ rowNamed (now (field .entry)) (afterId ALT) ⌝ }
+{
+    if bytes::same(b"Description", field) {
+        return Tag::Description;
+    }
+    Tag::Other
+}
+
+fn filter_tag(field: &[u8]) -> Tag
+    ensures { λ r. ⌜ tagRow r ≡ rowNamed (now (field .entry)) (afterId FILTER) ⌝ }
+{
+    if bytes::same(b"Description", field) {
+        return Tag::Description;
+    }
+    if bytes::same(b"IDX", field) {
+        return Tag::Idx;
+    }
+    Tag::Other
+}
+
+// INFO and FORMAT.
+fn typed_tag(field: &[u8]) -> Tag
+    ensures { λ r. ⌜ tagRow r ≡ rowNamed (now (field .entry)) (afterId INFO) ⌝ }
+{
+    if bytes::same(b"Number", field) {
+        return Tag::Number;
+    }
+    if bytes::same(b"Type", field) {
+        return Tag::ValueType;
+    }
+    filter_tag(field)
+}
+
+fn contig_tag(field: &[u8]) -> Tag
+    ensures { λ r. ⌜ tagRow r ≡ rowNamed (now (field .entry)) (afterId contig) ⌝ }
+{
+    if bytes::same(b"length", field) {
+        return Tag::Length;
+    }
+    if bytes::same(b"md5", field) {
+        return Tag::Md5;
+    }
+    if bytes::same(b"URL", field) {
+        return Tag::Url;
+    }
+    if bytes::same(b"IDX", field) {
+        return Tag::Idx;
+    }
+    Tag::Other
+}
+
+impl MapKey {
+    fn tag_after_id(self, field: &[u8]) -> Tag
+        ensures { λ r. ⌜ tagRow r ≡ rowNamed (now (field .entry)) (afterId (kindBy self)) ⌝ }
+    {
+        match self {
+            MapKey::Info => typed_tag(field),
+            MapKey::Filter => filter_tag(field),
+            MapKey::Format => typed_tag(field),
+            MapKey::AlternativeAllele => alternative_allele_tag(field),
+            MapKey::Contig => contig_tag(field),
+            MapKey::Meta => Tag::Other,
+            MapKey::Pedigree => Tag::Other,
+            MapKey::Other => Tag::Other,
+        }
+    }
+
+    // Child and Derived name the ID of a PEDIGREE, before 4.3.
+    fn has_lineage(self, version: FileFormat) -> bool
+        ensures { λ r. ⌜ r ≡ (same (bytesOf self) (ascii "PEDIGREE") && earlier (versionOf version) v4-3) ⌝ }
+    {
+        if !self.is_pedigree() {
+            return false;
+        }
+        version.lt(FileFormat::V4_3)
+    }
+
+    fn names_id(self, version: FileFormat, field: &[u8]) -> bool
+        ensures { λ r. ⌜ r ≡ same (ascii "ID") (nameOf (versionOf version) (bytesOf self) (now (field .entry))) ⌝ }
+    {
+        if bytes::same(b"ID", field) {
+            return true;
+        }
+        if !self.has_lineage(version) {
+            return false;
+        }
+        id_tag(field) != 0
+    }
+
+    pub fn tag(self, version: FileFormat, field: &[u8]) -> Tag
+        ensures { λ r. ⌜ tagRow r ≡ knownNamed (versionOf version) (bytesOf self) (now (field .entry)) ⌝ }
+    {
+        if self.names_id(version, field) {
+            return Tag::Id;
+        }
+        self.tag_after_id(field)
+    }
 }

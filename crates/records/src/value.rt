@@ -3,13 +3,11 @@ use crate::alternative_allele;
 use crate::contig;
 use crate::definition;
 use crate::definition::Definition;
-use crate::file_format;
 use crate::file_format::FileFormat;
-use crate::file_format::FileFormatRead;
 use crate::filter;
 use crate::format;
 use crate::info;
-use crate::key::Key;
+use crate::key::MapKey;
 use crate::map;
 use crate::map::MapRead;
 use crate::map::TypedRead;
@@ -23,12 +21,11 @@ ghost use lib.ListN.{drop};
 ghost use Rattle.rules.specs.Record.{isMap};
 ghost use Rattle.records.specs.Formats.{versionOf};
 ghost use Rattle.records.specs.Keys.{bytesOf};
-ghost use Rattle.records.specs.Maps.{Declared, MapAre};
-ghost use Rattle.records.specs.Records.{fits, ValueAre};
-ghost use Rattle.records.specs.declared.key.Key.the-variants.{Info, Format};
+ghost use Rattle.records.specs.Maps.{Declared, ParsesMap};
+ghost use Rattle.records.specs.Records.{fits, ParsesValue};
+ghost use Rattle.records.specs.declared.key.MapKey.the-variants.{Info, Format};
 
 pub enum ValueParsed {
-    FileFormat(FileFormat),
     Map(Text, u8),
     Text,
     Refused(Refusal),
@@ -85,7 +82,7 @@ fn validate_format_definition(
 }
 
 fn parse_info_value(s: &[u8], c: Cursor, version: FileFormat) -> MapRead
-    ensures { λ r. ⌜ MapAre (versionOf version) Info (now (s .entry)) (c .at) r ⌝ }
+    ensures { λ r. ⌜ ParsesMap (versionOf version) Info (now (s .entry)) (c .at) r ⌝ }
 {
     match info::parse_info(s, c, version) {
         TypedRead::Refused(x) => MapRead::Refused(x),
@@ -99,7 +96,7 @@ fn parse_info_value(s: &[u8], c: Cursor, version: FileFormat) -> MapRead
 }
 
 fn parse_format_value(s: &[u8], c: Cursor, version: FileFormat) -> MapRead
-    ensures { λ r. ⌜ MapAre (versionOf version) Format (now (s .entry)) (c .at) r ⌝ }
+    ensures { λ r. ⌜ ParsesMap (versionOf version) Format (now (s .entry)) (c .at) r ⌝ }
 {
     match format::parse_format(s, c, version) {
         TypedRead::Refused(x) => MapRead::Refused(x),
@@ -112,24 +109,23 @@ fn parse_format_value(s: &[u8], c: Cursor, version: FileFormat) -> MapRead
     }
 }
 
-fn parse_map_value(s: &[u8], c: Cursor, key: Key, version: FileFormat) -> MapRead
-    ensures { λ r. ⌜ MapAre (versionOf version) key (now (s .entry)) (c .at) r ⌝ }
+fn parse_map_value(s: &[u8], c: Cursor, key: MapKey, version: FileFormat) -> MapRead
+    ensures { λ r. ⌜ ParsesMap (versionOf version) key (now (s .entry)) (c .at) r ⌝ }
 {
     match key {
-        Key::FileFormat => map::parse_identified(s, c, Key::FileFormat, version),
-        Key::Info => parse_info_value(s, c, version),
-        Key::Filter => filter::parse_filter(s, c, version),
-        Key::Format => parse_format_value(s, c, version),
-        Key::AlternativeAllele => alternative_allele::parse_alternative_allele(s, c, version),
-        Key::Contig => contig::parse_contig(s, c, version),
-        Key::Meta => other::parse_meta(s, c, version),
-        Key::Pedigree => other::parse_pedigree(s, c, version),
-        Key::Other => other::parse_other(s, c, version),
+        MapKey::Info => parse_info_value(s, c, version),
+        MapKey::Filter => filter::parse_filter(s, c, version),
+        MapKey::Format => parse_format_value(s, c, version),
+        MapKey::AlternativeAllele => alternative_allele::parse_alternative_allele(s, c, version),
+        MapKey::Contig => contig::parse_contig(s, c, version),
+        MapKey::Meta => other::parse_meta(s, c, version),
+        MapKey::Pedigree => other::parse_pedigree(s, c, version),
+        MapKey::Other => other::parse_other(s, c, version),
     }
 }
 
 // Typed keys, META and PEDIGREE are always maps; others by how their value begins.
-fn is_map_value(s: &[u8], c: Cursor, key: Key, version: FileFormat) -> bool
+fn is_map_value(s: &[u8], c: Cursor, key: MapKey, version: FileFormat) -> bool
     ensures { λ r. ⌜ r ≡ isMap (versionOf version) (bytesOf key) (drop (c .at) (now (s .entry))) ⌝ }
 {
     if key.is_typed() {
@@ -141,16 +137,9 @@ fn is_map_value(s: &[u8], c: Cursor, key: Key, version: FileFormat) -> bool
     map::is_map(s, c, version)
 }
 
-pub fn parse_value(s: &[u8], c: Cursor, key: Key, version: FileFormat) -> ValueParsed
-    ensures { λ r. ⌜ ValueAre (versionOf version) key (now (s .entry)) (c .at) r ⌝ }
+pub fn parse_value(s: &[u8], c: Cursor, key: MapKey, version: FileFormat) -> ValueParsed
+    ensures { λ r. ⌜ ParsesValue (versionOf version) key (now (s .entry)) (c .at) r ⌝ }
 {
-    if key.is_file_format() {
-        let value = bytes::part(s, c.at, s.len());
-        let FileFormatRead::Version(v) = file_format::parse_file_format(value) else {
-            return ValueParsed::Refused(Refusal::InvalidFileFormat);
-        };
-        return ValueParsed::FileFormat(v);
-    }
     if !is_map_value(s, c, key, version) {
         return ValueParsed::Text;
     }

@@ -6,10 +6,7 @@ use Rattle.values.specs.Bytes.{Bytes, same}
 use Rattle.values.proofs.Tests.{or-on}
 use Rattle.rules.specs.Known.{isIn}
 use Rattle.values.proofs.Sames.{same-self}
-
-abbrev pub All : {A : Type 0} → (A → Type 0) → List A → Type 0
-All P [] = Unit {0}
-All P (x ∷ xs) = P x × All P xs
+use Rattle.rules.specs.Claims.{All}
 
 pub all-map : {A : Type 0} (P Q : A → Type 0) (xs : List A) → ((x : A) → P x → Q x) → All P xs → All Q xs
 all-map P Q [] f h = tt

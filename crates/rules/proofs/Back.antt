@@ -18,20 +18,14 @@ use Rattle.rules.specs.Entry.{Entry, recordEntry, samplesStart, columnEn
 use Rattle.rules.specs.Reading.{clash, State, empty, ready, done, enter, stepText, isDone, step, Reading, following, run, reading}
 use Rattle.rules.specs.Meaning.{saying}
 use Rattle.rules.specs.House.{recordOf, writeRecord, writeColumns}
-use Rattle.rules.proofs.Alls.{All}
 use Rattle.rules.proofs.Pure.{Pure}
 use Rattle.rules.proofs.Pieces.{NoLF, written, pieces-lines}
-use Rattle.rules.proofs.Versions.{Sized}
 use Rattle.rules.proofs.Tidy.{tidied}
 use Rattle.rules.proofs.Groups.{Clear, all-split}
 use Rattle.rules.proofs.Samples.{GoodColumns, columns-back, columns-start}
 use Rattle.rules.proofs.Records.{Entered, record-back, format-back, not-column}
 use Rattle.rules.proofs.Sound.{samples-count, run-more}
-
--- accepted, with these records
-pub record Accepted (v : Version) (rs : List Record) (c : Columns) (r : Reading) : Type 0 where
-  pub number : r .number ≡ 0
-  pub state : r .state ≡ done v rs c
+use Rattle.rules.specs.Claims.{All, Sized, Accepted}
 
 -- a line that is not too long and holds what a line may
 pub record Line (lim : Limits) (l : Bytes) : Type 0 where

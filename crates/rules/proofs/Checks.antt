@@ -11,23 +11,23 @@ use Rattle.values.proofs.Lists.{OnSome}
 use Rattle.rules.specs.Answer.{unless}
 use Rattle.rules.specs.Version.{Version}
 use Rattle.rules.specs.Known.{kindOf, isIn, nameOf}
-use Rattle.rules.specs.Map.{Scan, fieldRefusal, checkFields, fieldNamed, missing, misdeclared, mapRefusal}
+use Rattle.rules.specs.Map.{Scan, valueRefusal, knownNamed, checkFields, fieldNamed, missing, misdeclared, mapRefusal}
 use Rattle.rules.proofs.Firsts.{first-zero, zero-first, first-nil, zero-unless}
 use Rattle.values.proofs.Sames.{same-sound}
-use Rattle.rules.proofs.Alls.{All}
 use Rattle.rules.proofs.Names.{Fresh}
+use Rattle.rules.specs.Claims.{All}
 
 abbrev pub namesOf : Version → Bytes → List Field → List Bytes
 namesOf v k fs = map (λ (f : Field). nameOf v k (f .key)) fs
 
 abbrev pub Passes : Version → Bytes → Field → Type 0
-Passes v k f = fieldRefusal v (kindOf k) (f .key) (meaningOf (f .value)) ≡ 0
+Passes v k f = valueRefusal v (kindOf k) (meaningOf (f .value)) (knownNamed v k (f .key)) ≡ 0
 
 pub checked : (v : Version) (k : Bytes) (seen : List Bytes) (fs : List Field) → checkFields v k seen fs ≡ 0 → All (Passes v k) fs × Fresh seen (namesOf v k fs)
 unfolding checkFields
 checked v k seen [] h = (tt, tt)
 checked v k seen (f ∷ fs) h =
-    let a = first-zero (fieldRefusal v (kindOf k) (f .key) (meaningOf (f .value))) _ h in
+    let a = first-zero (valueRefusal v (kindOf k) (meaningOf (f .value)) (knownNamed v k (f .key))) _ h in
     let b = first-zero (unless (not (isIn (nameOf v k (f .key)) seen)) 10) _ (a .1) in
     let d = checked v k (nameOf v k (f .key) ∷ seen) fs (first-zero (checkFields v k (nameOf v k (f .key) ∷ seen) fs) [] (b .1) .0) in
     ((a .0, d .0), (not-true (isIn (nameOf v k (f .key)) seen) (zero-unless _ 9 (b .0)), d .1))
@@ -36,7 +36,7 @@ pub check : (v : Version) (k : Bytes) (seen : List Bytes) (fs : List Field) → 
 unfolding checkFields
 check v k seen [] p f = refl
 check v k seen (g ∷ fs) p f =
-    zero-first (fieldRefusal v (kindOf k) (g .key) (meaningOf (g .value))) _ (p .0)
+    zero-first (valueRefusal v (kindOf k) (meaningOf (g .value)) (knownNamed v k (g .key))) _ (p .0)
     (zero-first (unless (not (isIn (nameOf v k (g .key)) seen)) 10) _ (rw (f .0))
     (zero-first (checkFields v k (nameOf v k (g .key) ∷ seen) fs) [] (check v k (nameOf v k (g .key) ∷ seen) fs (p .1) (f .1)) first-nil))
 

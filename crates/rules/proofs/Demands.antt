@@ -3,65 +3,51 @@ use Prim.Native.Nat.{ℕ, zero, suc, _+_, _≤_}
 use native.Mathlib.Omega.{arith}
 use mathlib.Core.Path.{_≡_, refl, sym, ap, subst, _∙_}
 use mathlib.Core.List.{List, [], _∷_, _++_}
-use mathlib.Core.Option.{Option, none, some}
+use mathlib.Core.Option.{Option, some}
 use lib.ListN.{length, length-append, length-drop}
-use Rattle.values.specs.Bytes.{Bytes}
+use Rattle.values.specs.Bytes.{Bytes, part}
 use Rattle.values.proofs.Lists.{some-is, none-not}
-use Rattle.values.proofs.Fields.{part, text-here}
-use Rattle.rules.specs.Answer.{ok}
+use Rattle.values.proofs.Fields.{text-here}
 use Rattle.rules.specs.Sizes.{Limits}
 use Rattle.rules.specs.Version.{Version}
-use Rattle.rules.specs.Record.{Record, fileformat, fields, text, readRecord}
+use Rattle.rules.specs.Record.{Record, fileformat, fields, text}
 use Rattle.rules.specs.Columns.{Columns}
 use Rattle.rules.specs.Entry.{Entry, formatKind, textKind, columnsKind, sampleKind, plainEntry, recordEntry, samplesStart, sampleEntries, columnEntries}
 use Rattle.rules.specs.Reading.{reading}
 use Rattle.rules.proofs.Firsts.{on-ok}
-use Rattle.rules.proofs.Alls.{All}
-use Rattle.rules.proofs.Versions.{SizedOption}
 use Rattle.rules.proofs.Samples.{columns-in}
 use Rattle.rules.proofs.Records.{Entered}
 use Rattle.rules.proofs.Sound.{samples-count}
-use Rattle.rules.proofs.Back.{Accepted}
 use Rattle.rules.proofs.House.{accepted-good}
-use Rattle.rules.proofs.Trace.{LineAt, Row, Rows, TracedHeader, header-traced}
-use Rattle.rules.proofs.Shows.{ShowsMap, shows-map, ShowsPlain, shows-plain, part-part}
+use Rattle.rules.proofs.Trace.{TracedHeader, header-traced}
+use Rattle.rules.proofs.Shows.{shows-map, shows-plain, part-part}
 use Rattle.rules.proofs.Stands.{NamesAt, names-next, first-name, names-start}
-
--- entry n of a list
-abbrev pub nthEntry : List Entry → ℕ → Option Entry
-nthEntry [] n = none
-nthEntry (e ∷ es) zero = some e
-nthEntry (e ∷ es) (suc n) = nthEntry es n
-
-abbrev pub recordAt : List Record → ℕ → Option Record
-recordAt [] i = none
-recordAt (r ∷ rs) zero = some r
-recordAt (r ∷ rs) (suc i) = recordAt rs i
+use Rattle.rules.specs.Claims.{All, SizedOption, Accepted, Row, Rows, nth, Shows, Shown, ShownPlain}
 
 -- the row of the i-th record
 record RowAt (lim : Limits) (h : Bytes) (v : Version) (es : List Entry) (i : ℕ) (r : Record) : Type 0 where
   entry : Entry
-  is : nthEntry es i ≡ some entry
+  is : nth es i ≡ some entry
   row : Row lim h v entry r
 
-row-at : (lim : Limits) (h : Bytes) (v : Version) (es : List Entry) (rs : List Record) (i : ℕ) {r : Record} → Rows lim h v es rs → recordAt rs i ≡ some r → RowAt lim h v es i r
+row-at : (lim : Limits) (h : Bytes) (v : Version) (es : List Entry) (rs : List Record) (i : ℕ) {r : Record} → Rows lim h v es rs → nth rs i ≡ some r → RowAt lim h v es i r
 row-at lim h v [] [] i a e = none-not e
 row-at lim h v [] (r ∷ rs) i a e = absurd a
 row-at lim h v (x ∷ es) [] i a e = absurd a
 row-at lim h v (x ∷ es) (r ∷ rs) zero a e = record { entry = x; is = refl; row = subst (Row lim h v x) (some-is e) (a .0) }
 row-at lim h v (x ∷ es) (r ∷ rs) (suc i) a e = let d = row-at lim h v es rs i (a .1) e in record { entry = d .entry; is = d .is; row = d .row }
 
-all-at : (P : Record → Type 0) (rs : List Record) (i : ℕ) {r : Record} → All P rs → recordAt rs i ≡ some r → P r
+all-at : (P : Record → Type 0) (rs : List Record) (i : ℕ) {r : Record} → All P rs → nth rs i ≡ some r → P r
 all-at P [] i a e = none-not e
 all-at P (r ∷ rs) zero a e = subst P (some-is e) (a .0)
 all-at P (r ∷ rs) (suc i) a e = all-at P rs i (a .1) e
 
-entry-left : (xs ys : List Entry) (i : ℕ) {e : Entry} → nthEntry xs i ≡ some e → nthEntry (xs ++ ys) i ≡ some e
+entry-left : (xs ys : List Entry) (i : ℕ) {e : Entry} → nth xs i ≡ some e → nth (xs ++ ys) i ≡ some e
 entry-left [] ys i h = none-not h
 entry-left (x ∷ xs) ys zero h = h
 entry-left (x ∷ xs) ys (suc i) h = entry-left xs ys i h
 
-entry-right : (xs ys : List Entry) (i : ℕ) → nthEntry (xs ++ ys) (length xs + i) ≡ nthEntry ys i
+entry-right : (xs ys : List Entry) (i : ℕ) → nth (xs ++ ys) (length xs + i) ≡ nth ys i
 entry-right [] ys i = let e : 0 + i ≡ i = omega arith in rw e
 entry-right (x ∷ xs) ys i = let e : suc (length xs) + i ≡ suc (length xs + i) = omega arith in rw e (entry-right xs ys i)
 
@@ -71,19 +57,14 @@ rows-length lim h v [] (r ∷ rs) a = absurd a
 rows-length lim h v (x ∷ es) [] a = absurd a
 rows-length lim h v (x ∷ es) (r ∷ rs) a = ap suc (rows-length lim h v es rs (a .1))
 
-abbrev pub nameAt : List Bytes → ℕ → Option Bytes
-nameAt [] j = none
-nameAt (x ∷ xs) zero = some x
-nameAt (x ∷ xs) (suc j) = nameAt xs j
-
 -- a sample's name, where its entry says
 pub record NameIn (s : ℕ) (l : Bytes) (es : List Entry) (j : ℕ) (x : Bytes) : Type 0 where
   pub at : ℕ
-  pub is : nthEntry es j ≡ some (plainEntry sampleKind (s + at) (length x))
+  pub is : nth es j ≡ some (plainEntry sampleKind (s + at) (length x))
   pub here : part l at (at + length x) ≡ x
   pub inside : at + length x ≤ length l
 
-name-in : (s : ℕ) (l : Bytes) (at : ℕ) (xs : List Bytes) (j : ℕ) {x : Bytes} → NamesAt l at xs → nameAt xs j ≡ some x → NameIn s l (sampleEntries (s + at) xs) j x
+name-in : (s : ℕ) (l : Bytes) (at : ℕ) (xs : List Bytes) (j : ℕ) {x : Bytes} → NamesAt l at xs → nth xs j ≡ some x → NameIn s l (sampleEntries (s + at) xs) j x
 unfolding sampleEntries
 name-in s l at [] j h e = none-not e
 name-in s l at (y ∷ xs) zero {x} h e =
@@ -96,28 +77,6 @@ name-in s l at (y ∷ xs) (suc j) h e =
     let q : s + (at + length y + 1) ≡ s + at + length y + 1 = omega arith in
     record { at = d .at; is = rw (← q) (d .is); here = d .here; inside = d .inside }
 
--- what is shown of a record's entry
-abbrev pub Shows : Limits → Bytes → Version → Bytes → Entry → Record → Type 0
-Shows lim h v l e (fileformat u) = ⊥
-Shows lim h v l e (fields k fs) = ShowsMap lim h v k fs l e
-Shows lim h v l e (text k t) = ShowsPlain lim h v textKind l e
-
--- entry n of the entries shows the record r: its line, and what the calls show of it
-pub record Shown (lim : Limits) (h : Bytes) (v : Version) (es : List Entry) (n : ℕ) (r : Record) : Type 0 where
-  pub entry : Entry
-  pub is : nthEntry es n ≡ some entry
-  pub start : ℕ
-  pub line : Bytes
-  pub there : LineAt lim h start line
-  pub read : readRecord v line ≡ ok r
-  pub shows : Shows lim h v line entry r
-
--- entry n of the entries is of a kind without an ID, and shows these bytes
-pub record ShownPlain (lim : Limits) (h : Bytes) (v : Version) (es : List Entry) (n kind : ℕ) (x : Bytes) : Type 0 where
-  pub entry : Entry
-  pub is : nthEntry es n ≡ some entry
-  pub shows : ShowsPlain lim h v kind x entry
-
 module _ (lim : Limits) (imposed : Option Version) (sized : SizedOption imposed) (room : ℕ) (h : Bytes)
     {v : Version} {rs : List Record} {c : Columns} (a : Accepted v rs c (reading lim imposed room h)) where
   abbrev entries : List Entry
@@ -126,39 +85,39 @@ module _ (lim : Limits) (imposed : Option Version) (sized : SizedOption imposed)
   pub traced : TracedHeader lim imposed h v rs c entries
   traced = header-traced lim imposed room h a
 
-  record-shown : (i : ℕ) (r : Record) (e : Entry) → Entered v r → Row lim h v e r → nthEntry entries (suc i) ≡ some e → Shown lim h v entries (suc i) r
+  record-shown : (i : ℕ) (r : Record) (e : Entry) → Entered v r → Row lim h v e r → nth entries (suc i) ≡ some e → Shown lim h v entries (suc i) r
   unfolding recordEntry
   record-shown i r e g row q = record { entry = e; is = q; start = row .start; line = row .line; there = row .there; read = row .read; shows = go r g row }
     where
-      go : (r : Record) → Entered v r → (row : Row lim h v e r) → Shows lim h v (row .line) e r
+      go : (r : Record) → Entered v r → (row : Row lim h v e r) → Shows h v (row .line) e r
       go (fileformat u) g row = absurd g
       go (fields k fs) g row = shows-map lim h v k fs e row (g .fine .whole)
       go (text k t) g row = rw (row .entry) (shows-plain lim h v textKind (row .start) (row .line) refl refl (row .there .here) (row .there .inside))
 
   -- entry i + 1 shows record i
-  pub entry-shows : (i : ℕ) {r : Record} → recordAt rs i ≡ some r → Shown lim h v entries (suc i) r
+  pub entry-shows : (i : ℕ) {r : Record} → nth rs i ≡ some r → Shown lim h v entries (suc i) r
   entry-shows i {r} e =
       let d = row-at lim h v (traced .rows) rs i (traced .all) e in
       let g = all-at (Entered v) rs i (accepted-good lim imposed room h sized a .0 .0 .good) e in
-      record-shown i r (d .entry) g (d .row) (ap (λ (x : List Entry). nthEntry x (suc i)) (traced .these) ∙ entry-left (traced .rows) _ i (d .is))
+      record-shown i r (d .entry) g (d .row) (ap (λ (x : List Entry). nth x (suc i)) (traced .these) ∙ entry-left (traced .rows) _ i (d .is))
 
   -- entry 0 shows the fileformat line
-  pub format-shows : ShownPlain lim h v entries 0 formatKind (traced .format)
+  pub format-shows : ShownPlain h entries 0 formatKind (traced .format)
   unfolding recordEntry
   format-shows = record {
     entry = plainEntry formatKind 0 (length (traced .format));
-    is = ap (λ (x : List Entry). nthEntry x 0) (traced .these);
+    is = ap (λ (x : List Entry). nth x 0) (traced .these);
     shows = shows-plain lim h v formatKind 0 (traced .format) refl refl (traced .first .here) (traced .first .inside);
   }
 
   -- the entry after the records shows the column line
-  pub column-shows : ShownPlain lim h v entries (suc (length rs)) columnsKind (traced .line)
+  pub column-shows : ShownPlain h entries (suc (length rs)) columnsKind (traced .line)
   unfolding columnEntries
   column-shows =
       let n : length (traced .rows) + 0 ≡ length rs = rw (rows-length lim h v (traced .rows) rs (traced .all)) (omega arith) in
       record {
         entry = plainEntry columnsKind (traced .start) (length (traced .line));
-        is = ap (λ (x : List Entry). nthEntry x (suc (length rs))) (traced .these) ∙ rw (← n) (entry-right (traced .rows) (columnEntries (traced .start) (traced .line) c) 0);
+        is = ap (λ (x : List Entry). nth x (suc (length rs))) (traced .these) ∙ rw (← n) (entry-right (traced .rows) (columnEntries (traced .start) (traced .line) c) 0);
         shows = shows-plain lim h v columnsKind (traced .start) (traced .line) refl refl (traced .last .here) (traced .last .inside);
       }
 
@@ -170,7 +129,7 @@ module _ (lim : Limits) (imposed : Option Version) (sized : SizedOption imposed)
       ∙ rw (rows-length lim h v (traced .rows) rs (traced .all), samples-count (traced .start + samplesStart) (c .samples)) (omega arith)
 
   -- the entries after it show the sample names
-  pub sample-shows : (j : ℕ) {x : Bytes} → nameAt (c .samples) j ≡ some x → ShownPlain lim h v entries (suc (length rs) + suc j) sampleKind x
+  pub sample-shows : (j : ℕ) {x : Bytes} → nth (c .samples) j ≡ some x → ShownPlain h entries (suc (length rs) + suc j) sampleKind x
   unfolding columnEntries
   sample-shows j {x} e =
       let s = traced .start in
@@ -183,7 +142,7 @@ module _ (lim : Limits) (imposed : Option Version) (sized : SizedOption imposed)
       let at = traced .last in
       record {
         entry = plainEntry sampleKind (s + d .at) (length x);
-        is = ap (λ (x : List Entry). nthEntry x (suc (length rs) + suc j)) (traced .these) ∙ rw m (rw (← n) (entry-right (traced .rows) (columnEntries s (traced .line) c) (suc j)) ∙ d .is);
+        is = ap (λ (x : List Entry). nth x (suc (length rs) + suc j)) (traced .these) ∙ rw m (rw (← n) (entry-right (traced .rows) (columnEntries s (traced .line) c) (suc j)) ∙ d .is);
         shows = shows-plain lim h v sampleKind (s + d .at) x refl refl
             (rw k (part-part h s (traced .line) (d .at) (d .at + length x) (at .here) (d .inside) ∙ d .here)) (omega (arith, at .inside, d .inside));
       }

@@ -18,8 +18,8 @@ use Rattle.values.proofs.Fields.{KeyIn, key-in, key-is, tail-is}
 use Rattle.values.proofs.Places.{QuotedIn, quoted-in}
 use Rattle.rules.specs.Map.{After, more, done, wrong, after, scan, readFields}
 use Rattle.rules.specs.House.{closes, needsQuotes, writeMore, writeFields}
-use Rattle.rules.proofs.Alls.{All}
 use Rattle.rules.proofs.Pure.{Pure, pure-nil, pure-join, pure-split, pure-tail, pure-cut}
+use Rattle.rules.specs.Claims.{All}
 
 -- What is read is pure
 

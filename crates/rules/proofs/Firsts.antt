@@ -19,18 +19,6 @@ pub first-nil : first [] ≡ 0
 unfolding first
 first-nil = refl
 
-pub first-only : (n : ℕ) (ns : List ℕ) → first ns ≡ 0 → first (n ∷ ns) ≡ n
-unfolding first
-first-only zero ns h = h
-first-only (suc n) ns h = refl
-
--- where all are 0
-pub first-one : (a : ℕ) → a ≡ 0 → first (a ∷ []) ≡ 0
-first-one a e = zero-first a [] e first-nil
-
-pub unless-zero : {b : Bool} (n : ℕ) → b ≡ true → unless b n ≡ 0
-unless-zero n e = rw e
-
 pub zero-unless : (b : Bool) (n : ℕ) → unless b (suc n) ≡ 0 → b ≡ true
 zero-unless true n e = refl
 zero-unless false n e = absurd (omega arith)

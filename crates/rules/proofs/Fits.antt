@@ -1,7 +1,7 @@
 -- A fine map's fields as written are fine, and are read back. Assumes nothing.
 use Prim.Native.Nat.{ℕ}
 use mathlib.Core.Path.{_≡_, refl, sym, ap, _∙_}
-use mathlib.Core.Bool.{Bool, true, false, not, _||_, _&&_, false≢true, and-assoc}
+use mathlib.Core.Bool.{Bool, true, false, _&&_, false≢true, and-assoc}
 use mathlib.Core.List.{List, [], _∷_, _++_, map}
 use mathlib.Core.Option.{Option, none, some}
 use Rattle.values.specs.Bytes.{Bytes, ascii, is, begins, any, same}
@@ -9,27 +9,27 @@ use Rattle.values.specs.Value.{Value, quoted, bare, textOf, meaningOf, valueOf}
 use Rattle.values.specs.Field.{Field, isKey, mayBracket}
 use Rattle.values.specs.Integer.{u64Read, decimal}
 use Rattle.values.specs.declared.integer.IntegerRead.the-variants as integer
-use Rattle.values.proofs.Tests.{pass, fail, test, or-l, or-r, or-on, and-l, and-r, and-off, not-false, both}
+use Rattle.values.proofs.Tests.{pass, fail, test, or-l, or-r, and-l, and-r, not-false, both}
 use Rattle.values.proofs.Lists.{OnSome}
 use Rattle.rules.specs.Answer.{unless, first}
 use Rattle.rules.specs.Version.{Version, v4-3, since}
-use Rattle.rules.specs.Known.{Kind, INFO, FILTER, FORMAT, ALT, contig, other, kindOf, isIn, required, known, nameOf, types, readNumber, count, integers}
+use Rattle.rules.specs.Known.{Kind, INFO, FILTER, FORMAT, ALT, contig, other, kindOf, isIn, Reads, KnownField, anyText, aNumber, aType, anInteger, rows, required, known, numeric, rowNamed, nameOf, readNumber, count}
 use Rattle.rules.specs.Reserved.{tableOf, lookRow, reserved}
-use Rattle.rules.specs.Map.{isSome, isValue, isField, isMeta, fieldRefusal, fieldNamed, valueOf as valueIn, valueNamed, missing, misdeclared}
-use Rattle.rules.specs.Meaning.{Known, numeric, knownValue, knownOf, others}
-use Rattle.rules.specs.House.{closes, isValues, isQuoted, writeField, writeKnown, keyNamed, knownFields, otherFields}
-use Rattle.rules.proofs.Firsts.{zero-first, first-one, unless-zero}
+use Rattle.rules.specs.Map.{isSome, isMeta, misread, valueRefusal, knownNamed, fieldNamed, meaningOfField as valueIn, valueNamed, missing, misdeclared}
+use Rattle.rules.specs.Meaning.{Known, knownValue, knownOf, others}
+use Rattle.rules.specs.House.{closes, isValues, isWrittenQuoted, writeField, writeKnown, keyWritten, knownFields, otherFields}
 use Rattle.values.proofs.Sames.{same-sound}
-use Rattle.rules.proofs.Alls.{All, all-map, all-append, map-same, all-in}
+use Rattle.rules.proofs.Alls.{all-map, all-append, map-same, all-in}
 use Rattle.rules.proofs.Pure.{Pure, pure-unescaped, pure-escape, pure-decimal}
 use Rattle.rules.proofs.Names.{Fresh, Within, fresh-less, name-is, id-key}
 use Rattle.rules.proofs.Fields.{GoodField, Stable, StableField, quoted-stable, bare-stable, brackets-stable, meaning-back}
 use Rattle.rules.proofs.Checks.{namesOf, Passes, Fine, on-named}
 use Rattle.rules.proofs.Tidy.{as-number, as-word, see-known, Named, Other, writtenAs, others-yes, others-no, others-other, known-fresh, known-named, id-known, tag, knownIn, tidy, tag-named, find-tidy}
+use Rattle.rules.specs.Claims.{All}
 
 -- a key and a value's meaning that may stand in a map under k
 pub record Fit (v : Version) (k key t : Bytes) : Type 0 where
-  pub passes : fieldRefusal v (kindOf k) key t ≡ 0
+  pub passes : valueRefusal v (kindOf k) t (knownNamed v k key) ≡ 0
   pub legal : isKey key ≡ true
   pub plain : any (is 61) key ≡ false
   pub pureKey : Pure key
@@ -44,8 +44,8 @@ fit-of v k f g p = record { passes = p; legal = g .legal; plain = g .plain; pure
 
 -- The house form's quotes
 
-choice : (v : Version) (k key t : Bytes) → (q : Bool) → isQuoted v k key t ≡ q → Stable (mayBracket (isMeta v k) key) (valueOf q t)
-unfolding isQuoted
+choice : (v : Version) (k key t : Bytes) → (q : Bool) → isWrittenQuoted v k key t ≡ q → Stable (mayBracket (isMeta v k) key) (valueOf q t)
+unfolding isWrittenQuoted
 choice v k key t true e = quoted-stable (mayBracket (isMeta v k) key) t
 choice v k key t false e = elim (test (isValues v k key t)) [
   | pass f ↦
@@ -57,17 +57,17 @@ choice v k key t false e = elim (test (isValues v k key t)) [
 ]
 
 pub fit-stable : (v : Version) (k key t : Bytes) → Fit v k key t → StableField (isMeta v k) (writeField v k key t)
-fit-stable v k key t h = record { legal = h .legal; plain = h .plain; value = choice v k key t (isQuoted v k key t) refl }
+fit-stable v k key t h = record { legal = h .legal; plain = h .plain; value = choice v k key t (isWrittenQuoted v k key t) refl }
 
 pub fit-passes : (v : Version) (k key t : Bytes) → Fit v k key t → Passes v k (writeField v k key t)
-fit-passes v k key t h = rw (meaning-back (isQuoted v k key t) t) (h .passes)
+fit-passes v k key t h = rw (meaning-back (isWrittenQuoted v k key t) t) (h .passes)
 
 spelled-pure : (q : Bool) (t : Bytes) → Pure t → Pure (textOf (valueOf q t))
 spelled-pure true t h = pure-escape h
 spelled-pure false t h = h
 
 pub fit-good : (v : Version) (k key t : Bytes) → Fit v k key t → GoodField (writeField v k key t)
-fit-good v k key t h = record { legal = h .legal; plain = h .plain; key = h .pureKey; text = spelled-pure (isQuoted v k key t) t (h .pureText) }
+fit-good v k key t h = record { legal = h .legal; plain = h .plain; key = h .pureKey; text = spelled-pure (isWrittenQuoted v k key t) t (h .pureText) }
 
 -- A number in the place of its spelling
 
@@ -79,40 +79,57 @@ all-member P n (m ∷ ns) h e = elim (test (same m n)) [
   | fail q ↦ all-member P n ns (h .1) (rw q at e)
 ]
 
-abbrev Numeric : Bytes → Type 0
-Numeric n = (same n (ascii "Type") ≡ false) × (same n (ascii "ID") ≡ false)
-
-numeric-names : (kind : Kind) → All Numeric (numeric kind)
+numeric-names : (kind : Kind) → All (λ n. same n (ascii "Type") ≡ false) (numeric kind)
 unfolding same
-numeric-names INFO = ((refl, refl), ((refl, refl), tt))
-numeric-names FILTER = ((refl, refl), tt)
-numeric-names FORMAT = ((refl, refl), ((refl, refl), tt))
+numeric-names INFO = (refl, (refl, tt))
+numeric-names FILTER = (refl, tt)
+numeric-names FORMAT = (refl, (refl, tt))
 numeric-names ALT = tt
-numeric-names contig = ((refl, refl), ((refl, refl), tt))
+numeric-names contig = (refl, (refl, tt))
 numeric-names other = tt
 
 pub number-count : (v : Version) (kind : Kind) (t : Bytes) {n : ℕ} → u64Read t ≡ integer.Value n → readNumber v kind t ≡ some (count n)
 unfolding readNumber
 number-count v kind t e = rw e
 
-number-passes : (v : Version) (kind : Kind) (key : Bytes) (n : ℕ) → same key (ascii "Type") ≡ false → u64Read (decimal n) ≡ integer.Value n → fieldRefusal v kind key (decimal n) ≡ 0
-unfolding fieldRefusal
-number-passes v kind key n d e =
-    zero-first (unless (not (isField kind (ascii "Number") key) || isSome (readNumber v kind (decimal n))) 11) _
-    (unless-zero 11 (or-on (not (isField kind (ascii "Number") key)) (rw (number-count v kind (decimal n) e))))
-    (zero-first (unless (not (isField kind (ascii "Type") key) || isIn (decimal n) (types kind)) 12) _
-    (rw (and-off (isIn (ascii "Type") (known kind)) d))
-    (first-one (unless (not (isIn key (integers kind)) || isValue (u64Read (decimal n))) 13)
-    (unless-zero 13 (or-on (not (isIn key (integers kind))) (rw e)))))
+abbrev isType : Reads → Bool
+isType anyText = false
+isType aNumber = false
+isType aType = true
+isType anInteger = false
+
+type-rows : (kind : Kind) → All (λ r. isType (r .reads) ≡ same (r .name) (ascii "Type")) (rows kind)
+unfolding same
+type-rows INFO = (refl, (refl, (refl, (refl, (refl, tt)))))
+type-rows FILTER = (refl, (refl, (refl, tt)))
+type-rows FORMAT = (refl, (refl, (refl, (refl, (refl, tt)))))
+type-rows ALT = (refl, (refl, tt))
+type-rows contig = (refl, (refl, (refl, (refl, (refl, tt)))))
+type-rows other = (refl, tt)
+
+number-passes : (v : Version) (kind : Kind) (name : Bytes) (n : ℕ) → same name (ascii "Type") ≡ false → u64Read (decimal n) ≡ integer.Value n
+    → (rs : List KnownField) → All (λ r. isType (r .reads) ≡ same (r .name) (ascii "Type")) rs → valueRefusal v kind (decimal n) (rowNamed name rs) ≡ 0
+unfolding rowNamed
+number-passes v kind name n d e [] h = refl
+number-passes v kind name n d e (r ∷ rs) h = elim (test (same (r .name) name)) [
+  | pass q ↦ rw (rowNamed, q) (go (r .reads) (h .0 ∙ rw (same-sound (r .name) name q) d))
+  | fail q ↦ rw (rowNamed, q) (number-passes v kind name n d e rs (h .1))
+]
+  where
+    go : (x : Reads) → isType x ≡ false → misread v kind (decimal n) x ≡ 0
+    go anyText f = refl
+    go aNumber f = rw (number-count v kind (decimal n) e)
+    go aType f = absurd (false≢true (sym f))
+    go anInteger f = rw e
 
 -- a known value written anew fits under its own key
-fit-known : (v : Version) (k key n t : Bytes) → Fit v k key t → (isIn n (numeric (kindOf k)) ≡ true → key ≡ n) → Fit v k key (writeKnown (knownValue (kindOf k) n t))
+fit-known : (v : Version) (k key n t : Bytes) → Fit v k key t → nameOf v k key ≡ n → Fit v k key (writeKnown (knownValue (kindOf k) n t))
 fit-known v k key n t h s = elim (see-known (kindOf k) n t) [
   | as-word a ↦ rw a h
   | as-number m e q a b ↦
-      let d = all-member Numeric n (numeric (kindOf k)) (numeric-names (kindOf k)) e .0 in
+      let d = all-member (λ n. same n (ascii "Type") ≡ false) n (numeric (kindOf k)) (numeric-names (kindOf k)) e in
       rw a (record {
-        passes = number-passes v (kindOf k) key m (rw (s e) d) b;
+        passes = rw s (number-passes v (kindOf k) n m d b (rows (kindOf k)) (type-rows (kindOf k)));
         legal = h .legal;
         plain = h .plain;
         pureKey = h .pureKey;
@@ -124,12 +141,12 @@ fit-known v k key n t h s = elim (see-known (kindOf k) n t) [
 
 -- what each known field has, as it is written
 known-all : (P : Field → Type 0) (v : Version) (k : Bytes) (tag : ℕ) (g : Bytes → Option Known) (ns : List Bytes)
-    → All (λ n. OnSome (λ x. P (writeField v k (keyNamed tag n) (writeKnown x))) (g n)) ns → All P (knownFields v k tag ns (map g ns))
+    → All (λ n. OnSome (λ x. P (writeField v k (keyWritten tag n) (writeKnown x))) (g n)) ns → All P (knownFields v k tag ns (map g ns))
 unfolding knownFields
 known-all P v k tag g [] h = tt
 known-all P v k tag g (n ∷ ns) h = go (g n) (h .0) (known-all P v k tag g ns (h .1))
   where
-    go : (x : Option Known) → OnSome (λ x. P (writeField v k (keyNamed tag n) (writeKnown x))) x → All P (knownFields v k tag ns (map g ns))
+    go : (x : Option Known) → OnSome (λ x. P (writeField v k (keyWritten tag n) (writeKnown x))) x → All P (knownFields v k tag ns (map g ns))
         → All P (knownFields v k tag (n ∷ ns) (x ∷ map g ns))
     go none q r = r
     go (some x) q r = (q, r)
@@ -148,7 +165,7 @@ unfolding otherFields
 other-all P v k [] h = tt
 other-all P v k (p ∷ ps) h = (h .0, other-all P v k ps (h .1))
 
-required-known : (kind : Kind) → All (λ (r : Bytes × ℕ). isIn (r .0) (known kind) ≡ true) (required kind)
+required-known : (kind : Kind) → All (λ r. isIn (r .name) (known kind) ≡ true) (required kind)
 unfolding isIn same
 required-known INFO = (refl, (refl, (refl, (refl, tt))))
 required-known FILTER = (refl, (refl, tt))
@@ -173,8 +190,8 @@ module _ (v : Version) (k : Bytes) (fs : List Field) where
 
   pub missing-tidy : missing v k (tidy v k fs) ≡ missing v k fs
   unfolding missing
-  missing-tidy = ap first (map-same _ _ (required (kindOf k)) (all-map (λ (r : Bytes × ℕ). isIn (r .0) (known (kindOf k)) ≡ true) _ (required (kindOf k))
-      (λ r h. ap (λ (b : Bool). unless b (r .1)) (given-tidy (r .0) h)) (required-known (kindOf k))))
+  missing-tidy = ap first (map-same _ _ (required (kindOf k)) (all-map (λ r. isIn (r .name) (known (kindOf k)) ≡ true) _ (required (kindOf k))
+      (λ r h. ap (λ (b : Bool). unless b (r .missing)) (given-tidy (r .name) h)) (required-known (kindOf k))))
 
   -- a value of a known name is written as it is known
   value-tidy : (n : Bytes) → isIn n (known (kindOf k)) ≡ true → (Q : Bytes → Bytes → Type 0) → Q [] [] → ((t : Bytes) → Q (writeKnown (knownValue (kindOf k) n t)) t)
@@ -185,7 +202,7 @@ module _ (v : Version) (k : Bytes) (fs : List Field) where
       go none = z
       go (some f) =
           let t = writeKnown (knownValue (kindOf k) n (meaningOf (f .value))) in
-          rw (meaning-back (isQuoted v k (keyNamed (tag v k fs) n) t) t) (s (meaningOf (f .value)))
+          rw (meaning-back (isWrittenQuoted v k (keyWritten (tag v k fs) n) t) t) (s (meaningOf (f .value)))
 
   word-tidy : (n : Bytes) → isIn n (known (kindOf k)) ≡ true → isIn n (numeric (kindOf k)) ≡ false → valueNamed v k n (tidy v k fs) ≡ valueNamed v k n fs
   word-tidy n h d = value-tidy n h (λ a b. a ≡ b) refl (λ t. elim (see-known (kindOf k) n t) [ as-word a ↦ rw a | as-number m e q a b ↦ both e d ])
@@ -242,22 +259,21 @@ module _ (v : Version) (k : Bytes) (fs : List Field) (good : All GoodField fs) (
   fits (f ∷ gs) g p = (fit-of v k f (g .0) (p .0), fits gs (g .1) (p .1))
 
   -- a known field stands under the key that it stood under
-  key-kept : (n : Bytes) (f : Field) → fieldNamed v k n fs ≡ some f → nameOf v k (f .key) ≡ n → keyNamed T n ≡ f .key
+  key-kept : (n : Bytes) (f : Field) → fieldNamed v k n fs ≡ some f → nameOf v k (f .key) ≡ n → keyWritten T n ≡ f .key
   key-kept n f e q = elim (test (same n (ascii "ID"))) [
     | pass w ↦
         let i : n ≡ ascii "ID" = same-sound n (ascii "ID") w in
-        rw (keyNamed, w, ← i, e) (id-key v k (f .key) (q ∙ i))
-    | fail w ↦ rw (keyNamed, w) (sym (name-is v k (f .key) n q w))
+        rw (keyWritten, w, ← i, e) (id-key v k (f .key) (q ∙ i))
+    | fail w ↦ rw (keyWritten, w) (sym (name-is v k (f .key) n q w))
   ]
 
-  known-fits : (n : Bytes) → OnSome (λ x. Fit v k (keyNamed T n) (writeKnown x)) (knownIn v k fs n)
+  known-fits : (n : Bytes) → OnSome (λ x. Fit v k (keyWritten T n) (writeKnown x)) (knownIn v k fs n)
   known-fits n = go (fieldNamed v k n fs) refl (on-named (λ f. Fit v k (f .key) (meaningOf (f .value))) v k n fs (fits fs good (h .passes)))
     where
       go : (x : Option Field) → fieldNamed v k n fs ≡ x → OnSome (λ f. Fit v k (f .key) (meaningOf (f .value)) × (nameOf v k (f .key) ≡ n)) x
-          → OnSome (λ x. Fit v k (keyNamed T n) (writeKnown x)) (knownOf kind n x)
+          → OnSome (λ x. Fit v k (keyWritten T n) (writeKnown x)) (knownOf kind n x)
       go none e p = tt
-      go (some f) e p = rw (key-kept n f e (p .1)) (fit-known v k (f .key) n (meaningOf (f .value)) (p .0)
-          (λ w. name-is v k (f .key) n (p .1) (all-member Numeric n (numeric kind) (numeric-names kind) w .1)))
+      go (some f) e p = rw (key-kept n f e (p .1)) (fit-known v k (f .key) n (meaningOf (f .value)) (p .0) (p .1))
 
   -- what every fit field has, every field as written has
   pub tidy-all : (P : Field → Type 0) → ((key t : Bytes) → Fit v k key t → P (writeField v k key t)) → All P (tidy v k fs)
@@ -267,9 +283,9 @@ module _ (v : Version) (k : Bytes) (fs : List Field) (good : All GoodField fs) (
       (other-all P v k (others v k fs) (all-map (λ (p : Bytes × Bytes). Fit v k (p .0) (p .1)) (λ p. P (writeField v k (p .0) (p .1))) (others v k fs) (λ p q. f (p .0) (p .1) q)
       (others-all (Fit v k) v k fs (fits fs good (h .passes)))))
     where
-      lift : (n : Bytes) (x : Option Known) → OnSome (λ x. Fit v k (keyNamed T n) (writeKnown x)) x → OnSome (λ x. P (writeField v k (keyNamed T n) (writeKnown x))) x
+      lift : (n : Bytes) (x : Option Known) → OnSome (λ x. Fit v k (keyWritten T n) (writeKnown x)) x → OnSome (λ x. P (writeField v k (keyWritten T n) (writeKnown x))) x
       lift n none q = tt
-      lift n (some x) q = f (keyNamed T n) (writeKnown x) q
+      lift n (some x) q = f (keyWritten T n) (writeKnown x) q
 
   -- the names of the others are fresh among themselves
   fresh-others : (gs : List Field) (seen t : List Bytes) → Within seen [] t → Fresh seen (namesOf v k gs) → Fresh t (namesOf v k (otherFields v k (others v k gs)))

@@ -16,9 +16,10 @@ use Rattle.rules.specs.Meaning.{saying, under, without, otherKeys, group
 use Rattle.rules.specs.House.{recordOf, recordsOf}
 use Rattle.rules.proofs.Firsts.{first-zero, zero-first, first-nil}
 use Rattle.values.proofs.Sames.{same-sound, same-self, same-sym}
-use Rattle.rules.proofs.Alls.{All, all-map, all-append, all-in, in-append}
+use Rattle.rules.proofs.Alls.{all-map, all-append, all-in, in-append}
 use Rattle.rules.proofs.Tidy.{tidied, saying-tidied}
 use Rattle.rules.proofs.Fits.{id-tidy}
+use Rattle.rules.specs.Claims.{All}
 
 -- the records of each of the keys
 unfoldable pub arrange : List Bytes → List Record → List Record

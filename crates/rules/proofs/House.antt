@@ -17,22 +17,16 @@ use Rattle.rules.specs.Version.{Version}
 use Rattle.rules.specs.Record.{Record, fileformat}
 use Rattle.rules.specs.Columns.{Columns}
 use Rattle.rules.specs.Reading.{State, done, Reading, reading}
-use Rattle.rules.specs.Meaning.{Meaning, meaning}
+use Rattle.rules.specs.Meaning.{Meaning, headerMeaning}
 use Rattle.rules.specs.House.{writeRecord, houseLines, houseForm, tooLong}
-use Rattle.rules.proofs.Alls.{All}
-use Rattle.rules.proofs.Versions.{SizedOption}
 use Rattle.rules.proofs.Tidy.{tidied}
 use Rattle.rules.proofs.Groups.{arrange, allKeys, records-arranged, house-groups, keys-apart, arrange-all, apart-arrange, apart-tidied, clear, house-count}
 use Rattle.rules.proofs.Samples.{GoodColumns, columns-pure}
 use Rattle.rules.proofs.Records.{Entered, record-pure, format-pure}
 use Rattle.rules.proofs.Sound.{Good, reading-good}
-use Rattle.rules.proofs.Back.{Accepted, Line, recordLines, columnLine, lines-back}
+use Rattle.rules.proofs.Back.{Line, recordLines, columnLine, lines-back}
 use Rattle.rules.proofs.Rooms.{rooms}
-
--- a form within the limits
-pub record Fits (lim : Limits) (m : Meaning) : Type 0 where
-  pub header : length (houseForm m) ≤ lim .header
-  pub lines : tooLong (lim .line) 0 0 (houseLines m) ≡ none
+use Rattle.rules.specs.Claims.{All, SizedOption, Accepted, Fits}
 
 short : (limit n start : ℕ) (ls : List Bytes) → tooLong limit n start ls ≡ none → All (λ l. length l ≤ limit) ls
 unfolding tooLong
@@ -44,8 +38,8 @@ short limit n start (l ∷ ls) h = elim (test (leb (length l) limit)) [
 
 -- the lines that the house form writes
 pub house-lines : (v : Version) (rs : List Record) (c : Columns)
-    → houseLines (meaning v rs c) ≡ writeRecord (fileformat v) ∷ (recordLines v (arrange (allKeys rs) rs) ++ columnLine c ∷ [])
-unfolding houseLines meaning
+    → houseLines (headerMeaning v rs c) ≡ writeRecord (fileformat v) ∷ (recordLines v (arrange (allKeys rs) rs) ++ columnLine c ∷ [])
+unfolding houseLines headerMeaning
 house-lines v rs c = rw (records-arranged v (allKeys rs) rs)
 
 lines-fit : (lim : Limits) (v : Version) (xs : List Record) (c : Columns) → All (Entered v) xs → GoodColumns c
@@ -58,8 +52,8 @@ lines-fit lim v xs c e g h = (record { short = h .0; pure = format-pure v }, go 
     go (y ∷ ys) f k = (record { short = k .0; pure = record-pure v y (f .0) }, go ys (f .1) (k .1))
 
 -- the records that the house form writes mean the same
-pub house-meaning : (v : Version) (rs : List Record) (c : Columns) → meaning v (map (tidied v) (arrange (allKeys rs) rs)) c ≡ meaning v rs c
-unfolding meaning
+pub house-meaning : (v : Version) (rs : List Record) (c : Columns) → headerMeaning v (map (tidied v) (arrange (allKeys rs) rs)) c ≡ headerMeaning v rs c
+unfolding headerMeaning
 house-meaning v rs c = rw (house-groups v rs)
 
 -- what an accepted reading has
@@ -69,8 +63,8 @@ accepted-good lim imposed room h i a = rw (a .state) at (reading-good lim impose
 
 -- reading the form of an accepted header, no version imposed and with the same room, is accepted with the same meaning
 pub house-reads-back : (lim : Limits) (imposed : Option Version) (room : ℕ) (h : Bytes) {v : Version} {rs : List Record} {c : Columns} → SizedOption imposed
-    → Accepted v rs c (reading lim imposed room h) → Fits lim (meaning v rs c)
-    → (rs′ : List Record) × Accepted v rs′ c (reading lim none room (houseForm (meaning v rs c))) × (meaning v rs′ c ≡ meaning v rs c)
+    → Accepted v rs c (reading lim imposed room h) → Fits lim (headerMeaning v rs c)
+    → (rs′ : List Record) × Accepted v rs′ c (reading lim none room (houseForm (headerMeaning v rs c))) × (headerMeaning v rs′ c ≡ headerMeaning v rs c)
 unfolding houseForm
 house-reads-back lim imposed room h {v} {rs} {c} i a f =
     (map (tidied v) xs, back (accepted-good lim imposed room h i a), house-meaning v rs c)
@@ -78,10 +72,10 @@ house-reads-back lim imposed room h {v} {rs} {c} i a f =
     xs : List Record
     xs = arrange (allKeys rs) rs
 
-    fit : Fits lim (meaning v rs c) → All (λ l. length l ≤ lim .line) (writeRecord (fileformat v) ∷ (recordLines v xs ++ columnLine c ∷ []))
-    fit f = rw (house-lines v rs c) at (short (lim .line) 0 0 (houseLines (meaning v rs c)) (f .lines))
+    fit : Fits lim (headerMeaning v rs c) → All (λ l. length l ≤ lim .line) (writeRecord (fileformat v) ∷ (recordLines v xs ++ columnLine c ∷ []))
+    fit f = rw (house-lines v rs c) at (short (lim .line) 0 0 (houseLines (headerMeaning v rs c)) (f .lines))
 
-    back : (Good v rs × GoodColumns c) × (2 + length rs + length (c .samples) ≤ room) → Accepted v (map (tidied v) xs) c (reading lim none room (houseForm (meaning v rs c)))
+    back : (Good v rs × GoodColumns c) × (2 + length rs + length (c .samples) ≤ room) → Accepted v (map (tidied v) xs) c (reading lim none room (houseForm (headerMeaning v rs c)))
     back g =
         let e = arrange-all (Entered v) (allKeys rs) rs (g .0 .0 .good) in
         let n : length xs ≡ length rs = sym (length-map xs (tidied v)) ∙ house-count v rs in
@@ -95,8 +89,8 @@ house-reads-back lim imposed room h {v} {rs} {c} i a f =
 
 -- the form's own form is itself
 pub house-fixed : (lim : Limits) (imposed : Option Version) (room : ℕ) (h : Bytes) {v : Version} {rs : List Record} {c : Columns} → SizedOption imposed
-    → Accepted v rs c (reading lim imposed room h) → Fits lim (meaning v rs c)
-    → (rs′ : List Record) × Accepted v rs′ c (reading lim none room (houseForm (meaning v rs c))) × (houseForm (meaning v rs′ c) ≡ houseForm (meaning v rs c))
+    → Accepted v rs c (reading lim imposed room h) → Fits lim (headerMeaning v rs c)
+    → (rs′ : List Record) × Accepted v rs′ c (reading lim none room (houseForm (headerMeaning v rs c))) × (houseForm (headerMeaning v rs′ c) ≡ houseForm (headerMeaning v rs c))
 house-fixed lim imposed room h i a f = let b = house-reads-back lim imposed room h i a f in (b .0, b .1, ap houseForm (b .2))
 
 -- an accepted reading with more room
@@ -107,11 +101,11 @@ more-room lim imposed less more h r a = ⊎-elim (λ e. absurd (omega (arith, a 
 abbrev meant : State → Option Meaning
 meant State.empty = none
 meant (State.ready v rs) = none
-meant (done v rs c) = some (meaning v rs c)
+meant (done v rs c) = some (headerMeaning v rs c)
 
 -- what is read of one text, with whatever room, means one thing
 one-meaning : (lim : Limits) (imposed : Option Version) (room room′ : ℕ) (h : Bytes) {v v′ : Version} {rs rs′ : List Record} {c c′ : Columns}
-    → Accepted v rs c (reading lim imposed room h) → Accepted v′ rs′ c′ (reading lim imposed room′ h) → meaning v rs c ≡ meaning v′ rs′ c′
+    → Accepted v rs c (reading lim imposed room h) → Accepted v′ rs′ c′ (reading lim imposed room′ h) → headerMeaning v rs c ≡ headerMeaning v′ rs′ c′
 one-meaning lim imposed room room′ h a b =
     some-is (ap meant (sym (more-room lim imposed room (room + room′) h (omega arith) a) ∙ more-room lim imposed room′ (room + room′) h (omega arith) b))
 
@@ -119,12 +113,12 @@ one-meaning lim imposed room room′ h a b =
 pub house-canonical : (lim : Limits) (imposed imposed′ : Option Version) (room room′ : ℕ) (h h′ : Bytes) {v v′ : Version} {rs rs′ : List Record} {c c′ : Columns}
     → SizedOption imposed → SizedOption imposed′
     → Accepted v rs c (reading lim imposed room h) → Accepted v′ rs′ c′ (reading lim imposed′ room′ h′)
-    → Fits lim (meaning v rs c) → Fits lim (meaning v′ rs′ c′)
-    → (meaning v rs c ≡ meaning v′ rs′ c′) ↔ (houseForm (meaning v rs c) ≡ houseForm (meaning v′ rs′ c′))
+    → Fits lim (headerMeaning v rs c) → Fits lim (headerMeaning v′ rs′ c′)
+    → (headerMeaning v rs c ≡ headerMeaning v′ rs′ c′) ↔ (houseForm (headerMeaning v rs c) ≡ houseForm (headerMeaning v′ rs′ c′))
 house-canonical lim imposed imposed′ room room′ h h′ {v} {v′} {rs} {rs′} {c} {c′} i i′ a a′ f f′ = (ap houseForm, back)
   where
-    back : houseForm (meaning v rs c) ≡ houseForm (meaning v′ rs′ c′) → meaning v rs c ≡ meaning v′ rs′ c′
+    back : houseForm (headerMeaning v rs c) ≡ houseForm (headerMeaning v′ rs′ c′) → headerMeaning v rs c ≡ headerMeaning v′ rs′ c′
     back e =
         let b = house-reads-back lim imposed room h i a f in
         let b′ = house-reads-back lim imposed′ room′ h′ i′ a′ f′ in
-        sym (b .2) ∙ one-meaning lim none room room′ (houseForm (meaning v′ rs′ c′)) (rw e at (b .1)) (b′ .1) ∙ b′ .2
+        sym (b .2) ∙ one-meaning lim none room room′ (houseForm (headerMeaning v′ rs′ c′)) (rw e at (b .1)) (b′ .1) ∙ b′ .2

@@ -1,14 +1,17 @@
 -- The names of fields: what a field key names, and names that are fresh, each none of those before. Assumes nothing.
-use mathlib.Core.Path.{_≡_, sym, _∙_}
+use mathlib.Core.Path.{_≡_, refl, sym, ap, _∙_}
 use mathlib.Core.Bool.{true, false, _||_}
 use mathlib.Core.List.{List, [], _∷_}
+use mathlib.Core.Option.{some}
 use Rattle.values.specs.Bytes.{Bytes, ascii, same}
-use Rattle.values.proofs.Tests.{pass, fail, test, or-l, or-r, and-r, and-off, both}
+use Rattle.values.proofs.Tests.{pass, fail, test, never, or-l, or-r, and-r, and-off, both}
+use Rattle.values.proofs.Lists.{some-is}
 use Rattle.rules.specs.Version.{Version, v4-3, earlier}
-use Rattle.rules.specs.Known.{isIn, namesId, nameOf, tagOf}
-use Rattle.rules.specs.House.{tagName}
+use Rattle.rules.specs.Known.{isIn, KnownField, names, rowNamed, namesId, nameOf, tagOf}
+use Rattle.rules.specs.Map.{isSome}
+use Rattle.rules.specs.House.{nameOfTag}
 use Rattle.values.proofs.Sames.{same-sound, same-self}
-use Rattle.rules.proofs.Alls.{All}
+use Rattle.rules.specs.Claims.{All}
 
 pub name-id : (v : Version) (k field : Bytes) → namesId v k field ≡ true → nameOf v k field ≡ ascii "ID"
 unfolding nameOf
@@ -30,18 +33,34 @@ name-is v k field n e d = elim (test (namesId v k field)) [
 ]
 
 -- a field that names the ID has its tag's name
-pub id-key : (v : Version) (k field : Bytes) → nameOf v k field ≡ ascii "ID" → tagName (tagOf field) ≡ field
+pub id-key : (v : Version) (k field : Bytes) → nameOf v k field ≡ ascii "ID" → nameOfTag (tagOf field) ≡ field
 unfolding namesId same
 id-key v k field e = elim (test (namesId v k field)) [
   | pass q ↦ tag (and-r (earlier v v4-3) (same field (ascii "Child") || same field (ascii "Derived")) (and-r (same k (ascii "PEDIGREE")) _ q))
   | fail q ↦ let f : field ≡ ascii "ID" = sym (name-other v k field q) ∙ e in rw f
 ]
   where
-    tag : same field (ascii "Child") || same field (ascii "Derived") ≡ true → tagName (tagOf field) ≡ field
+    tag : same field (ascii "Child") || same field (ascii "Derived") ≡ true → nameOfTag (tagOf field) ≡ field
     tag h = elim (test (same field (ascii "Child"))) [
       | pass e ↦ rw (same-sound field (ascii "Child") e)
       | fail e ↦ rw (same-sound field (ascii "Derived") (rw e at h))
     ]
+
+-- Rows of the table of known fields
+
+pub row-is : (name : Bytes) (rs : List KnownField) {r : KnownField} → rowNamed name rs ≡ some r → r .name ≡ name
+unfolding rowNamed
+row-is name [] e = never cc
+row-is name (x ∷ rs) e = elim (test (same (x .name) name)) [
+  | pass q ↦ sym (ap (λ (r : KnownField). r .name) (some-is (rw (rowNamed, q) at e))) ∙ same-sound (x .name) name q
+  | fail q ↦ row-is name rs (rw (rowNamed, q) at e)
+]
+
+-- a name is known exactly where it has a row
+pub row-known : (name : Bytes) (rs : List KnownField) → isIn name (names rs) ≡ isSome (rowNamed name rs)
+unfolding rowNamed isIn
+row-known name [] = refl
+row-known name (r ∷ rs) = elim (test (same (r .name) name)) [ pass q ↦ rw (rowNamed, q) | fail q ↦ rw (rowNamed, q) (row-known name rs) ]
 
 -- each is none of those before it
 abbrev pub Fresh : List Bytes → List Bytes → Type 0

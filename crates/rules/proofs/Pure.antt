@@ -8,7 +8,7 @@ use lib.Dec.{eqb, leb}
 use borrow.Author.Tests.{ne-eqb, leb-true}
 use Rattle.values.specs.Bytes.{Bytes, LF, is, any, before, from}
 use Rattle.values.specs.Utf8.{completes, isUtf8}
-use Rattle.values.specs.Integer.{isDigit, isOther, decimal}
+use Rattle.values.specs.Integer.{isDigit, isNoDigit, decimal}
 use Rattle.values.specs.Value.{unescaped, escape}
 use Rattle.values.proofs.Tests.{or-l, or-r, and-l, and-r, not-false}
 use Rattle.values.proofs.Lists.{any-append, before-from, from-first}
@@ -81,14 +81,14 @@ pub pure-escape : {bs : Bytes} → Pure bs → Pure (escape bs)
 pure-escape {bs} h = record { utf8 = utf8-escape bs (h .utf8); line = any-escape (is LF) bs refl (h .line) }
 
 -- digits
-pub pure-digits : (bs : Bytes) → any isOther bs ≡ false → Pure bs
+pub pure-digits : (bs : Bytes) → any isNoDigit bs ≡ false → Pure bs
 unfolding any
 pure-digits [] h = pure-nil
 pure-digits (b ∷ bs) h =
-    let d = not-false (isDigit b) (or-l (isOther b) (any isOther bs) h) in
+    let d = not-false (isDigit b) (or-l (isNoDigit b) (any isNoDigit bs) h) in
     let lo = leb-true 48 b (and-l (leb 48 b) (leb b 57) d) in
     let hi = leb-true b 57 (and-r (leb 48 b) (leb b 57) d) in
-    pure-cons (record { ascii = omega arith; other = ne-eqb b LF (λ e. omega arith) }) (pure-digits bs (or-r (isOther b) (any isOther bs) h))
+    pure-cons (record { ascii = omega arith; other = ne-eqb b LF (λ e. omega arith) }) (pure-digits bs (or-r (isNoDigit b) (any isNoDigit bs) h))
 
 pub pure-decimal : (n : ℕ) → Pure (decimal n)
 pure-decimal n = pure-digits (decimal n) (decimal-digits n)

@@ -17,20 +17,20 @@ use Rattle.values.proofs.Lists.{OnSome, before-none, before-stop, from-stop}
 use Rattle.values.proofs.Fields.{tail-is}
 use Rattle.rules.specs.Answer.{ok}
 use Rattle.rules.specs.Version.{Version, v4-3, since, readVersion}
-use Rattle.rules.specs.Known.{Kind, INFO, FILTER, FORMAT, ALT, contig, other, kindOf, isTyped, alwaysMap, required, known, nameOf, namesId}
+use Rattle.rules.specs.Known.{Kind, INFO, FILTER, FORMAT, ALT, contig, other, kindOf, isTyped, alwaysMap, idField, required, known, nameOf, namesId}
 use Rattle.rules.specs.Map.{isSome, isMeta, readFields, fieldNamed, missing, mapRefusal, readMap}
-use Rattle.rules.specs.Record.{Record, fileformat, fields, text, looksMap, isMap, formatOf, readValue, readKeyed, readRecord}
+use Rattle.rules.specs.Record.{Record, fileformat, fields, text, looksMap, isMap, fileformatRead, readRecordValue, readKeyed, readRecord}
 use Rattle.rules.specs.Meaning.{knownValue, knownOf, tagIn, others, saying}
-use Rattle.rules.specs.House.{writeField, writeKnown, tagName, knownFields, otherFields, recordOf, writeMore, writeFields, writeRecord}
+use Rattle.rules.specs.House.{writeField, writeKnown, nameOfTag, knownFields, otherFields, recordOf, writeMore, writeFields, writeRecord}
 use Rattle.rules.proofs.Firsts.{OnOk, bind-ok, judged-ok, judged-zero, first-zero, zero-unless}
-use Rattle.rules.proofs.Alls.{All}
 use Rattle.rules.proofs.Pure.{Pure, pure-nil, Plain, pure-cons, pure-append, pure-join, pure-rest, pure-tail, pure-cut}
-use Rattle.rules.proofs.Versions.{Sized, version-sized, version-back, version-pure}
+use Rattle.rules.proofs.Versions.{version-sized, version-back, version-pure}
 use Rattle.rules.proofs.Names.{name-other}
 use Rattle.rules.proofs.Fields.{GoodField, StableField, fields-good, fields-back}
 use Rattle.rules.proofs.Checks.{Fine, fine, not-refused, on-named}
 use Rattle.rules.proofs.Tidy.{tag, knownIn, tidy, tidied, units}
 use Rattle.rules.proofs.Fits.{fit-stable, fit-good, tidy-all, fine-tidy}
+use Rattle.rules.specs.Claims.{All, Sized}
 
 pub record GoodKey (k : Bytes) : Type 0 where
   pub full : empty k ≡ false
@@ -55,7 +55,7 @@ GoodRecord v (text k t) = GoodText v k t
 
 -- What is read
 
-format-good : (v : Version) (a : Option Version) → OnSome Sized a → OnOk (GoodRecord v) (formatOf a)
+format-good : (v : Version) (a : Option Version) → OnSome Sized a → OnOk (GoodRecord v) (fileformatRead a)
 format-good v none h = tt
 format-good v (some w) h = h
 
@@ -69,14 +69,14 @@ map-good v k x g p = elim (test (begins 60 x)) [
   | fail e ↦ rw (readMap, e) tt
 ]
 
-value-good : (v : Version) (k x : Bytes) → empty k ≡ false → any (is 61) k ≡ false → Pure k → Pure x → OnOk (GoodRecord v) (readValue v k x)
-unfolding readValue
+value-good : (v : Version) (k x : Bytes) → empty k ≡ false → any (is 61) k ≡ false → Pure k → Pure x → OnOk (GoodRecord v) (readRecordValue v k x)
+unfolding readRecordValue
 value-good v k x f n p q = elim (test (same k (ascii "fileformat"))) [
-  | pass e ↦ rw (readValue, e) (format-good v (readVersion x) (version-sized x))
+  | pass e ↦ rw (readRecordValue, e) (format-good v (readVersion x) (version-sized x))
   | fail e ↦ let g : GoodKey k = record { full = f; plain = n; pure = p; other = e } in
       elim (test (isMap v k x)) [
-        | pass m ↦ rw (readValue, e, m) (bind-ok (GoodMap v k) (GoodRecord v) (readMap v k x) _ (map-good v k x g q) (λ fs h. h))
-        | fail m ↦ rw (readValue, e, m) (record { key = g; pure = q; noMap = m })
+        | pass m ↦ rw (readRecordValue, e, m) (bind-ok (GoodMap v k) (GoodRecord v) (readMap v k x) _ (map-good v k x g q) (λ fs h. h))
+        | fail m ↦ rw (readRecordValue, e, m) (record { key = g; pure = q; noMap = m })
       ]
 ]
 
@@ -121,7 +121,7 @@ known-first ALT = refl
 known-first contig = refl
 known-first other = refl
 
-required-first : (kind : Kind) → required kind ≡ (ascii "ID", 14) ∷ tail (required kind)
+required-first : (kind : Kind) → required kind ≡ idField ∷ tail (required kind)
 required-first INFO = refl
 required-first FILTER = refl
 required-first FORMAT = refl
@@ -137,7 +137,7 @@ id-given v k fs h = zero-unless (isSome (fieldNamed v k (ascii "ID") fs)) 13 (fi
 record First (v : Version) (k : Bytes) (fs : List Field) : Type 0 where
   id : Bytes
   rest : List Field
-  is : tidy v k fs ≡ writeField v k (tagName (tag v k fs)) id ∷ rest
+  is : tidy v k fs ≡ writeField v k (nameOfTag (tag v k fs)) id ∷ rest
 
 first-field : (v : Version) (k : Bytes) (fs : List Field) → missing v k fs ≡ 0 → First v k fs
 unfolding knownFields same
@@ -179,7 +179,7 @@ looks-map v k fs h = elim (test (isTyped k)) [
   ]
 ]
 
-key-read : (v : Version) (k r : Bytes) → GoodKey k → readRecord v (ascii "##" ++ (k ++ 61 ∷ r)) ≡ readValue v k r
+key-read : (v : Version) (k r : Bytes) → GoodKey k → readRecord v (ascii "##" ++ (k ++ 61 ∷ r)) ≡ readRecordValue v k r
 unfolding readRecord starts readKeyed begins
 key-read v k r g =
     let b = before-stop (is 61) k 61 r (g .plain) refl in
@@ -191,13 +191,13 @@ map-read : (v : Version) (k : Bytes) (gs : List Field) → Fine v k gs → readF
 unfolding readMap begins
 map-read v k gs g e = rw e (judged-zero gs (not-refused v k gs g))
 
-value-map : (v : Version) (k x : Bytes) (gs : List Field) → same k (ascii "fileformat") ≡ false → isMap v k x ≡ true → readMap v k x ≡ ok gs → readValue v k x ≡ ok (fields k gs)
-unfolding readValue
-value-map v k x gs e m r = rw (readValue, e, m, r)
+value-map : (v : Version) (k x : Bytes) (gs : List Field) → same k (ascii "fileformat") ≡ false → isMap v k x ≡ true → readMap v k x ≡ ok gs → readRecordValue v k x ≡ ok (fields k gs)
+unfolding readRecordValue
+value-map v k x gs e m r = rw (readRecordValue, e, m, r)
 
-value-text : (v : Version) (k x : Bytes) → same k (ascii "fileformat") ≡ false → isMap v k x ≡ false → readValue v k x ≡ ok (text k x)
-unfolding readValue
-value-text v k x e m = rw (readValue, e, m)
+value-text : (v : Version) (k x : Bytes) → same k (ascii "fileformat") ≡ false → isMap v k x ≡ false → readRecordValue v k x ≡ ok (text k x)
+unfolding readRecordValue
+value-text v k x e m = rw (readRecordValue, e, m)
 
 map-back : (v : Version) (k : Bytes) (fs : List Field) → GoodMap v k fs → readRecord v (writeRecord (fields k (tidy v k fs))) ≡ ok (fields k (tidy v k fs))
 unfolding writeRecord
@@ -205,7 +205,7 @@ map-back v k fs g =
     let d = first-field v k fs (g .fine .whole) in
     let s = tidy-all v k fs (g .good) (g .fine) (StableField (isMeta v k)) (fit-stable v k) in
     let b : readFields (isMeta v k) (alwaysMap k) (writeFields (tidy v k fs) ++ 62 ∷ []) ≡ (tidy v k fs, 0)
-    = rw (d .is) (fields-back (isMeta v k) (alwaysMap k) (writeField v k (tagName (tag v k fs)) (d .id)) (d .rest) (rw (d .is) at s)) in
+    = rw (d .is) (fields-back (isMeta v k) (alwaysMap k) (writeField v k (nameOfTag (tag v k fs)) (d .id)) (d .rest) (rw (d .is) at s)) in
     key-read v k (60 ∷ (writeFields (tidy v k fs) ++ 62 ∷ [])) (g .key)
     ∙ value-map v k (60 ∷ (writeFields (tidy v k fs) ++ 62 ∷ [])) (tidy v k fs) (g .key .other) (looks-map v k fs (g .fine .whole))
     (map-read v k (tidy v k fs) (fine-tidy v k fs (g .good) (g .fine)) b)
@@ -223,7 +223,7 @@ record-back v (fields k fs) g = map-back v k fs g
 record-back v (text k t) g = key-read v k t (g .key) ∙ value-text v k t (g .key .other) (g .noMap)
 
 pub format-back : (v w : Version) → Sized w → readRecord v (writeRecord (fileformat w)) ≡ ok (fileformat w)
-unfolding readRecord starts readKeyed begins readValue writeRecord any before from same
+unfolding readRecord starts readKeyed begins readRecordValue writeRecord any before from same
 format-back v w g = rw (version-back w g)
 
 -- it holds only what may stand in a line

@@ -1,14 +1,13 @@
 -- What is refused, as facts: a second equal ID, a line after the column line; and what a refused header keeps. Assumes nothing.
-use Prim.Native.Nat.{ℕ, zero, suc, _+_, _≤_, _<_}
+use Prim.Native.Nat.{ℕ, suc, _+_, _≤_, _<_}
 use native.Mathlib.Omega.{arith}
-use mathlib.Core.Path.{_≡_, refl, sym, ap, subst, _∙_}
+use mathlib.Core.Path.{_≡_, refl, sym, subst}
 use mathlib.Core.Bool.{Bool, true, false, true≢false}
 use mathlib.Core.Logic.{_⊎_, inl, inr, ⊎-elim}
 use mathlib.Core.List.{List, [], _∷_, _++_}
 use mathlib.Core.Option.{Option}
 use lib.Dec.{leb}
-use lib.ListN.{length, take, length-take}
-use lib.Seq.{take-append-add, take-nil}
+use lib.ListN.{length}
 use borrow.Author.Tests.{le-leb, lt-leb}
 use Rattle.values.specs.Bytes.{Bytes, ascii, same, starts}
 use Rattle.values.specs.Utf8.{isUtf8}
@@ -26,11 +25,12 @@ use Rattle.rules.specs.Entry.{Entry, recordEntry}
 use Rattle.rules.specs.Reading.{keyOf, idOf, isFields, beside, clash, State, empty, ready, done, begin, enter, stepText, step, Reading, stop, following, atEnd, run, reading}
 use Rattle.rules.proofs.Firsts.{OnOk, on-ok, judged-ok, was, not-read, see}
 use Rattle.values.proofs.Sames.{same-self, same-sound}
-use Rattle.rules.proofs.Alls.{All, all-map}
-use Rattle.rules.proofs.Pieces.{nothing, cut, cut-first}
+use Rattle.rules.proofs.Alls.{all-map}
+use Rattle.rules.proofs.Pieces.{nothing}
 use Rattle.rules.proofs.Groups.{Apart}
 use Rattle.rules.proofs.Sound.{Good, Taken, step-taken, run-refused, run-full, run-more}
 use Rattle.rules.proofs.Back.{reading-short}
+use Rattle.rules.specs.Claims.{All, Keeps, all-taken, stopped}
 
 -- a record among others
 pub data Among (r : Record) : List Record → Type 0 where
@@ -148,18 +148,6 @@ text-begun imposed start (done v rs c) l = tt
 step-begun : (lim : Limits) (imposed : Option Version) (start : ℕ) (s : State) (l : Bytes) {q : State × List Entry} → step lim imposed start s l ≡ ok q → Begun (q .0)
 step-begun lim imposed start s l a =
     on-ok (λ q. Begun (q .0)) (text-begun imposed start s l) (on-ok (Taken lim imposed start s l) (step-taken lim imposed start s l) a .2)
-
--- these are the entries of the first k lines, in order, each line taken in the state that those before it leave
-abbrev pub LinesTaken : Limits → Option Version → ℕ → ℕ → State → List Bytes → List Entry → Type 0
-LinesTaken lim imposed zero start s ps es = es ≡ []
-LinesTaken lim imposed (suc k) start s [] es = ⊥
-LinesTaken lim imposed (suc k) start s (p ∷ ps) es =
-    (q : State × List Entry) × (fs : List Entry) × (step lim imposed start s (lineOf p) ≡ ok q) × (es ≡ q .1 ++ fs) × LinesTaken lim imposed k (start + length p) (q .0) ps fs
-
--- every line was taken; or the line after the first k was refused or had no room
-pub data Keeps (lim : Limits) (imposed : Option Version) (n start : ℕ) (s : State) (ps : List Bytes) (r : Reading) : Type 0 where
-  all-taken : r .line ≡ n + length ps → LinesTaken lim imposed (length ps) start s ps (r .entries) → Keeps lim imposed n start s ps r
-  stopped : (k : ℕ) → r .line ≡ suc (n + k) → LinesTaken lim imposed k start s ps (r .entries) → Keeps lim imposed n start s ps r
 
 run-keeps : (lim : Limits) (imposed : Option Version) (room n start count : ℕ) (s : State) (ps : List Bytes) → (s ≡ empty → n ≡ 0) → Keeps lim imposed n start s ps (run lim imposed room n start count s ps)
 unfolding run

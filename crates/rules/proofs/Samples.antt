@@ -6,17 +6,19 @@ use mathlib.Core.Bool.{Bool, true, false, not, _&&_, true≢false}
 use mathlib.Core.List.{List, [], _∷_, _++_, append-assoc, append-nil}
 use mathlib.Core.Option.{Option, none, some}
 use borrow.Author.Tests.{eqb-true}
-use Rattle.values.specs.Bytes.{Bytes, LF, ascii, is, any, same, starts}
+use Rattle.values.specs.Bytes.{Bytes, LF, ascii, is, any, same, starts, TAB}
 use Rattle.values.specs.Utf8.{completes, followers, isUtf8}
 use Rattle.values.proofs.Tests.{pass, fail, test, or-l, or-r, and-l, and-r, not-true}
 use Rattle.values.proofs.Lists.{OnSome, any-append}
 use Rattle.rules.specs.Answer.{ok, unless}
-use Rattle.rules.specs.Columns.{Columns, TAB, add, split, columnNames, afterColumns, distinct, formatted, readColumns}
+use Rattle.rules.specs.Columns.{Columns, split, columnNames, afterColumns, distinct, formatted, readColumns}
 use Rattle.rules.specs.House.{parted, writeColumns}
 use Rattle.rules.proofs.Firsts.{OnOk, judged-ok, zero-unless}
 use Rattle.values.proofs.Sames.{same-sound}
-use Rattle.rules.proofs.Alls.{All, all-map, all-append}
+use Rattle.rules.proofs.Alls.{all-map, all-append}
 use Rattle.rules.proofs.Pure.{Pure, pure-nil, Plain, pure-join, pure-split}
+use Rattle.rules.specs.Claims.{All}
+use Rattle.rules.specs.Lines.{push}
 
 -- a column: no tab
 pub record GoodName (x : Bytes) : Type 0 where
@@ -27,19 +29,19 @@ split-tab : (b : ℕ) (bs : Bytes) → is TAB b ≡ true → split (b ∷ bs) �
 unfolding split
 split-tab b bs e = rw (e, split)
 
-split-add : (b : ℕ) (bs : Bytes) → is TAB b ≡ false → split (b ∷ bs) ≡ add b (split bs)
+split-add : (b : ℕ) (bs : Bytes) → is TAB b ≡ false → split (b ∷ bs) ≡ push b (split bs)
 unfolding split
 split-add b bs e = rw (e, split)
 
 split-one : (x : Bytes) → any (is TAB) x ≡ false → split x ≡ x ∷ []
 unfolding any split
 split-one [] h = refl
-split-one (b ∷ x) h = split-add b x (or-l (is TAB b) _ h) ∙ ap (add b) (split-one x (or-r (is TAB b) _ h))
+split-one (b ∷ x) h = split-add b x (or-l (is TAB b) _ h) ∙ ap (push b) (split-one x (or-r (is TAB b) _ h))
 
 split-more : (x r : Bytes) → any (is TAB) x ≡ false → split (x ++ TAB ∷ r) ≡ x ∷ split r
 unfolding any
 split-more [] r h = split-tab TAB r refl
-split-more (b ∷ x) r h = split-add b (x ++ TAB ∷ r) (or-l (is TAB b) _ h) ∙ ap (add b) (split-more x r (or-r (is TAB b) _ h))
+split-more (b ∷ x) r h = split-add b (x ++ TAB ∷ r) (or-l (is TAB b) _ h) ∙ ap (push b) (split-more x r (or-r (is TAB b) _ h))
 
 -- what is parted by tabs is split into the same
 split-parted : (x : Bytes) (xs : List Bytes) → All (λ y. any (is TAB) y ≡ false) (x ∷ xs) → split (parted (x ∷ xs)) ≡ x ∷ xs
@@ -61,7 +63,7 @@ abbrev prefix : Bytes → List Bytes → List Bytes
 prefix p [] = p ∷ []
 prefix p (x ∷ xs) = (p ++ x) ∷ xs
 
-prefix-add : (p : Bytes) (b : ℕ) (xs : List Bytes) → prefix p (add b xs) ≡ prefix (p ++ b ∷ []) xs
+prefix-add : (p : Bytes) (b : ℕ) (xs : List Bytes) → prefix p (push b xs) ≡ prefix (p ++ b ∷ []) xs
 prefix-add p b [] = refl
 prefix-add p b (x ∷ xs) = ap (_∷ xs) (sym (append-assoc p (b ∷ []) x))
 
@@ -161,7 +163,7 @@ columns-start false samples = refl
 
 -- A column line that was read is the one that would be written
 
-parted-add : (b : ℕ) (x : Bytes) (xs : List Bytes) → parted (add b (x ∷ xs)) ≡ b ∷ parted (x ∷ xs)
+parted-add : (b : ℕ) (x : Bytes) (xs : List Bytes) → parted (push b (x ∷ xs)) ≡ b ∷ parted (x ∷ xs)
 unfolding parted
 parted-add b x [] = refl
 parted-add b x (y ∷ xs) = refl
@@ -175,7 +177,7 @@ unfolding split parted
 split-in [] = columns [] [] refl refl
 split-in (b ∷ l) = elim (test (is TAB b)) [
   | pass e ↦ elim (split-in l) [ columns x xs q p ↦ columns [] (x ∷ xs) (split-tab b l e ∙ ap ([] ∷_) q) (ap₂ _∷_ (sym (eqb-true b TAB e)) p) ]
-  | fail e ↦ elim (split-in l) [ columns x xs q p ↦ columns (b ∷ x) xs (split-add b l e ∙ ap (add b) q) (parted-add b x xs ∙ ap (b ∷_) p) ]
+  | fail e ↦ elim (split-in l) [ columns x xs q p ↦ columns (b ∷ x) xs (split-add b l e ∙ ap (push b) q) (parted-add b x xs ∙ ap (b ∷_) p) ]
 ]
 
 after-in : (ns xs : List Bytes) → OnSome (λ r. xs ≡ ns ++ r) (afterColumns ns xs)

@@ -2,14 +2,15 @@
 use Prim.Native.Nat.{ℕ, zero, suc, _+_, _-_, _≤_, _<_}
 use native.Mathlib.Omega.{arith}
 use mathlib.Core.Path.{_≡_, refl, sym, ap, _∙_}
-use mathlib.Core.Bool.{Bool, true}
+use mathlib.Core.Bool.{Bool, true, not, _||_, _&&_}
 use mathlib.Core.List.{List, [], _∷_, tail}
 use mathlib.Core.Option.{none, some}
 use lib.ListN.{length, drop, length-append}
 use lib.Seq.{drop-drop}
-use Rattle.values.specs.Bytes.{Bytes, begins}
+use borrow.Author.Tests.{eqb-true}
+use Rattle.values.specs.Bytes.{Bytes, empty, begins, any, before}
 use Rattle.values.specs.Value.{written}
-use Rattle.values.specs.Field.{Field, writtenField, readField}
+use Rattle.values.specs.Field.{Field, writtenField, readKey, readField}
 use Rattle.values.specs.Places.{fieldAt, separatorAt}
 use Rattle.values.specs.declared.cursor.Cursor.{Cursor}
 use Rattle.values.specs.declared.string.Text.{Text}
@@ -17,11 +18,11 @@ use Rattle.values.specs.declared.field.FieldRead.{FieldRead}
 use Rattle.values.specs.declared.field.FieldRead.the-variants as read
 use Rattle.values.specs.declared.field.Separator.{Separator}
 use Rattle.values.specs.declared.field.Separator.the-variants as separator
-use Rattle.values.proofs.Tests.{never}
+use Rattle.values.proofs.Tests.{pass, fail, test, never, and-r}
 use Rattle.values.proofs.Lists.{on-some}
 use Rattle.values.proofs.Fields.{tail-is, placed-comma, placed-other}
 use Rattle.values.proofs.Places.{FieldIn, field-in, FieldHere, field-here}
-use Rattle.rules.specs.Map.{more, done, wrong, after, Scan, scan}
+use Rattle.rules.specs.Map.{more, done, wrong, after, Scan, scan, readFields, fieldsAt}
 use Rattle.rules.proofs.Fields.{after-in, SeenAfter, was-more, was-done, was-wrong, see-after, no-field, a-field, see-field}
 
 -- The scan
@@ -81,7 +82,7 @@ pub record Left (m : Bool) (s : Bytes) (i : ℕ) (fs : List Field) : Type 0 wher
   pub enough : length (drop i s) ≤ fuel
   pub are : fs ≡ scan fuel m (drop i s) .0
 
-pub left-all : (m : Bool) (s : Bytes) (at : ℕ) → Left m s at (scan (length (drop at s)) m (drop at s) .0)
+pub left-all : (m : Bool) (s : Bytes) (at : ℕ) → Left m s at (fieldsAt m s at)
 left-all m s at = record { fuel = length (drop at s); enough = omega arith; are = refl }
 
 module _ {m : Bool} {s : Bytes} {i : ℕ} {fs : List Field} (g : Left m s i fs) {r : FieldRead} (a : r ≡ fieldAt m s i) where
@@ -139,3 +140,20 @@ module _ {m : Bool} {s : Bytes} {i : ℕ} {fs : List Field} (g : Left m s i fs) 
             let w = left-told .ended in
             let z = left-told .inside in
             omega (arith, c .1)
+
+-- Which fields those are
+
+-- no field begins with `>`, or with nothing
+closed-unread : (m : Bool) (bs : Bytes) → empty bs || begins 62 bs ≡ true → readField m bs ≡ none
+unfolding readField readKey before any begins
+closed-unread m [] e = refl
+closed-unread m (b ∷ x) e = let f : b ≡ 62 = eqb-true b 62 e in rw f
+
+pub fields-read : (m needed : Bool) (s : Bytes) (at : ℕ) {fs : List Field} → readFields m needed (drop at s) ≡ (fs, 0) → fieldsAt m s at ≡ fs
+unfolding readFields
+fields-read m needed s at {fs} e = elim (test (not needed && (empty (drop at s) || begins 62 (drop at s)))) [
+  | pass q ↦
+      let u = closed-unread m (drop at s) (and-r (not needed) _ q) in
+      ap (λ (x : Scan). x .0) (scan-none (length (drop at s)) m (drop at s) u) ∙ ap (λ (x : Scan). x .0) (rw (readFields, q) at e)
+  | fail q ↦ ap (λ (x : Scan). x .0) (rw (readFields, q) at e)
+]

@@ -9,23 +9,23 @@ use lib.Dec.{eqb, leb}
 use lib.ListN.{length, take, drop, length-append, length-drop}
 use lib.Seq.{drop-drop, take-take, take-nil}
 use borrow.Author.Tests.{eq-eqb, le-leb}
-use Rattle.values.specs.Bytes.{Bytes, ascii, same}
+use Rattle.values.specs.Bytes.{Bytes, ascii, same, part}
 use Rattle.values.specs.Utf8.{isUtf8}
 use Rattle.values.specs.Value.{Value, written, meaning, meaningOf}
 use Rattle.values.specs.Field.{Field, writtenField}
 use Rattle.values.specs.Places.{textAt}
 use Rattle.values.specs.declared.string.Text.{Text}
 use Rattle.values.proofs.Tests.{pass, fail, test, or-on}
-use Rattle.values.proofs.Fields.{part, text-here}
+use Rattle.values.proofs.Fields.{text-here}
 use Rattle.values.proofs.Places.{valueBy, valueIn, text-of-value}
 use Rattle.rules.specs.Answer.{ok}
 use Rattle.rules.specs.Sizes.{Limits}
 use Rattle.rules.specs.Version.{Version}
 use Rattle.rules.specs.Known.{Kind, INFO, FILTER, FORMAT, ALT, contig, other, kindOf, alwaysMap, nameOf, tagOf}
-use Rattle.rules.specs.Map.{isSome, fieldNamed, valueOf as valueOfField, valueNamed, missing}
+use Rattle.rules.specs.Map.{isSome, fieldNamed, meaningOfField as valueOfField, valueNamed, missing}
 use Rattle.rules.specs.Record.{fields, readRecord}
 use Rattle.rules.specs.Entry.{Entry, mapKind, plainEntry, mapEntry, fieldsStart, textNamed, recordEntry}
-use Rattle.rules.specs.Shown.{Part, hasId, saysNoId, wellFormed, lineIn, idIn, idMeaning, idPart, fieldPart, fieldsPart, linePart}
+use Rattle.rules.specs.Shown.{Part, hasId, saysNoId, wellFormed, lineIn, idIn, idMeaning, idPart, nthFieldPart, recordFieldPart, entryFieldPart}
 use Rattle.rules.specs.House.{writeMore, writeFields, writeRecord}
 use Rattle.rules.specs.Meaning.{tagIn as tagInField}
 use Rattle.values.proofs.Sames.{same-sound}
@@ -34,7 +34,7 @@ use Rattle.rules.proofs.Records.{tag-none, id-given}
 use Rattle.rules.proofs.Texts.{LineOf, record-in}
 use Rattle.rules.proofs.Firsts.{on-ok}
 use Rattle.rules.proofs.Checks.{named-yes as field-yes, named-no as field-no}
-use Rattle.rules.proofs.Trace.{LineAt, Row}
+use Rattle.rules.specs.Claims.{LineAt, Row, nth, PartOf, ShowsMap, ShowsPlain}
 
 -- Fields at their places
 
@@ -105,21 +105,8 @@ named-text v k n l at (f ∷ fs) h = elim (test (same (nameOf v k (f .key)) n)) 
   | fail e ↦ rw (field-no v k n f fs e, named-no v k n at f fs e) (named-text v k n l (at + length (writtenField f) + 1) fs (any-next l at f fs h))
 ]
 
--- field i, as written
-abbrev pub nth : List Field → ℕ → Option Field
-nth [] i = none
-nth (f ∷ fs) zero = some f
-nth (f ∷ fs) (suc i) = nth fs i
-
--- the i-th field and its part go together
-abbrev pub PartOf : Bytes → Option Field → Option Part → Type 0
-PartOf l none none = Unit {0}
-PartOf l none (some p) = ⊥
-PartOf l (some f) none = ⊥
-PartOf l (some f) (some p) = (part l (p .0) (p .1) ≡ writtenField f) × (p .1 ≤ length l)
-
-pub field-part : (l : Bytes) (at : ℕ) (fs : List Field) (i : ℕ) → AnyAt l at fs → PartOf l (nth fs i) (fieldPart at fs i)
-unfolding fieldPart
+pub field-part : (l : Bytes) (at : ℕ) (fs : List Field) (i : ℕ) → AnyAt l at fs → PartOf l (nth fs i) (nthFieldPart at fs i)
+unfolding nthFieldPart
 field-part l at [] i h = tt
 field-part l at (f ∷ fs) zero h =
     let t = first-text l at f fs h in
@@ -230,15 +217,15 @@ id-in v k fs m = go (fieldNamed v k (ascii "ID") fs) refl (textNamed v k (ascii 
     )
 
 line-part : (h : Bytes) (v : Version) (i : ℕ) (e : Entry) → hasId (e .kind) ≡ true → isUtf8 (lineIn h e) ≡ true
-    → linePart h v i (some e) ≡ fieldsPart (e .start) (e .kind) (readRecord v (lineIn h e)) i
-line-part h v i e q u = rw (linePart, q, u)
+    → entryFieldPart h v i (some e) ≡ recordFieldPart (e .start) (e .kind) (readRecord v (lineIn h e)) i
+line-part h v i e q u = rw (entryFieldPart, q, u)
 
-fields-part : (start kind : ℕ) (k : Bytes) (fs : List Field) (i : ℕ) → mapKind (kindOf k) ≡ kind → fieldsPart start kind (ok (fields k fs)) i ≡ fieldPart (start + fieldsStart k) fs i
-fields-part start kind k fs i e = rw (fieldsPart, eq-eqb (mapKind (kindOf k)) kind e)
+fields-part : (start kind : ℕ) (k : Bytes) (fs : List Field) (i : ℕ) → mapKind (kindOf k) ≡ kind → recordFieldPart start kind (ok (fields k fs)) i ≡ nthFieldPart (start + fieldsStart k) fs i
+fields-part start kind k fs i e = rw (recordFieldPart, eq-eqb (mapKind (kindOf k)) kind e)
 
 -- a field's part, in the line and in the header
-pub shift-part : (s at : ℕ) (fs : List Field) (i : ℕ) → fieldPart (s + at) fs i ≡ shifted s (fieldPart at fs i)
-unfolding fieldPart
+pub shift-part : (s at : ℕ) (fs : List Field) (i : ℕ) → nthFieldPart (s + at) fs i ≡ shifted s (nthFieldPart at fs i)
+unfolding nthFieldPart
 shift-part s at [] i = refl
 shift-part s at (f ∷ fs) zero = let e : s + at + length (writtenField f) ≡ s + (at + length (writtenField f)) = omega arith in rw e
 shift-part s at (f ∷ fs) (suc i) = let e : s + at + length (writtenField f) + 1 ≡ s + (at + length (writtenField f) + 1) = omega arith in rw e (shift-part s (at + length (writtenField f) + 1) fs i)
@@ -256,15 +243,6 @@ plain-formed kind start len size k i fits = rw (k, i, le-leb (start + len) size 
 
 -- an entry of an accepted header: it is well formed, and what the calls show of it
 module _ (lim : Limits) (h : Bytes) (v : Version) where
-  -- of a map: its line, its ID's text, its fields as written
-  pub record ShowsMap (k : Bytes) (fs : List Field) (l : Bytes) (e : Entry) : Type 0 where
-    pub formed : wellFormed (length h) e ≡ true
-    pub kind : e .kind ≡ mapKind (kindOf k)
-    pub line : lineIn h e ≡ l
-    pub tag : e .tag ≡ tagOfId v k fs
-    pub id : idMeaning h e ≡ valueNamed v k (ascii "ID") fs
-    pub field : (i : ℕ) → PartOf h (nth fs i) (linePart h v i (some e))
-
   module _ (k : Bytes) (fs : List Field) (start : ℕ) (p : Bytes × Text) (i : IdIn v k fs (writeRecord (fields k fs)) p) (at : LineAt lim h start (writeRecord (fields k fs))) where
     abbrev l : Bytes
     l = writeRecord (fields k fs)
@@ -295,15 +273,15 @@ module _ (lim : Limits) (h : Bytes) (v : Version) where
         let m : start + p .1 .end - (start + p .1 .start) ≡ p .1 .end - p .1 .start = omega (arith, i .ordered) in
         rw (rw m at (part-part h start l (p .1 .start) (p .1 .end) (at .here) (i .inside))) (i .means)
 
-    map-fields : readRecord v l ≡ ok (fields k fs) → (n : ℕ) → PartOf h (nth fs n) (linePart h v n (some e))
+    map-fields : readRecord v l ≡ ok (fields k fs) → (n : ℕ) → PartOf h (nth fs n) (entryFieldPart h v n (some e))
     map-fields r n =
         rw (line-part h v n e (map-kind (kindOf k) .0) (rw map-line (at .utf8)), map-line, r, fields-part start (mapKind (kindOf k)) k fs n refl, shift-part start (fieldsStart k) fs n)
-        (header-part h start l (at .here) (at .inside) (nth fs n) (fieldPart (fieldsStart k) fs n) (field-part l (fieldsStart k) fs n (line-fields k fs)))
+        (header-part h start l (at .here) (at .inside) (nth fs n) (nthFieldPart (fieldsStart k) fs n) (field-part l (fieldsStart k) fs n (line-fields k fs)))
 
-    pub map-shown : readRecord v l ≡ ok (fields k fs) → ShowsMap k fs l e
+    pub map-shown : readRecord v l ≡ ok (fields k fs) → ShowsMap h v k fs l e
     map-shown r = record { formed = map-formed; kind = refl; line = map-line; tag = i .tagged; id = map-id; field = map-fields r }
 
-  pub shows-map : (k : Bytes) (fs : List Field) (e : Entry) (row : Row lim h v e (fields k fs)) → missing v k fs ≡ 0 → ShowsMap k fs (row .line) e
+  pub shows-map : (k : Bytes) (fs : List Field) (e : Entry) (row : Row lim h v e (fields k fs)) → missing v k fs ≡ 0 → ShowsMap h v k fs (row .line) e
   unfolding recordEntry
   shows-map k fs e row m =
       let d = id-in v k fs m in
@@ -312,21 +290,13 @@ module _ (lim : Limits) (h : Bytes) (v : Version) where
       let r : readRecord v (writeRecord (fields k fs)) ≡ ok (fields k fs) = rw w at (row .read) in
       rw (row .entry, w, d .1 .is) (map-shown k fs (row .start) (d .0) (d .1) at r)
 
-  -- of an entry without an ID: its part, and nothing else
-  pub record ShowsPlain (kind : ℕ) (l : Bytes) (e : Entry) : Type 0 where
-    pub formed : wellFormed (length h) e ≡ true
-    pub is-kind : e .kind ≡ kind
-    pub line : lineIn h e ≡ l
-    pub id : idPart (some e) ≡ none
-    pub field : (w : Version) (i : ℕ) → linePart h w i (some e) ≡ none
-
   pub shows-plain : (kind start : ℕ) (l : Bytes) → leb 1 kind && leb kind 10 ≡ true → hasId kind ≡ false → part h start (start + length l) ≡ l → start + length l ≤ length h
-      → ShowsPlain kind l (plainEntry kind start (length l))
+      → ShowsPlain h kind l (plainEntry kind start (length l))
   unfolding lineIn
   shows-plain kind start l k i here fits = record {
     formed = plain-formed kind start (length l) (length h) k i fits;
     is-kind = refl;
     line = let m : start + length l - start ≡ length l = omega arith in rw m at here;
     id = rw (idPart, i);
-    field = λ w j. rw (linePart, i);
+    field = λ w j. rw (entryFieldPart, i);
   }

@@ -20,13 +20,14 @@ use Rattle.rules.specs.Columns.{Columns, readColumns}
 use Rattle.rules.specs.Entry.{Entry, samplesStart, sampleEntries, columnEntries}
 use Rattle.rules.specs.Reading.{clash, State, empty, ready, done, begin, enter, finish, stepText, isDone, step, Reading, stop, following, atEnd, run, reading}
 use Rattle.rules.proofs.Firsts.{OnOk, on-ok, map-ok, bind-ok, judged-ok, was, not-read, see}
-use Rattle.rules.proofs.Alls.{All, all-append}
+use Rattle.rules.proofs.Alls.{all-append}
 use Rattle.rules.proofs.Pure.{Pure}
 use Rattle.rules.proofs.Pieces.{Pieces, piece-line, pieces-fine}
-use Rattle.rules.proofs.Versions.{Sized, SizedOption, force-sized}
+use Rattle.rules.proofs.Versions.{force-sized}
 use Rattle.rules.proofs.Groups.{Apart, apart-snoc}
 use Rattle.rules.proofs.Samples.{GoodColumns, columns-good}
 use Rattle.rules.proofs.Records.{GoodRecord, Entered, record-good}
+use Rattle.rules.specs.Claims.{All, Sized, SizedOption}
 
 pub record Good (v : Version) (rs : List Record) : Type 0 where
   pub sized : Sized v

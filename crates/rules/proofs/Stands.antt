@@ -9,7 +9,7 @@ use lib.Dec.{leb}
 use lib.ListN.{length, drop, length-append, length-drop}
 use lib.Seq.{drop-drop}
 use borrow.Author.Tests.{leb-true}
-use Rattle.values.specs.Bytes.{Bytes, LF, ascii, is, any, starts}
+use Rattle.values.specs.Bytes.{Bytes, LF, ascii, is, any, starts, TAB}
 use Rattle.values.specs.declared.string.Text.{Text}
 use Rattle.values.proofs.Tests.{pass, fail, test, never}
 use Rattle.values.proofs.Fields.{text-here}
@@ -19,20 +19,21 @@ use Rattle.rules.specs.Lines.{pieces, lineOf}
 use Rattle.rules.specs.Version.{Version, v4-5}
 use Rattle.rules.specs.Known.{kindOf}
 use Rattle.rules.specs.Record.{Record, fileformat, fields, text, readRecord}
-use Rattle.rules.specs.Columns.{Columns, TAB, readColumns}
+use Rattle.rules.specs.Columns.{Columns, readColumns}
 use Rattle.rules.specs.Entry.{Entry, formatKind, mapKind, textKind, columnsKind, sampleKind, plainEntry, mapEntry, fieldsStart, textNamed, recordEntry, tabbed, samplesStart, sampleEntries, columnEntries}
 use Rattle.rules.specs.Shown.{hasId, wellFormed}
 use Rattle.rules.specs.Reading.{clash, State, empty, ready, done, begin, enter, stepText, step, atEnd, run, reading}
 use Rattle.rules.specs.House.{parted, writeColumns}
 use Rattle.rules.proofs.Firsts.{OnOk, on-ok, judged-ok, was, not-read, see}
-use Rattle.rules.proofs.Alls.{All, all-append}
+use Rattle.rules.proofs.Alls.{all-append}
 use Rattle.rules.proofs.Pure.{Pure}
 use Rattle.rules.proofs.Pieces.{Pieces, piece-line, pieces-fine}
 use Rattle.rules.proofs.Samples.{GoodColumns, columnsOf, columns-good, columns-in}
 use Rattle.rules.proofs.Records.{GoodRecord, record-good}
 use Rattle.rules.proofs.Sound.{Taken, step-taken, run-refused, run-full, run-more}
-use Rattle.rules.proofs.Trace.{LineAt, Row, first-line}
+use Rattle.rules.proofs.Trace.{first-line}
 use Rattle.rules.proofs.Shows.{shows-map, plain-formed}
+use Rattle.rules.specs.Claims.{All, LineAt, Row}
 
 -- Sample names
 

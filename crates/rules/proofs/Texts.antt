@@ -15,8 +15,8 @@ use Rattle.values.proofs.Fields.{tail-is, text-here}
 use Rattle.values.proofs.Places.{FieldIn, field-in}
 use Rattle.rules.specs.Version.{Version, readVersion}
 use Rattle.rules.specs.Known.{alwaysMap}
-use Rattle.rules.specs.Map.{After, more, done, wrong, after, Scan, scan, closing, readFields, isMeta, mapRefusal, readMap}
-use Rattle.rules.specs.Record.{Record, fileformat, fields, text, isMap, formatOf, readValue, readKeyed, readRecord}
+use Rattle.rules.specs.Map.{After, more, done, wrong, after, Scan, scan, closingRefusal, readFields, isMeta, mapRefusal, readMap}
+use Rattle.rules.specs.Record.{Record, fileformat, fields, text, isMap, fileformatRead, readRecordValue, readKeyed, readRecord}
 use Rattle.rules.specs.Entry.{fieldsStart}
 use Rattle.rules.specs.House.{writeMore, writeFields, writeRecord}
 use Rattle.rules.proofs.Firsts.{OnOk, map-ok, bind-ok, judged-ok}
@@ -58,7 +58,7 @@ fields-in m needed bs = elim (test (not needed && (empty bs || begins 62 bs))) [
   | fail e ↦ rw (readFields, e) (λ z. let d = scan-in (length bs) m bs z in d .3 ∙ rw (d .2) (sym (append-assoc (writtenField (d .0)) (writeMore (d .1)) (62 ∷ []))))
 ]
   where
-    closed : (a : After) → AfterIn bs a → closing a ≡ 0 → bs ≡ 62 ∷ []
+    closed : (a : After) → AfterIn bs a → closingRefusal a ≡ 0 → bs ≡ 62 ∷ []
     closed (more r) h z = absurd (omega arith)
     closed done h z = h
     closed wrong h z = absurd (omega arith)
@@ -91,17 +91,17 @@ map-in v k x = elim (test (begins 60 x)) [
 past-value : (k x l : Bytes) → l ≡ ascii "##" ++ (k ++ 61 ∷ x) → drop (fieldsStart k) l ≡ drop 1 x
 past-value k x l e = sym (drop-drop 2 (2 + length k) l) ∙ ap (λ (y : Bytes). drop 2 y) (text-here l 2 k (61 ∷ x) (ap (drop 2) e) .1)
 
-value-in : (v : Version) (k x l : Bytes) → l ≡ ascii "##" ++ (k ++ 61 ∷ x) → OnOk (λ r. LineOf l r × Scanned v l r) (readValue v k x)
-unfolding readValue writeRecord
+value-in : (v : Version) (k x l : Bytes) → l ≡ ascii "##" ++ (k ++ 61 ∷ x) → OnOk (λ r. LineOf l r × Scanned v l r) (readRecordValue v k x)
+unfolding readRecordValue writeRecord
 value-in v k x l h = elim (test (same k (ascii "fileformat"))) [
-  | pass e ↦ rw (readValue, e) (format (readVersion x))
+  | pass e ↦ rw (readRecordValue, e) (format (readVersion x))
   | fail e ↦ elim (test (isMap v k x)) [
-    | pass m ↦ rw (readValue, e, m) (bind-ok (MapIn v k x) (λ r. LineOf l r × Scanned v l r) (readMap v k x) _ (map-in v k x) (λ fs q. (h ∙ rw (q .0), rw (past-value k x l h) (q .1))))
-    | fail m ↦ rw (readValue, e, m) (h, tt)
+    | pass m ↦ rw (readRecordValue, e, m) (bind-ok (MapIn v k x) (λ r. LineOf l r × Scanned v l r) (readMap v k x) _ (map-in v k x) (λ fs q. (h ∙ rw (q .0), rw (past-value k x l h) (q .1))))
+    | fail m ↦ rw (readRecordValue, e, m) (h, tt)
   ]
 ]
   where
-    format : (a : Option Version) → OnOk (λ r. LineOf l r × Scanned v l r) (formatOf a)
+    format : (a : Option Version) → OnOk (λ r. LineOf l r × Scanned v l r) (fileformatRead a)
     format none = tt
     format (some w) = (tt, tt)
 

@@ -15,17 +15,18 @@ use Rattle.values.proofs.Lists.{OnSome}
 use Rattle.values.proofs.Integers.{read-bound}
 use Rattle.values.proofs.Decimals.{integer-decimal}
 use Rattle.rules.specs.Version.{Version}
-use Rattle.rules.specs.Known.{Kind, INFO, FILTER, FORMAT, ALT, contig, other, kindOf, isIn, known, nameOf, tagOf}
+use Rattle.rules.specs.Known.{Kind, INFO, FILTER, FORMAT, ALT, contig, other, kindOf, isIn, known, numeric, nameOf, tagOf}
 use Rattle.rules.specs.Map.{fieldNamed}
 use Rattle.rules.specs.Record.{Record, fileformat, fields, text}
 use Rattle.rules.specs.Reading.{keyOf}
-use Rattle.rules.specs.Meaning.{Known, number, word, numeric, knownValue, knownOf, tagIn, others, saying}
-use Rattle.rules.specs.House.{isQuoted, writeField, writeKnown, tagName, keyNamed, knownFields, otherFields, recordOf}
+use Rattle.rules.specs.Meaning.{Known, number, word, knownValue, knownOf, tagIn, others, saying}
+use Rattle.rules.specs.House.{isWrittenQuoted, writeField, writeKnown, nameOfTag, keyWritten, knownFields, otherFields, recordOf}
 use Rattle.values.proofs.Sames.{same-sound}
-use Rattle.rules.proofs.Alls.{All, map-same, all-in}
+use Rattle.rules.proofs.Alls.{map-same, all-in}
 use Rattle.rules.proofs.Names.{Fresh, name-plain, id-key}
 use Rattle.rules.proofs.Checks.{named-yes, named-no, on-named}
 use Rattle.rules.proofs.Fields.{meaning-back}
+use Rattle.rules.specs.Claims.{All}
 
 -- What is known of a value, written and known again
 
@@ -67,11 +68,11 @@ known-back kind name t = elim (see-known kind name t) [
 module _ (v : Version) (k : Bytes) (tag : ℕ) where
   -- a known field's written key names it
   abbrev pub Named : Bytes → Type 0
-  Named n = nameOf v k (keyNamed tag n) ≡ n
+  Named n = nameOf v k (keyWritten tag n) ≡ n
 
   abbrev pub writtenAs : Bytes → Option Known → Option Field
   writtenAs n none = none
-  writtenAs n (some x) = some (writeField v k (keyNamed tag n) (writeKnown x))
+  writtenAs n (some x) = some (writeField v k (keyWritten tag n) (writeKnown x))
 
   find-absent : (n : Bytes) (ns : List Bytes) (xs : List (Option Known)) (rest : List Field) → isIn n ns ≡ false → All Named ns
       → fieldNamed v k n (knownFields v k tag ns xs ++ rest) ≡ fieldNamed v k n rest
@@ -152,7 +153,7 @@ module _ (v : Version) (k : Bytes) (tag : ℕ) where
   others-back [] h = refl
   others-back (p ∷ ps) h =
       others-no (writeField v k (p .0) (p .1)) (otherFields v k ps) (h .0)
-      ∙ ap₂ _∷_ (ap {B = Bytes × Bytes} (λ t. (p .0, t)) (meaning-back (isQuoted v k (p .0) (p .1)) (p .1))) (others-back ps (h .1))
+      ∙ ap₂ _∷_ (ap {B = Bytes × Bytes} (λ t. (p .0, t)) (meaning-back (isWrittenQuoted v k (p .0) (p .1)) (p .1))) (others-back ps (h .1))
 
 -- the fields that no known one is, are none
 pub others-other : (v : Version) (k : Bytes) (fs : List Field) → All (Other v k 0 (known (kindOf k))) (others v k fs)
@@ -175,7 +176,7 @@ known-fresh contig = (refl, (refl, (refl, (refl, (refl, tt)))))
 known-fresh other = (refl, tt)
 
 -- the tag's name names the ID, and every other known name itself
-pub known-named : (v : Version) (k : Bytes) (tag : ℕ) → nameOf v k (tagName tag) ≡ ascii "ID" → (kind : Kind) → All (Named v k tag) (known kind)
+pub known-named : (v : Version) (k : Bytes) (tag : ℕ) → nameOf v k (nameOfTag tag) ≡ ascii "ID" → (kind : Kind) → All (Named v k tag) (known kind)
 unfolding isIn same
 known-named v k tag h INFO = (h, (name-plain v k (ascii "Number") refl, (name-plain v k (ascii "Type") refl, (name-plain v k (ascii "Description") refl, (name-plain v k (ascii "IDX") refl, tt)))))
 known-named v k tag h FILTER = (h, (name-plain v k (ascii "Description") refl, (name-plain v k (ascii "IDX") refl, tt)))
@@ -212,11 +213,11 @@ module _ (v : Version) (k : Bytes) (fs : List Field) where
   abbrev pub tidy : List Field
   tidy = knownFields v k tag (known kind) (map knownIn (known kind)) ++ otherFields v k (others v k fs)
 
-  pub tag-named : nameOf v k (tagName tag) ≡ ascii "ID"
+  pub tag-named : nameOf v k (nameOfTag tag) ≡ ascii "ID"
   unfolding same
   tag-named = go (fieldNamed v k (ascii "ID") fs) (on-named (λ f. Unit {0}) v k (ascii "ID") fs (units fs))
     where
-      go : (x : Option Field) → OnSome (λ f. Unit {0} × (nameOf v k (f .key) ≡ ascii "ID")) x → nameOf v k (tagName (tagIn x)) ≡ ascii "ID"
+      go : (x : Option Field) → OnSome (λ f. Unit {0} × (nameOf v k (f .key) ≡ ascii "ID")) x → nameOf v k (nameOfTag (tagIn x)) ≡ ascii "ID"
       go none h = name-plain v k (ascii "ID") refl
       go (some f) h = rw (id-key v k (f .key) (h .1)) (h .1)
 
@@ -237,7 +238,7 @@ module _ (v : Version) (k : Bytes) (fs : List Field) where
       go none = refl
       go (some f) =
           let t = writeKnown (knownValue kind n (meaningOf (f .value))) in
-          ap some (ap (knownValue kind n) (meaning-back (isQuoted v k (keyNamed tag n) t) t) ∙ known-back kind n (meaningOf (f .value)))
+          ap some (ap (knownValue kind n) (meaning-back (isWrittenQuoted v k (keyWritten tag n) t) t) ∙ known-back kind n (meaningOf (f .value)))
 
   pub tag-tidy : tagIn (fieldNamed v k (ascii "ID") tidy) ≡ tag
   unfolding same

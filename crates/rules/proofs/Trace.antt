@@ -2,15 +2,13 @@
 use Prim.Native.Nat.{ℕ, suc, _+_, _≤_}
 use native.Mathlib.Omega.{arith}
 use mathlib.Core.Path.{_≡_, refl, sym, ap, subst, _∙_}
-use mathlib.Core.Bool.{true}
 use mathlib.Core.List.{List, [], _∷_, _++_, append-assoc, append-nil}
 use mathlib.Core.Option.{Option, none}
 use lib.Dec.{leb}
 use lib.ListN.{length, drop, length-append, length-drop}
-use Rattle.values.specs.Bytes.{Bytes, ascii, starts}
-use Rattle.values.specs.Utf8.{isUtf8}
+use Rattle.values.specs.Bytes.{Bytes, ascii, starts, part}
 use Rattle.values.proofs.Tests.{pass, fail, test, never}
-use Rattle.values.proofs.Fields.{part, text-here}
+use Rattle.values.proofs.Fields.{text-here}
 use Rattle.rules.specs.Answer.{ok}
 use Rattle.rules.specs.Sizes.{Limits}
 use Rattle.rules.specs.Lines.{pieces, lineOf}
@@ -22,28 +20,7 @@ use Rattle.rules.specs.Reading.{clash, State, empty, ready, done, begin,
 use Rattle.rules.proofs.Firsts.{OnOk, on-ok, judged-ok, was, not-read, see}
 use Rattle.rules.proofs.Pieces.{nothing, cut, cut-first, line-prefix}
 use Rattle.rules.proofs.Sound.{Taken, step-taken, run-refused, run-full, run-more}
-use Rattle.rules.proofs.Back.{Accepted}
-
--- a line of the header, at its place
-pub record LineAt (lim : Limits) (h : Bytes) (start : ℕ) (l : Bytes) : Type 0 where
-  pub here : part h start (start + length l) ≡ l
-  pub inside : start + length l ≤ length h
-  pub short : length l ≤ lim .line
-  pub utf8 : isUtf8 l ≡ true
-
--- an entry, and the record of its line
-pub record Row (lim : Limits) (h : Bytes) (v : Version) (e : Entry) (r : Record) : Type 0 where
-  pub start : ℕ
-  pub line : Bytes
-  pub there : LineAt lim h start line
-  pub read : readRecord v line ≡ ok r
-  pub entry : e ≡ recordEntry v start line r
-
-abbrev pub Rows : Limits → Bytes → Version → List Entry → List Record → Type 0
-Rows lim h v [] [] = Unit {0}
-Rows lim h v [] (r ∷ rs) = ⊥
-Rows lim h v (e ∷ es) [] = ⊥
-Rows lim h v (e ∷ es) (r ∷ rs) = Row lim h v e r × Rows lim h v es rs
+use Rattle.rules.specs.Claims.{Accepted, LineAt, Rows}
 
 -- what a line does in Ready
 data Stepped (v : Version) (rs : List Record) (start : ℕ) (l : Bytes) (q : State × List Entry) : Type 0 where

@@ -15,15 +15,11 @@ use Rattle.values.proofs.Tests.{pass, fail, test}
 use Rattle.values.proofs.Lists.{OnSome, before-stop, from-stop}
 use Rattle.values.proofs.Integers.{read-bound}
 use Rattle.values.proofs.Decimals.{decimal-lacks, integer-decimal}
-use Rattle.rules.specs.Version.{Version, inForce, versionOf, readParts, readVersion, writeVersion}
+use Rattle.rules.specs.Version.{Version, inForce, versionFrom, readParts, readVersion, writeVersion}
 use Rattle.rules.proofs.Pure.{Pure, pure-append, pure-join, pure-decimal}
+use Rattle.rules.specs.Claims.{Sized, SizedOption}
 
--- its parts are below 2 to the 32
-pub record Sized (v : Version) : Type 0 where
-  pub major : v .major ≤ 2 ^ 32 - 1
-  pub minor : v .minor ≤ 2 ^ 32 - 1
-
-version-of : (a b : IntegerRead) → ((n : ℕ) → a ≡ Value n → n ≤ 2 ^ 32 - 1) → ((n : ℕ) → b ≡ Value n → n ≤ 2 ^ 32 - 1) → OnSome Sized (versionOf a b)
+version-of : (a b : IntegerRead) → ((n : ℕ) → a ≡ Value n → n ≤ 2 ^ 32 - 1) → ((n : ℕ) → b ≡ Value n → n ≤ 2 ^ 32 - 1) → OnSome Sized (versionFrom a b)
 version-of (Value a) (Value b) h k = record { major = h a refl; minor = k b refl }
 version-of (Value a) Refused h k = tt
 version-of Refused b h k = tt
@@ -42,11 +38,6 @@ version-sized bs = elim (test (starts (ascii "VCFv") bs)) [
   | pass e ↦ rw (readVersion, e) (parts-sized (drop 4 bs))
   | fail e ↦ rw (readVersion, e) tt
 ]
-
--- a version that may be imposed
-abbrev pub SizedOption : Option Version → Type 0
-SizedOption none = Unit {0}
-SizedOption (some v) = Sized v
 
 pub force-sized : (imposed : Option Version) (v : Version) → SizedOption imposed → Sized v → Sized (inForce imposed v)
 force-sized none v h k = k

@@ -1,10 +1,10 @@
 -- Document 01, "Records": the column line and its sample names. Assumes nothing.
-use Prim.Native.Nat.{ℕ}
 use mathlib.Core.Bool.{Bool, true, false, not, _&&_}
 use mathlib.Core.List.{List, [], _∷_}
 use mathlib.Core.Option.{Option, none, some}
-use Rattle.values.specs.Bytes.{Bytes, ascii, is, same}
+use Rattle.values.specs.Bytes.{Bytes, ascii, is, same, TAB}
 use Rattle.rules.specs.Answer.{Answer, ok, refuse, unless, judged}
+use Rattle.rules.specs.Lines.{push}
 use Rattle.rules.specs.Known.{isIn}
 
 -- whether FORMAT stood, and the sample names
@@ -12,17 +12,10 @@ pub record Columns : Type 0 where
   pub format : Bool
   pub samples : List Bytes
 
-abbrev pub TAB : ℕ
-TAB = 9
-
-abbrev pub add : ℕ → List Bytes → List Bytes
-add b [] = (b ∷ []) ∷ []
-add b (x ∷ xs) = (b ∷ x) ∷ xs
-
 -- tab-parted
 unfoldable pub split : Bytes → List Bytes
 split [] = [] ∷ []
-split (b ∷ bs) = elim (is TAB b) [ true ↦ [] ∷ split bs | false ↦ add b (split bs) ]
+split (b ∷ bs) = elim (is TAB b) [ true ↦ [] ∷ split bs | false ↦ push b (split bs) ]
 
 abbrev pub columnNames : List Bytes
 columnNames = ascii "#CHROM" ∷ ascii "POS" ∷ ascii "ID" ∷ ascii "REF" ∷ ascii "ALT" ∷ ascii "QUAL" ∷ ascii "FILTER" ∷ ascii "INFO" ∷ []

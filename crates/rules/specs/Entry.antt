@@ -4,14 +4,14 @@ use mathlib.Core.Bool.{Bool, true, false}
 use mathlib.Core.List.{List, [], _∷_, _++_}
 use mathlib.Core.Option.{Option, none, some}
 use lib.ListN.{length}
-use Rattle.values.specs.Bytes.{Bytes, ascii, same}
+use Rattle.values.specs.Bytes.{Bytes, ascii, same, TAB}
 use Rattle.values.specs.Field.{Field, writtenField}
 use Rattle.values.specs.Places.{textAt}
 use Rattle.values.specs.declared.string.Text.{Text}
 use Rattle.rules.specs.Version.{Version}
 use Rattle.rules.specs.Known.{Kind, INFO, FILTER, FORMAT, ALT, contig, other, kindOf, nameOf, tagOf}
 use Rattle.rules.specs.Record.{Record, fileformat, fields, text}
-use Rattle.rules.specs.Columns.{Columns, TAB, columnNames}
+use Rattle.rules.specs.Columns.{Columns, columnNames}
 
 -- Kinds: 1 fileformat, 2 INFO, 3 FILTER, 4 FORMAT, 5 ALT, 6 contig, 7 other map, 8 other text, 9 column line, 10 sample
 

@@ -14,20 +14,20 @@ use Rattle.rules.specs.Answer.{first}
 use Rattle.rules.specs.Sizes.{limits}
 use Rattle.rules.specs.Lines.{pieces, ends, dropEnd, lineOf, writeLine, writeLines}
 use Rattle.rules.specs.Version.{Version, version, earlier, readParts, readVersion, writeVersion}
-use Rattle.rules.specs.Known.{INFO, FILTER, ALT, contig, other, isIn, isTyped, kindOf, alwaysMap, namesId, nameOf, letters, types, readNumber}
+use Rattle.rules.specs.Known.{INFO, FILTER, ALT, contig, other, isIn, isTyped, kindOf, alwaysMap, rowNamed, namesId, nameOf, letters, types, readNumber}
 use Rattle.rules.specs.Reserved.{lookRow, reserved}
-use Rattle.rules.specs.Map.{after, scan, readFields, fieldRefusal, checkFields, fieldNamed, missing, misdeclared, mapRefusal, readMap}
-use Rattle.rules.specs.Record.{looksMap, readValue as readRecordValue, readKeyed, readRecord}
+use Rattle.rules.specs.Map.{after, scan, readFields, checkFields, fieldNamed, missing, misdeclared, mapRefusal, readMap}
+use Rattle.rules.specs.Record.{looksMap, readRecordValue, readKeyed, readRecord}
 use Rattle.rules.specs.Columns.{split, afterColumns, distinct, readColumns}
 use Rattle.rules.specs.Entry.{Entry, formatKind, mapKind, textKind, columnsKind, sampleKind, plainEntry, textNamed, recordEntry, tabbed, samplesStart, sampleEntries, columnEntries}
 use Rattle.rules.specs.Reading.{beside, clash, stepText, step, run, reading}
-use Rattle.rules.specs.Meaning.{knownValue, others, saying, under, without, otherKeys, groups, meaning}
-use Rattle.rules.specs.House.{closes, isQuoted, knownFields, otherFields, recordOf, recordsOf, writeMore, writeFields, writeRecord, parted, writeColumns, houseLines, houseForm, tooLong, formOf, house}
+use Rattle.rules.specs.Meaning.{knownValue, others, saying, under, without, otherKeys, groups, headerMeaning}
+use Rattle.rules.specs.House.{closes, isWrittenQuoted, knownFields, otherFields, recordOf, recordsOf, writeMore, writeFields, writeRecord, parted, writeColumns, houseLines, houseForm, tooLong, formAnswer, house}
 use Rattle.rules.specs.Report.{report}
 
 -- what the definitions need to compute
 unfoldable pub opened : Unit {0}
-unfolding begins any before from same completes followers unsignedRead withoutSign numberOf decimal digitsOf written unescaped quotedText readValues readValue escape writtenField readKey readField first pieces ends dropEnd lineOf writeLine writeLines earlier starts readParts readVersion writeVersion isIn isTyped kindOf alwaysMap namesId nameOf letters types readNumber lookRow reserved after scan readFields fieldRefusal checkFields fieldNamed missing misdeclared mapRefusal readMap looksMap readRecordValue readKeyed readRecord split afterColumns distinct readColumns textNamed recordEntry tabbed samplesStart sampleEntries columnEntries beside clash stepText step run reading knownValue others saying under without otherKeys groups meaning closes isQuoted knownFields otherFields recordOf recordsOf writeMore writeFields writeRecord parted writeColumns houseLines houseForm tooLong formOf house report
+unfolding begins any before from same completes followers unsignedRead withoutSign numberOf decimal digitsOf written unescaped quotedText readValues readValue escape writtenField readKey readField first pieces ends dropEnd lineOf writeLine writeLines earlier starts readParts readVersion writeVersion isIn isTyped kindOf alwaysMap namesId nameOf letters types readNumber lookRow reserved after scan readFields rowNamed checkFields fieldNamed missing misdeclared mapRefusal readMap looksMap readRecordValue readKeyed readRecord split afterColumns distinct readColumns textNamed recordEntry tabbed samplesStart sampleEntries columnEntries beside clash stepText step run reading knownValue others saying under without otherKeys groups headerMeaning closes isWrittenQuoted knownFields otherFields recordOf recordsOf writeMore writeFields writeRecord parted writeColumns houseLines houseForm tooLong formAnswer house report
 opened = tt
 
 -- a header, the version imposed, the entries that the table has room for and the output's bytes
@@ -171,7 +171,8 @@ pinned =
     -- the form's order, quotes, Values, and a text that ends in CR
     ∷ (
       given (F ++ (ascii "##META=<Values=\"[a\",K=\"]\",ID=x>\n##n=t\r\r\n##ALT=<Description=d,ID=\"a,b\">\n#CHROM\tPOS\tID\tREF\tALT\tQUAL\tFILTER\tINFO\tFORMAT\ts")),
-      accepted 5 139 (W ++ bareId (mapKind other) 21 31 29 1 ∷ plainEntry textKind 53 6 ∷ quotedId (mapKind ALT) 61 30 25 3 ∷ plainEntry columnsKind 92 47 ∷ plainEntry sampleKind 138 1 ∷ [])
+      accepted 5 139 (W ++ bareId (mapKind other) 21 31 29 1 ∷ plainEntry textKind 53 6 ∷ quotedId (mapKind ALT) 61 30 25 3
+          ∷ plainEntry columnsKind 92 47 ∷ plainEntry sampleKind 138 1 ∷ [])
           (F ++ ascii "##ALT=<ID=\"a,b\",Description=\"d\">\n##META=<ID=x,Values=\"[a\",K=]>\n##n=t\r\r\n#CHROM\tPOS\tID\tREF\tALT\tQUAL\tFILTER\tINFO\tFORMAT\ts\n") "ok version=4.3 entries=6 samples=1",
     )
     ∷ []

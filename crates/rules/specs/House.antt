@@ -1,12 +1,11 @@
--- Document 01, "House form": how a meaning is written, and the house-form call. Bytes by their numbers: `"` 34, `,` 44, `=` 61, `>` 62, `[` 91,
--- `]` 93. Assumes nothing.
+-- Document 01, "House form": how a meaning is written, and the house-form call. Assumes nothing.
 use Prim.Native.Nat.{ℕ, zero, suc, _+_}
 use mathlib.Core.Bool.{Bool, true, false, not, _||_, _&&_}
 use mathlib.Core.List.{List, [], _∷_, _++_, map}
 use mathlib.Core.Option.{Option, none, some}
 use lib.Dec.{leb}
 use lib.ListN.{length}
-use Rattle.values.specs.Bytes.{Bytes, ascii, is, empty, begins, any, same}
+use Rattle.values.specs.Bytes.{Bytes, ascii, is, empty, begins, any, same, CLOSE, COMMA, EQUALS, GREATER, LESS, OPEN, QUOTE, TAB}
 use Rattle.values.specs.Integer.{decimal}
 use Rattle.values.specs.Value.{isStop, valueOf}
 use Rattle.values.specs.Field.{Field, writtenField}
@@ -16,9 +15,9 @@ use Rattle.rules.specs.Version.{Version, writeVersion}
 use Rattle.rules.specs.Known.{kindOf, known}
 use Rattle.rules.specs.Map.{isMeta}
 use Rattle.rules.specs.Record.{Record, fileformat, fields, text}
-use Rattle.rules.specs.Columns.{TAB, columnNames}
+use Rattle.rules.specs.Columns.{columnNames}
 use Rattle.rules.specs.Reading.{State, done, ready, Reading, reading}
-use Rattle.rules.specs.Meaning.{Known, number, word, Saying, says, lists, Meaning, meaning}
+use Rattle.rules.specs.Meaning.{Known, number, word, Saying, says, lists, Meaning, headerMeaning}
 
 -- the first c is the last byte
 unfoldable pub closes : ℕ → Bytes → Bool
@@ -27,39 +26,39 @@ closes c (b ∷ bs) = elim (is c b) [ true ↦ empty bs | false ↦ closes c bs 
 
 -- another value is quoted only if it begins `"` or has `,` or `>`
 abbrev pub needsQuotes : Bytes → Bool
-needsQuotes t = begins 34 t || any isStop t
+needsQuotes t = begins QUOTE t || any isStop t
 
 -- META's Values from 4.3: bare when it begins `[` and its first `]` is its last byte, quoted when it begins `[` otherwise
 abbrev pub isValues : Version → Bytes → Bytes → Bytes → Bool
-isValues v k key t = isMeta v k && (same key (ascii "Values") && begins 91 t)
+isValues v k key t = isMeta v k && (same key (ascii "Values") && begins OPEN t)
 
 -- a value under the key Description is quoted, in every kind
-unfoldable pub isQuoted : Version → Bytes → Bytes → Bytes → Bool
-isQuoted v k key t = same key (ascii "Description") || elim (isValues v k key t) [ true ↦ not (closes 93 t) | false ↦ needsQuotes t ]
+unfoldable pub isWrittenQuoted : Version → Bytes → Bytes → Bytes → Bool
+isWrittenQuoted v k key t = same key (ascii "Description") || elim (isValues v k key t) [ true ↦ not (closes CLOSE t) | false ↦ needsQuotes t ]
 
 abbrev pub writeField : Version → Bytes → Bytes → Bytes → Field
-writeField v k key t = record { key = key; value = valueOf (isQuoted v k key t) t }
+writeField v k key t = record { key = key; value = valueOf (isWrittenQuoted v k key t) t }
 
 -- integers stand without sign or leading zeros
 abbrev pub writeKnown : Known → Bytes
 writeKnown (number n) = decimal n
 writeKnown (word t) = t
 
-abbrev pub tagName : ℕ → Bytes
-tagName zero = ascii "ID"
-tagName (suc zero) = ascii "Child"
-tagName (suc (suc n)) = ascii "Derived"
+abbrev pub nameOfTag : ℕ → Bytes
+nameOfTag zero = ascii "ID"
+nameOfTag (suc zero) = ascii "Child"
+nameOfTag (suc (suc n)) = ascii "Derived"
 
 -- an ID goes under its tag
-abbrev pub keyNamed : ℕ → Bytes → Bytes
-keyNamed tag name = elim (same name (ascii "ID")) [ true ↦ tagName tag | false ↦ name ]
+abbrev pub keyWritten : ℕ → Bytes → Bytes
+keyWritten tag name = elim (same name (ascii "ID")) [ true ↦ nameOfTag tag | false ↦ name ]
 
 -- known fields in the table's order
 unfoldable pub knownFields : Version → Bytes → ℕ → List Bytes → List (Option Known) → List Field
 knownFields v k tag [] xs = []
 knownFields v k tag (n ∷ ns) [] = []
 knownFields v k tag (n ∷ ns) (none ∷ xs) = knownFields v k tag ns xs
-knownFields v k tag (n ∷ ns) (some x ∷ xs) = writeField v k (keyNamed tag n) (writeKnown x) ∷ knownFields v k tag ns xs
+knownFields v k tag (n ∷ ns) (some x ∷ xs) = writeField v k (keyWritten tag n) (writeKnown x) ∷ knownFields v k tag ns xs
 
 -- then the rest as they stood
 unfoldable pub otherFields : Version → Bytes → List (Bytes × Bytes) → List Field
@@ -77,7 +76,7 @@ recordsOf v (g ∷ gs) = map (recordOf v (g .0)) (g .1) ++ recordsOf v gs
 -- fields parted by `,`
 unfoldable pub writeMore : List Field → Bytes
 writeMore [] = []
-writeMore (f ∷ fs) = 44 ∷ writtenField f ++ writeMore fs
+writeMore (f ∷ fs) = COMMA ∷ writtenField f ++ writeMore fs
 
 unfoldable pub writeFields : List Field → Bytes
 writeFields [] = []
@@ -85,8 +84,8 @@ writeFields (f ∷ fs) = writtenField f ++ writeMore fs
 
 unfoldable pub writeRecord : Record → Bytes
 writeRecord (fileformat v) = ascii "##fileformat=" ++ writeVersion v
-writeRecord (fields k fs) = ascii "##" ++ (k ++ 61 ∷ 60 ∷ (writeFields fs ++ 62 ∷ []))
-writeRecord (text k t) = ascii "##" ++ (k ++ 61 ∷ t)
+writeRecord (fields k fs) = ascii "##" ++ (k ++ EQUALS ∷ LESS ∷ (writeFields fs ++ GREATER ∷ []))
+writeRecord (text k t) = ascii "##" ++ (k ++ EQUALS ∷ t)
 
 -- tab-parted
 unfoldable pub parted : List Bytes → Bytes
@@ -136,8 +135,8 @@ lined room r form none = fitted room r form
 lined room r form (some p) = refusedForm 2 (p .0) (p .1)
 
 -- after an accepted reading: 27, form too long; 2, its first line too long; 28
-unfoldable pub formOf : Limits → ℕ → Reading → Meaning → HouseReading
-formOf lim room r m = elim (leb (length (houseForm m)) (lim .header)) [
+unfoldable pub formAnswer : Limits → ℕ → Reading → Meaning → HouseReading
+formAnswer lim room r m = elim (leb (length (houseForm m)) (lim .header)) [
   | true ↦ lined room r (houseForm m) (tooLong (lim .line) 0 0 (houseLines m))
   | false ↦ refusedForm 27 0 0
 ]
@@ -146,7 +145,7 @@ abbrev pub houseOf : Limits → ℕ → Reading → State → HouseReading
 houseOf lim room r State.empty = refusedForm (r .number) (r .line) (r .start)
 houseOf lim room r (ready v rs) = refusedForm (r .number) (r .line) (r .start)
 houseOf lim room r (done v rs c) = elim (r .number) [
-  | zero ↦ formOf lim room r (meaning v rs c)
+  | zero ↦ formAnswer lim room r (headerMeaning v rs c)
   | suc n ↦ refusedForm (r .number) (r .line) (r .start)
 ]
 

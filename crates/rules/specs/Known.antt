@@ -1,8 +1,9 @@
 -- Document 01, "Records": the known fields of each kind of map, and what their values may be. Assumes nothing.
 use Prim.Native.Nat.{ℕ}
-use mathlib.Core.Bool.{Bool, true, false, _||_, _&&_}
+use mathlib.Core.Bool.{Bool, true, false, not, _||_, _&&_}
 use mathlib.Core.List.{List, [], _∷_, _++_, map}
 use mathlib.Core.Option.{Option, none, some}
+use lib.Dec.{eqb}
 use Rattle.values.specs.Bytes.{Bytes, ascii, same}
 use Rattle.values.specs.Integer.{u64Read}
 use Rattle.values.specs.declared.integer.IntegerRead.{IntegerRead}
@@ -39,26 +40,79 @@ kindOf k = elim (same k (ascii "INFO")) [
 unfoldable pub alwaysMap : Bytes → Bool
 alwaysMap k = same k (ascii "META") || same k (ascii "PEDIGREE")
 
--- the table's column "required", each with the refusal where it is missing
-abbrev pub required : Kind → List (Bytes × ℕ)
-required INFO = (ascii "ID", 14) ∷ (ascii "Number", 15) ∷ (ascii "Type", 16) ∷ (ascii "Description", 17) ∷ []
-required FORMAT = (ascii "ID", 14) ∷ (ascii "Number", 15) ∷ (ascii "Type", 16) ∷ (ascii "Description", 17) ∷ []
-required FILTER = (ascii "ID", 14) ∷ (ascii "Description", 17) ∷ []
-required ALT = (ascii "ID", 14) ∷ (ascii "Description", 17) ∷ []
-required contig = (ascii "ID", 14) ∷ []
-required other = (ascii "ID", 14) ∷ []
+-- how the value of a known field is read
+pub data Reads : Type 0 where
+  anyText aNumber aType anInteger : Reads
 
--- the column "optional"
-abbrev pub optional : Kind → List Bytes
-optional INFO = ascii "IDX" ∷ []
-optional FORMAT = ascii "IDX" ∷ []
-optional FILTER = ascii "IDX" ∷ []
-optional ALT = []
-optional contig = ascii "length" ∷ ascii "md5" ∷ ascii "URL" ∷ ascii "IDX" ∷ []
-optional other = []
+-- a known field: its name, the refusal where it is missing, 0 if it is optional, and how its value is read
+pub record KnownField : Type 0 where
+  pub name : Bytes
+  pub missing : ℕ
+  pub reads : Reads
+
+abbrev pub knownField : Bytes → ℕ → Reads → KnownField
+knownField name missing reads = record { name = name; missing = missing; reads = reads }
+
+abbrev pub idField : KnownField
+idField = knownField (ascii "ID") 14 anyText
+
+abbrev pub numberField : KnownField
+numberField = knownField (ascii "Number") 15 aNumber
+
+abbrev pub typeField : KnownField
+typeField = knownField (ascii "Type") 16 aType
+
+abbrev pub descriptionField : KnownField
+descriptionField = knownField (ascii "Description") 17 anyText
+
+abbrev pub lengthField : KnownField
+lengthField = knownField (ascii "length") 0 anInteger
+
+abbrev pub md5Field : KnownField
+md5Field = knownField (ascii "md5") 0 anyText
+
+abbrev pub urlField : KnownField
+urlField = knownField (ascii "URL") 0 anyText
+
+abbrev pub idxField : KnownField
+idxField = knownField (ascii "IDX") 0 anInteger
+
+-- the table of known fields: the required ones, then the optional ones
+abbrev pub rows : Kind → List KnownField
+rows INFO = idField ∷ numberField ∷ typeField ∷ descriptionField ∷ idxField ∷ []
+rows FORMAT = idField ∷ numberField ∷ typeField ∷ descriptionField ∷ idxField ∷ []
+rows FILTER = idField ∷ descriptionField ∷ idxField ∷ []
+rows ALT = idField ∷ descriptionField ∷ []
+rows contig = idField ∷ lengthField ∷ md5Field ∷ urlField ∷ idxField ∷ []
+rows other = idField ∷ []
+
+abbrev pub those : (KnownField → Bool) → List KnownField → List KnownField
+those p [] = []
+those p (r ∷ rs) = elim (p r) [ true ↦ r ∷ those p rs | false ↦ those p rs ]
+
+abbrev pub names : List KnownField → List Bytes
+names rs = map (λ (r : KnownField). r .name) rs
 
 abbrev pub known : Kind → List Bytes
-known kind = map (λ (r : Bytes × ℕ). r .0) (required kind) ++ optional kind
+known kind = names (rows kind)
+
+abbrev pub required : Kind → List KnownField
+required kind = those (λ (r : KnownField). not (eqb (r .missing) 0)) (rows kind)
+
+-- the value is an integer, or may be one
+abbrev pub isNumeric : Reads → Bool
+isNumeric anyText = false
+isNumeric aNumber = true
+isNumeric aType = false
+isNumeric anInteger = true
+
+abbrev pub numeric : Kind → List Bytes
+numeric kind = names (those (λ (r : KnownField). isNumeric (r .reads)) (rows kind))
+
+-- the row of this name
+unfoldable pub rowNamed : Bytes → List KnownField → Option KnownField
+rowNamed name [] = none
+rowNamed name (r ∷ rs) = elim (same (r .name) name) [ true ↦ some r | false ↦ rowNamed name rs ]
 
 -- PEDIGREE before 4.3: Child and Derived also name the ID
 unfoldable pub namesId : Version → Bytes → Bytes → Bool
@@ -105,22 +159,13 @@ letters v kind = (ascii "A" ∷ ascii "R" ∷ ascii "G" ∷ ascii "." ∷ []) ++
 unfoldable pub types : Kind → List Bytes
 types kind = (ascii "Integer" ∷ ascii "Float" ∷ ascii "Character" ∷ ascii "String" ∷ []) ++ elim (isInfo kind) [ true ↦ ascii "Flag" ∷ [] | false ↦ [] ]
 
-abbrev pub numberOr : Option Number → IntegerRead → Option Number
-numberOr n (integer.Value c) = some (count c)
-numberOr n integer.Refused = n
+abbrev pub countOr : Option Number → IntegerRead → Option Number
+countOr n (integer.Value c) = some (count c)
+countOr n integer.Refused = n
 
 abbrev pub letterIn : List Bytes → Bytes → Option Number
 letterIn ls t = elim (isIn t ls) [ true ↦ some (letter t) | false ↦ none ]
 
 -- Number: a count, or one of the letters
 unfoldable pub readNumber : Version → Kind → Bytes → Option Number
-readNumber v kind t = numberOr (letterIn (letters v kind) t) (u64Read t)
-
--- the fields that are read as integers; a Number may be
-abbrev pub integers : Kind → List Bytes
-integers INFO = ascii "IDX" ∷ []
-integers FILTER = ascii "IDX" ∷ []
-integers FORMAT = ascii "IDX" ∷ []
-integers ALT = []
-integers contig = ascii "length" ∷ ascii "IDX" ∷ []
-integers other = []
+readNumber v kind t = countOr (letterIn (letters v kind) t) (u64Read t)

@@ -13,5 +13,6 @@ pub mod Shown
 pub mod Meaning
 pub mod House
 pub mod Report
+pub mod Claims
 pub mod Examples
 pub mod Numbered

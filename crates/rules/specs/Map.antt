@@ -1,11 +1,10 @@
--- Document 01, "Records": a map, `<`, fields parted by `,`, then `>` as the last byte of the line; and its refusals in their order.
--- Bytes by their numbers: `,` 44, `<` 60, `>` 62. Assumes nothing.
+-- Document 01, "Records": a map, `<`, fields parted by `,`, then `>` as the last byte of the line; and its refusals in their order. Assumes nothing.
 use Prim.Native.Nat.{ℕ, zero, suc}
 use mathlib.Core.Bool.{Bool, true, false, not, _||_, _&&_}
 use mathlib.Core.List.{List, [], _∷_, tail, map}
 use mathlib.Core.Option.{Option, none, some}
-use lib.ListN.{length}
-use Rattle.values.specs.Bytes.{Bytes, ascii, is, empty, begins, same}
+use lib.ListN.{length, drop}
+use Rattle.values.specs.Bytes.{Bytes, ascii, is, empty, begins, same, COMMA, GREATER, LESS}
 use Rattle.values.specs.Integer.{u64Read}
 use Rattle.values.specs.Value.{meaningOf}
 use Rattle.values.specs.Field.{Field, readField}
@@ -13,7 +12,7 @@ use Rattle.values.specs.declared.integer.IntegerRead.{IntegerRead}
 use Rattle.values.specs.declared.integer.IntegerRead.the-variants as integer
 use Rattle.rules.specs.Answer.{Answer, refuse, unless, first, judged}
 use Rattle.rules.specs.Version.{Version, v4-3, since}
-use Rattle.rules.specs.Known.{Kind, kindOf, isIn, alwaysMap, required, known, nameOf, types, readNumber, integers}
+use Rattle.rules.specs.Known.{Kind, kindOf, isIn, alwaysMap, Reads, KnownField, anyText, aNumber, aType, anInteger, rows, required, rowNamed, nameOf, types, readNumber}
 use Rattle.rules.specs.Reserved.{reserved, declares}
 
 -- what follows a value: `,` and more, `>` as the last byte, or neither
@@ -23,9 +22,9 @@ pub data After : Type 0 where
 
 unfoldable pub after : Bytes → After
 after [] = wrong
-after (b ∷ bs) = elim (is 44 b) [
+after (b ∷ bs) = elim (is COMMA b) [
   | true ↦ more bs
-  | false ↦ elim (is 62 b && empty bs) [ true ↦ done | false ↦ wrong ]
+  | false ↦ elim (is GREATER b && empty bs) [ true ↦ done | false ↦ wrong ]
 ]
 
 -- the fields that were read, and the refusal that ended their reading, 0 if none did
@@ -45,15 +44,19 @@ scan (suc n) meta bs = elim (readField meta bs) [
 ]
 
 -- `>` is the last byte
-abbrev pub closing : After → ℕ
-closing (more r) = 8
-closing done = 0
-closing wrong = 8
+abbrev pub closingRefusal : After → ℕ
+closingRefusal (more r) = 8
+closingRefusal done = 0
+closingRefusal wrong = 8
+
+-- the fields that stand at a place, parted by `,`, as far as they can be read
+abbrev pub fieldsAt : Bool → Bytes → ℕ → List Field
+fieldsAt meta s at = scan (length (drop at s)) meta (drop at s) .0
 
 -- the fields after `<`; if `>` or the end follows, there are none, unless one is needed
 unfoldable pub readFields : Bool → Bool → Bytes → Scan
-readFields meta needed bs = elim (not needed && (empty bs || begins 62 bs)) [
-  | true ↦ ([], closing (after bs))
+readFields meta needed bs = elim (not needed && (empty bs || begins GREATER bs)) [
+  | true ↦ ([], closingRefusal (after bs))
   | false ↦ scan (length bs) meta bs
 ]
 
@@ -65,24 +68,27 @@ abbrev pub isValue : IntegerRead → Bool
 isValue (integer.Value n) = true
 isValue integer.Refused = false
 
--- the field of this name is known in this kind, and it is that one
-abbrev pub isField : Kind → Bytes → Bytes → Bool
-isField kind name key = isIn name (known kind) && same key name
+-- 11 to 13: a bad Number or Type, a bad IDX or length
+abbrev pub misread : Version → Kind → Bytes → Reads → ℕ
+misread v kind t anyText = 0
+misread v kind t aNumber = unless (isSome (readNumber v kind t)) 11
+misread v kind t aType = unless (isIn t (types kind)) 12
+misread v kind t anInteger = unless (isValue (u64Read t)) 13
 
--- 11 to 13: bad Number, Type, IDX or length
-unfoldable pub fieldRefusal : Version → Kind → Bytes → Bytes → ℕ
-fieldRefusal v kind key value = first (
-    unless (not (isField kind (ascii "Number") key) || isSome (readNumber v kind value)) 11
-    ∷ unless (not (isField kind (ascii "Type") key) || isIn value (types kind)) 12
-    ∷ unless (not (isIn key (integers kind)) || isValue (u64Read value)) 13
-    ∷ []
-    )
+-- of a known field's value; the others are not read
+abbrev pub valueRefusal : Version → Kind → Bytes → Option KnownField → ℕ
+valueRefusal v kind t none = 0
+valueRefusal v kind t (some r) = misread v kind t (r .reads)
+
+-- the known field that a field key names in a map under the key k
+abbrev pub knownNamed : Version → Bytes → Bytes → Option KnownField
+knownNamed v k field = rowNamed (nameOf v k field) (rows (kindOf k))
 
 -- fields left to right, each by 11 to 13, then 10: `seen` are the names of those before
 unfoldable pub checkFields : Version → Bytes → List Bytes → List Field → ℕ
 checkFields v k seen [] = 0
 checkFields v k seen (f ∷ fs) = first (
-    fieldRefusal v (kindOf k) (f .key) (meaningOf (f .value))
+    valueRefusal v (kindOf k) (meaningOf (f .value)) (knownNamed v k (f .key))
     ∷ unless (not (isIn (nameOf v k (f .key)) seen)) 10
     ∷ checkFields v k (nameOf v k (f .key) ∷ seen) fs
     ∷ []
@@ -93,17 +99,22 @@ unfoldable pub fieldNamed : Version → Bytes → Bytes → List Field → Optio
 fieldNamed v k name [] = none
 fieldNamed v k name (f ∷ fs) = elim (same (nameOf v k (f .key)) name) [ true ↦ some f | false ↦ fieldNamed v k name fs ]
 
-abbrev pub valueOf : Option Field → Bytes
-valueOf none = []
-valueOf (some f) = meaningOf (f .value)
+-- the first field with this key
+unfoldable pub fieldKeyed : Bytes → List Field → Option Field
+fieldKeyed key [] = none
+fieldKeyed key (f ∷ fs) = elim (same (f .key) key) [ true ↦ some f | false ↦ fieldKeyed key fs ]
+
+abbrev pub meaningOfField : Option Field → Bytes
+meaningOfField none = []
+meaningOfField (some f) = meaningOf (f .value)
 
 -- the meaning of the value of this name
 abbrev pub valueNamed : Version → Bytes → Bytes → List Field → Bytes
-valueNamed v k name fs = valueOf (fieldNamed v k name fs)
+valueNamed v k name fs = meaningOfField (fieldNamed v k name fs)
 
 -- 14 to 17: a required field missing
 unfoldable pub missing : Version → Bytes → List Field → ℕ
-missing v k fs = first (map (λ (r : Bytes × ℕ). unless (isSome (fieldNamed v k (r .0) fs)) (r .1)) (required (kindOf k)))
+missing v k fs = first (map (λ (r : KnownField). unless (isSome (fieldNamed v k (r .name) fs)) (r .missing)) (required (kindOf k)))
 
 -- 18: a reserved ID declared otherwise
 unfoldable pub misdeclared : Version → Bytes → List Field → ℕ
@@ -122,7 +133,7 @@ isMeta v k = same k (ascii "META") && since v4-3 v
 
 -- the value of a map under the key k, from its `<` on
 unfoldable pub readMap : Version → Bytes → Bytes → Answer (List Field)
-readMap v k x = elim (begins 60 x) [
+readMap v k x = elim (begins LESS x) [
   | true ↦ let s = readFields (isMeta v k) (alwaysMap k) (tail x) in judged (mapRefusal v k s) (s .0)
   | false ↦ refuse 8
 ]

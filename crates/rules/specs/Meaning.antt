@@ -10,7 +10,7 @@ use Rattle.values.specs.Field.{Field}
 use Rattle.values.specs.declared.integer.IntegerRead.{IntegerRead}
 use Rattle.values.specs.declared.integer.IntegerRead.the-variants as integer
 use Rattle.rules.specs.Version.{Version}
-use Rattle.rules.specs.Known.{Kind, INFO, FILTER, FORMAT, ALT, contig, other, kindOf, isIn, isTyped, typedKeys, known, nameOf, tagOf, integers}
+use Rattle.rules.specs.Known.{Kind, kindOf, isIn, isTyped, typedKeys, known, numeric, nameOf, tagOf}
 use Rattle.rules.specs.Map.{fieldNamed}
 use Rattle.rules.specs.Record.{Record, fileformat, fields, text}
 use Rattle.rules.specs.Columns.{Columns}
@@ -33,21 +33,12 @@ pub record Meaning : Type 0 where
   pub format : Bool
   pub samples : List Bytes
 
--- the fields whose values are integers; a Number's may be
-abbrev pub numeric : Kind → List Bytes
-numeric INFO = ascii "Number" ∷ integers INFO
-numeric FILTER = integers FILTER
-numeric FORMAT = ascii "Number" ∷ integers FORMAT
-numeric ALT = integers ALT
-numeric contig = integers contig
-numeric other = integers other
-
-abbrev pub numberOr : Bytes → IntegerRead → Known
-numberOr t (integer.Value n) = number n
-numberOr t integer.Refused = word t
+abbrev pub numberOrWord : Bytes → IntegerRead → Known
+numberOrWord t (integer.Value n) = number n
+numberOrWord t integer.Refused = word t
 
 unfoldable pub knownValue : Kind → Bytes → Bytes → Known
-knownValue kind name t = elim (isIn name (numeric kind)) [ true ↦ numberOr t (u64Read t) | false ↦ word t ]
+knownValue kind name t = elim (isIn name (numeric kind)) [ true ↦ numberOrWord t (u64Read t) | false ↦ word t ]
 
 abbrev pub knownOf : Kind → Bytes → Option Field → Option Known
 knownOf kind name none = none
@@ -86,5 +77,5 @@ unfoldable pub groups : Version → List Bytes → List Record → List (Bytes �
 groups v [] rs = []
 groups v (k ∷ ks) rs = (k, map (saying v) (under k rs)) ∷ groups v ks rs
 
-unfoldable pub meaning : Version → List Record → Columns → Meaning
-meaning v rs c = record { version = v; groups = groups v (typedKeys ++ otherKeys rs) rs; format = c .format; samples = c .samples }
+unfoldable pub headerMeaning : Version → List Record → Columns → Meaning
+headerMeaning v rs c = record { version = v; groups = groups v (typedKeys ++ otherKeys rs) rs; format = c .format; samples = c .samples }

@@ -16,12 +16,12 @@ pub record Call : Type 0 where
   pub output : ℕ
   pub header : Bytes
 
-abbrev pub given : Bytes → Call
-given h = record { limits = limits; entries = 9; output = 999; header = h }
+abbrev pub onHeader : Bytes → Call
+onHeader h = record { limits = limits; entries = 9; output = 999; header = h }
 
 -- after the fileformat line
 abbrev pub second : String → Call
-second l = given (F ++ ascii l)
+second l = onHeader (F ++ ascii l)
 
 -- number, line and start
 abbrev pub Place : Type 0
@@ -30,26 +30,26 @@ Place = ℕ × ℕ × ℕ
 abbrev pub placed : HouseReading → Place
 placed r = (r .number, r .line, r .start)
 
-abbrev pub answer : Call → Place
-answer c = placed (house (c .limits) none (c .entries) (c .output) (c .header))
+abbrev pub placeOf : Call → Place
+placeOf c = placed (house (c .limits) none (c .entries) (c .output) (c .header))
 
 abbrev pub numbered : List (Call × Place)
 numbered =
-    (given (F ++ COLS ++ ascii "\n"), (1, 3, 60))
+    (onHeader (F ++ COLS ++ ascii "\n"), (1, 3, 60))
     ∷ (record { limits = record { header = 99; line = 20 }; entries = 9; output = 999; header = F ++ ascii "##a=45678901234567890" }, (2, 2, 21))
-    ∷ (given (F ++ 0xFF ∷ []), (3, 2, 21))
-    ∷ (given (ascii "##a=b"), (4, 1, 0))
-    ∷ (given (F ++ F), (5, 2, 21))
+    ∷ (onHeader (F ++ 0xFF ∷ []), (3, 2, 21))
+    ∷ (onHeader (ascii "##a=b"), (4, 1, 0))
+    ∷ (onHeader (F ++ F), (5, 2, 21))
     ∷ (second "#", (6, 2, 21))
     ∷ (second "##=x", (6, 2, 21))
     ∷ (second "##a", (6, 2, 21))
-    ∷ (given (ascii "##fileformat=VCFv4."), (7, 1, 0))
+    ∷ (onHeader (ascii "##fileformat=VCFv4."), (7, 1, 0))
     ∷ (second "##INFO=", (8, 2, 21))
     ∷ (second "##a=<ID=x", (8, 2, 21))
     ∷ (second "##a=<x>", (9, 2, 21))
     ∷ (second "##a=<K=,K=>", (10, 2, 21))
     ∷ (second "##INFO=<Number=Q>", (11, 2, 21))
-    ∷ (given (ascii "##fileformat=VCFv4.4\n##FORMAT=<Number=LA>"), (11, 2, 21))
+    ∷ (onHeader (ascii "##fileformat=VCFv4.4\n##FORMAT=<Number=LA>"), (11, 2, 21))
     ∷ (second "##INFO=<Type=Q>", (12, 2, 21))
     ∷ (second "##FORMAT=<Type=Flag>", (12, 2, 21))
     ∷ (second "##FILTER=<IDX=->", (13, 2, 21))
@@ -59,20 +59,20 @@ numbered =
     ∷ (second "##INFO=<ID=x,Number=1>", (16, 2, 21))
     ∷ (second "##ALT=<ID=x>", (17, 2, 21))
     ∷ (second "##FORMAT=<ID=GT,Number=2,Type=String,Description=>", (18, 2, 21))
-    ∷ (given filters, (19, 3, 51))
+    ∷ (onHeader filters, (19, 3, 51))
     ∷ (second "##a=\n##a=<ID=x>", (20, 3, 26))
     ∷ (second "##a=<ID=x>\n##a=", (20, 3, 32))
     ∷ (second "##a=<ID=x>\n##a=<ID=x>", (21, 3, 32))
     ∷ (second "#CHROM", (22, 2, 21))
     ∷ (second "#CHROM\tPOS\tID\tREF\tALT\tQUAL\tFILTER\tINFO\tFORMAT\t\t", (23, 2, 21))
     ∷ (record { limits = limits; entries = 1; output = 999; header = F ++ COLS }, (24, 2, 21))
-    ∷ (given [], (25, 0, 0))
-    ∷ (given F, (26, 1, 21))
+    ∷ (onHeader [], (25, 0, 0))
+    ∷ (onHeader F, (26, 1, 21))
     ∷ (record { limits = record { header = 20; line = 20 }; entries = 9; output = 999; header = F }, (27, 0, 0))
     ∷ (record { limits = limits; entries = 9; output = 59; header = F ++ COLS }, (28, 0, 0))
     ∷ []
 
-pub numbered-cases : map (λ (c : Call × Place). answer (c .0)) numbered ≡ map (λ (c : Call × Place). c .1) numbered
+pub numbered-cases : map (λ (c : Call × Place). placeOf (c .0)) numbered ≡ map (λ (c : Call × Place). c .1) numbered
 unfolding opened
 numbered-cases = refl
 
@@ -87,7 +87,7 @@ overlong =
     ∷ (record { limits = record { header = 999; line = 39 }; entries = 9; output = 0; header = quoting }, (2, 2, 21))
     ∷ []
 
-pub overlong-cases : map (λ (c : Call × Place). answer (c .0)) overlong ≡ map (λ (c : Call × Place). c .1) overlong
+pub overlong-cases : map (λ (c : Call × Place). placeOf (c .0)) overlong ≡ map (λ (c : Call × Place). c .1) overlong
 unfolding opened
 overlong-cases = refl
 

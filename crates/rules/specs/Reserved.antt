@@ -7,39 +7,39 @@ use Rattle.values.specs.Bytes.{Bytes, ascii, same}
 use Rattle.rules.specs.Version.{Version, v4-3, since}
 use Rattle.rules.specs.Known.{Kind, INFO, FILTER, FORMAT, ALT, contig, other, isIn, Number, count, letter}
 
-pub record Row : Type 0 where
+pub record ReservedRow : Type 0 where
   pub ids : List Bytes
   pub number : Number
   pub type : Bytes
 
-abbrev pub row : List Bytes → Number → Bytes → Row
-row is n t = record { ids = is; number = n; type = t }
+abbrev pub reservedRow : List Bytes → Number → Bytes → ReservedRow
+reservedRow is n t = record { ids = is; number = n; type = t }
 
-abbrev pub infoRows : List Row
+abbrev pub infoRows : List ReservedRow
 infoRows =
-    row (ascii "AC" ∷ []) (letter (ascii "A")) (ascii "Integer")
-    ∷ row (ascii "CIGAR" ∷ []) (letter (ascii "A")) (ascii "String")
-    ∷ row (ascii "AF" ∷ []) (letter (ascii "A")) (ascii "Float")
-    ∷ row (ascii "AD" ∷ ascii "ADF" ∷ ascii "ADR" ∷ []) (letter (ascii "R")) (ascii "Integer")
-    ∷ row (ascii "AA" ∷ []) (count 1) (ascii "String")
-    ∷ row (ascii "AN" ∷ ascii "DP" ∷ ascii "END" ∷ ascii "MQ0" ∷ ascii "NS" ∷ []) (count 1) (ascii "Integer")
-    ∷ row (ascii "BQ" ∷ ascii "MQ" ∷ []) (count 1) (ascii "Float")
-    ∷ row (ascii "SB" ∷ []) (count 4) (ascii "Integer")
-    ∷ row (ascii "DB" ∷ ascii "H2" ∷ ascii "H3" ∷ ascii "SOMATIC" ∷ ascii "VALIDATED" ∷ ascii "1000G" ∷ []) (count 0) (ascii "Flag")
+    reservedRow (ascii "AC" ∷ []) (letter (ascii "A")) (ascii "Integer")
+    ∷ reservedRow (ascii "CIGAR" ∷ []) (letter (ascii "A")) (ascii "String")
+    ∷ reservedRow (ascii "AF" ∷ []) (letter (ascii "A")) (ascii "Float")
+    ∷ reservedRow (ascii "AD" ∷ ascii "ADF" ∷ ascii "ADR" ∷ []) (letter (ascii "R")) (ascii "Integer")
+    ∷ reservedRow (ascii "AA" ∷ []) (count 1) (ascii "String")
+    ∷ reservedRow (ascii "AN" ∷ ascii "DP" ∷ ascii "END" ∷ ascii "MQ0" ∷ ascii "NS" ∷ []) (count 1) (ascii "Integer")
+    ∷ reservedRow (ascii "BQ" ∷ ascii "MQ" ∷ []) (count 1) (ascii "Float")
+    ∷ reservedRow (ascii "SB" ∷ []) (count 4) (ascii "Integer")
+    ∷ reservedRow (ascii "DB" ∷ ascii "H2" ∷ ascii "H3" ∷ ascii "SOMATIC" ∷ ascii "VALIDATED" ∷ ascii "1000G" ∷ []) (count 0) (ascii "Flag")
     ∷ []
 
-abbrev pub formatRows : List Row
+abbrev pub formatRows : List ReservedRow
 formatRows =
-    row (ascii "AD" ∷ ascii "ADF" ∷ ascii "ADR" ∷ []) (letter (ascii "R")) (ascii "Integer")
-    ∷ row (ascii "EC" ∷ []) (letter (ascii "A")) (ascii "Integer")
-    ∷ row (ascii "DP" ∷ ascii "GQ" ∷ ascii "MQ" ∷ ascii "PQ" ∷ ascii "PS" ∷ []) (count 1) (ascii "Integer")
-    ∷ row (ascii "FT" ∷ ascii "GT" ∷ []) (count 1) (ascii "String")
-    ∷ row (ascii "HQ" ∷ []) (count 2) (ascii "Integer")
-    ∷ row (ascii "GL" ∷ ascii "GP" ∷ []) (letter (ascii "G")) (ascii "Float")
-    ∷ row (ascii "PL" ∷ ascii "PP" ∷ []) (letter (ascii "G")) (ascii "Integer")
+    reservedRow (ascii "AD" ∷ ascii "ADF" ∷ ascii "ADR" ∷ []) (letter (ascii "R")) (ascii "Integer")
+    ∷ reservedRow (ascii "EC" ∷ []) (letter (ascii "A")) (ascii "Integer")
+    ∷ reservedRow (ascii "DP" ∷ ascii "GQ" ∷ ascii "MQ" ∷ ascii "PQ" ∷ ascii "PS" ∷ []) (count 1) (ascii "Integer")
+    ∷ reservedRow (ascii "FT" ∷ ascii "GT" ∷ []) (count 1) (ascii "String")
+    ∷ reservedRow (ascii "HQ" ∷ []) (count 2) (ascii "Integer")
+    ∷ reservedRow (ascii "GL" ∷ ascii "GP" ∷ []) (letter (ascii "G")) (ascii "Float")
+    ∷ reservedRow (ascii "PL" ∷ ascii "PP" ∷ []) (letter (ascii "G")) (ascii "Integer")
     ∷ []
 
-abbrev pub tableOf : Kind → List Row
+abbrev pub tableOf : Kind → List ReservedRow
 tableOf INFO = infoRows
 tableOf FILTER = []
 tableOf FORMAT = formatRows
@@ -47,12 +47,12 @@ tableOf ALT = []
 tableOf contig = []
 tableOf other = []
 
-unfoldable pub lookRow : Bytes → List Row → Option Row
+unfoldable pub lookRow : Bytes → List ReservedRow → Option ReservedRow
 lookRow id [] = none
 lookRow id (r ∷ rs) = elim (isIn id (r .ids)) [ true ↦ some r | false ↦ lookRow id rs ]
 
--- the row of an ID, in the version's table
-unfoldable pub reserved : Version → Kind → Bytes → Option Row
+-- the definition of an ID, in the version's table
+unfoldable pub reserved : Version → Kind → Bytes → Option ReservedRow
 reserved v kind id = elim (since v4-3 v) [ true ↦ lookRow id (tableOf kind) | false ↦ none ]
 
 abbrev pub sameNumber : Number → Number → Bool
@@ -65,7 +65,7 @@ abbrev pub isNumber : Number → Option Number → Bool
 isNumber n none = false
 isNumber n (some m) = sameNumber n m
 
--- what a row asks; without a row, nothing
-abbrev pub declares : Option Row → Option Number → Bytes → Bool
+-- what a definition asks; without a definition, nothing
+abbrev pub declares : Option ReservedRow → Option Number → Bytes → Bool
 declares none n t = true
 declares (some r) n t = isNumber (r .number) n && same (r .type) t

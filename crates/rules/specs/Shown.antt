@@ -59,20 +59,20 @@ idPart none = none
 idPart (some e) = elim (hasId (e .kind)) [ true ↦ some (e .start + e .offset, e .start + e .offset + e .idLength) | false ↦ none ]
 
 -- field i of the fields that stand at the place `at`, parted by `,`: key through value
-unfoldable pub fieldPart : ℕ → List Field → ℕ → Option Part
-fieldPart at [] i = none
-fieldPart at (f ∷ fs) ℕ.zero = some (at, at + length (writtenField f))
-fieldPart at (f ∷ fs) (suc i) = fieldPart (at + length (writtenField f) + 1) fs i
+unfoldable pub nthFieldPart : ℕ → List Field → ℕ → Option Part
+nthFieldPart at [] i = none
+nthFieldPart at (f ∷ fs) ℕ.zero = some (at, at + length (writtenField f))
+nthFieldPart at (f ∷ fs) (suc i) = nthFieldPart (at + length (writtenField f) + 1) fs i
 
 -- a line that stands at start, read alone: it must be of the entry's kind
-abbrev pub fieldsPart : ℕ → ℕ → Answer Record → ℕ → Option Part
-fieldsPart start kind (refuse n) i = none
-fieldsPart start kind (ok (fileformat v)) i = none
-fieldsPart start kind (ok (text k t)) i = none
-fieldsPart start kind (ok (fields k fs)) i = elim (eqb (mapKind (kindOf k)) kind) [ true ↦ fieldPart (start + fieldsStart k) fs i | false ↦ none ]
+abbrev pub recordFieldPart : ℕ → ℕ → Answer Record → ℕ → Option Part
+recordFieldPart start kind (refuse n) i = none
+recordFieldPart start kind (ok (fileformat v)) i = none
+recordFieldPart start kind (ok (text k t)) i = none
+recordFieldPart start kind (ok (fields k fs)) i = elim (eqb (mapKind (kindOf k)) kind) [ true ↦ nthFieldPart (start + fieldsStart k) fs i | false ↦ none ]
 
 -- the field call: field i, from 0, of the entry's line under the version given
-abbrev pub linePart : Bytes → Version → ℕ → Option Entry → Option Part
-linePart h v i none = none
-linePart h v i (some e) =
-    elim (hasId (e .kind) && isUtf8 (lineIn h e)) [ true ↦ fieldsPart (e .start) (e .kind) (readRecord v (lineIn h e)) i | false ↦ none ]
+abbrev pub entryFieldPart : Bytes → Version → ℕ → Option Entry → Option Part
+entryFieldPart h v i none = none
+entryFieldPart h v i (some e) =
+    elim (hasId (e .kind) && isUtf8 (lineIn h e)) [ true ↦ recordFieldPart (e .start) (e .kind) (readRecord v (lineIn h e)) i | false ↦ none ]

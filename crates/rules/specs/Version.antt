@@ -5,7 +5,7 @@ use mathlib.Core.List.{_∷_, _++_, tail}
 use mathlib.Core.Option.{Option, none, some}
 use lib.Dec.{eqb, ltb}
 use lib.ListN.{drop}
-use Rattle.values.specs.Bytes.{Bytes, ascii, is, begins, before, from, starts}
+use Rattle.values.specs.Bytes.{Bytes, ascii, is, begins, before, from, starts, POINT}
 use Rattle.values.specs.Integer.{u32Read, decimal}
 use Rattle.values.specs.declared.integer.IntegerRead.{IntegerRead}
 use Rattle.values.specs.declared.integer.IntegerRead.the-variants.{Value, Refused}
@@ -36,18 +36,21 @@ abbrev pub inForce : Option Version → Version → Version
 inForce none v = v
 inForce (some w) v = w
 
-abbrev pub versionOf : IntegerRead → IntegerRead → Option Version
-versionOf (Value a) (Value b) = some (version a b)
-versionOf (Value a) Refused = none
-versionOf Refused b = none
+abbrev pub versionFrom : IntegerRead → IntegerRead → Option Version
+versionFrom (Value a) (Value b) = some (version a b)
+versionFrom (Value a) Refused = none
+versionFrom Refused b = none
 
 -- one digit or more, `.`, one digit or more, nothing after
 unfoldable pub readParts : Bytes → Option Version
-readParts bs = elim (begins 46 (from (is 46) bs)) [ true ↦ versionOf (u32Read (before (is 46) bs)) (u32Read (tail (from (is 46) bs))) | false ↦ none ]
+readParts bs = elim (begins POINT (from (is POINT) bs)) [
+  | true ↦ versionFrom (u32Read (before (is POINT) bs)) (u32Read (tail (from (is POINT) bs)))
+  | false ↦ none
+]
 
 -- `VCFv`, then the parts
 unfoldable pub readVersion : Bytes → Option Version
 readVersion bs = elim (starts (ascii "VCFv") bs) [ true ↦ readParts (drop 4 bs) | false ↦ none ]
 
 unfoldable pub writeVersion : Version → Bytes
-writeVersion v = ascii "VCFv" ++ (decimal (v .major) ++ 46 ∷ decimal (v .minor))
+writeVersion v = ascii "VCFv" ++ (decimal (v .major) ++ POINT ∷ decimal (v .minor))

@@ -9,14 +9,14 @@ use lib.ListN.{length, getD, drop, drop-of-length-le}
 use borrow.Author.Tests.{eq-eqb, ne-eqb, eqb-true, eqb-false}
 use Rattle.values.specs.Bytes.{Bytes, is}
 use Rattle.values.specs.Value.{isEscapable, unescaped, meaning}
-use Rattle.values.specs.Places.{to, byteAt, escapes, unescapedFrom, unescapedAt}
+use Rattle.values.specs.Places.{cursorAt, byteAt, escapes, unescapedFrom, unescapedAt}
 use Rattle.values.specs.declared.cursor.Cursor.{Cursor}
 use Rattle.values.specs.declared.cursor.ByteRead.{ByteRead}
 use Rattle.values.specs.declared.cursor.ByteRead.the-variants.{Byte, End}
 use Rattle.values.proofs.Tests.{pass, fail, test, or-r, not-true, not-false, both, never}
 use Rattle.values.proofs.Lists.{there, past, stands, drop-past, here}
 
-pub byte-there : (s : Bytes) (i : ℕ) → i < length s → Byte (getD s i 0) (to (i + 1)) ≡ byteAt s i
+pub byte-there : (s : Bytes) (i : ℕ) → i < length s → Byte (getD s i 0) (cursorAt (i + 1)) ≡ byteAt s i
 byte-there s i h = rw (here s i)
 
 pub byte-past : (s : Bytes) (i : ℕ) → length s ≤ i → End ≡ byteAt s i
@@ -26,15 +26,15 @@ byte-past s i h = rw (drop-of-length-le s h)
 pub ruleset bytes = (byte-there, byte-past)
 
 -- what was read stands there
-pub byte-read : (s : Bytes) (i : ℕ) {b : ℕ} {c : Cursor} → byteAt s i ≡ Byte b c → (getD s i 0 ≡ b) × (c ≡ to (i + 1)) × (i < length s)
+pub byte-read : (s : Bytes) (i : ℕ) {b : ℕ} {c : Cursor} → byteAt s i ≡ Byte b c → (getD s i 0 ≡ b) × (c ≡ cursorAt (i + 1)) × (i < length s)
 byte-read s i {b} {c} e = elim (stands s i) [
-  | there h ↦ let f : Byte (getD s i 0) (to (i + 1)) ≡ Byte b c = byte-there s i h ∙ e in (cc, cc, h)
+  | there h ↦ let f : Byte (getD s i 0) (cursorAt (i + 1)) ≡ Byte b c = byte-there s i h ∙ e in (cc, cc, h)
   | past h ↦ let f : End ≡ Byte b c = byte-past s i h ∙ e in never cc
 ]
 
 none-escapes : (s : Bytes) (i : ℕ) → byteAt s i ≡ End → escapes (drop i s) ≡ false
 none-escapes s i e = elim (stands s i) [
-  | there h ↦ let f : Byte (getD s i 0) (to (i + 1)) ≡ End = byte-there s i h ∙ e in cc
+  | there h ↦ let f : Byte (getD s i 0) (cursorAt (i + 1)) ≡ End = byte-there s i h ∙ e in cc
   | past h ↦ rw (drop-past s i h)
 ]
 
@@ -68,12 +68,12 @@ module _ (s : Bytes) (i : ℕ) (h : i < length s) where
 module _ (q : Bool) (s : Bytes) (i : ℕ) {r : ByteRead} (a : r ≡ byteAt s i) where
   pub no-byte : r ≡ End → End ≡ unescapedAt q s i
   no-byte e = elim (stands s i) [
-    | there h ↦ let f : Byte (getD s i 0) (to (i + 1)) ≡ End = byte-there s i h ∙ sym a ∙ e in cc
+    | there h ↦ let f : Byte (getD s i 0) (cursorAt (i + 1)) ≡ End = byte-there s i h ∙ sym a ∙ e in cc
     | past h ↦ sym (unescaped-past q s i h)
   ]
 
   module _ {b : ℕ} {c : Cursor} (e : r ≡ Byte b c) where
-    read : (getD s i 0 ≡ b) × (c ≡ to (i + 1)) × (i < length s)
+    read : (getD s i 0 ≡ b) × (c ≡ cursorAt (i + 1)) × (i < length s)
     read = byte-read s i (sym a ∙ e)
 
     pub bare-byte : not q ≡ true → Byte b c ≡ unescapedAt q s i

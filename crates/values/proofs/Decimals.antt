@@ -11,7 +11,7 @@ use lib.ListN.{length, length-append}
 use borrow.Author.Tests.{lt-ltb, le-ltb, le-leb, ltb-true, ltb-false, eqb-true}
 use Rattle.values.specs.Bytes.{Bytes, is, begins, any}
 use Rattle.values.specs.declared.integer.IntegerRead.the-variants.{Value}
-use Rattle.values.specs.Integer.{isDigit, isOther, numberOf, digitsOf, decimal, unsignedRead, withoutSign, integerRead}
+use Rattle.values.specs.Integer.{isDigit, isNoDigit, numberOf, digitsOf, decimal, unsignedRead, withoutSign, integerRead}
 use Rattle.values.proofs.Tests.{or-l}
 use Rattle.values.proofs.Lists.{any-append, any-less}
 use Rattle.values.proofs.Integers.{spelled}
@@ -71,10 +71,10 @@ number-decimal =
     (λ n h. rw (decimal-small n h) (omega arith))
     (λ n h ih. rw (decimal-large n h, number-snoc (decimal (n / 10)) (48 + n % 10), ih) (omega arith))
 
-pub decimal-digits : (n : ℕ) → any isOther (decimal n) ≡ false
+pub decimal-digits : (n : ℕ) → any isNoDigit (decimal n) ≡ false
 unfolding any
 decimal-digits =
-    decimal-ind (λ n. any isOther (decimal n) ≡ false)
+    decimal-ind (λ n. any isNoDigit (decimal n) ≡ false)
     (λ n h. rw (decimal-small n h, is-digit n h))
     (λ n h ih. rw (decimal-large n h, any-append, ih, is-digit (n % 10) (omega arith)))
 
@@ -91,7 +91,7 @@ read-decimal bound n h =
 
 -- it holds no byte that is no digit
 pub decimal-lacks : (c n : ℕ) → isDigit c ≡ false → any (is c) (decimal n) ≡ false
-decimal-lacks c n h = any-less (is c) isOther (λ b e. rw (eqb-true b c e, h)) (decimal n) (decimal-digits n)
+decimal-lacks c n h = any-less (is c) isNoDigit (λ b e. rw (eqb-true b c e, h)) (decimal n) (decimal-digits n)
 
 -- with a sign allowed or not
 pub integer-decimal : (sign : Bool) (bound n : ℕ) → n ≤ bound → integerRead sign bound (decimal n) ≡ Value n

@@ -5,13 +5,13 @@ use mathlib.Core.Path.{_≡_, refl, sym, ap, _∙_}
 use mathlib.Core.Bool.{Bool, true, false, not, _&&_, and-assoc}
 use mathlib.Core.List.{[], _∷_, _++_, tail}
 use mathlib.Core.Option.{Option, none, some}
-use lib.ListN.{length, getD, take, drop, length-append, length-drop}
+use lib.ListN.{length, getD, drop, length-append, length-drop}
 use lib.Seq.{take-at, drop-at, drop-drop}
 use borrow.Author.Tests.{eq-eqb, ne-eqb, eqb-true}
-use Rattle.values.specs.Bytes.{Bytes, ascii, is, empty, begins, any, before, from, same}
+use Rattle.values.specs.Bytes.{Bytes, ascii, is, empty, begins, any, before, from, same, part}
 use Rattle.values.specs.Value.{Value, written, readValue}
 use Rattle.values.specs.Field.{writtenField, isForbidden, endsKey, isKey, readKey, withValue, mayBracket, withKey, readField}
-use Rattle.values.specs.Places.{to, valuePlaced, valueAt, keyPlaced, keyAt, fieldPlaced, fieldAt, separatorPlaced, separatorAt}
+use Rattle.values.specs.Places.{cursorAt, valuePlaced, valueAt, keyPlaced, keyAt, fieldPlaced, fieldAt, separatorPlaced, separatorAt}
 use Rattle.values.specs.declared.cursor.Cursor.{Cursor}
 use Rattle.values.specs.declared.string.Text.{Text}
 use Rattle.values.specs.declared.string.ValueRead.{ValueRead}
@@ -112,7 +112,7 @@ module _ (s : Bytes) (i : ℕ) {e : ℕ} (a : e ≡ stopOf endsKey s i) where
     unfolding keyAt begins
     key-forbidden ne = ap (keyPlaced i) (sym (no-key (drop i s) (rw (rest-is, here s e h) (ne-eqb (getD s e 0) 61 ne))))
 
-    pub key-found : (e ≡ i → ⊥) → getD s e 0 ≡ 61 → key.Key e (to (e + 1)) ≡ keyAt s i
+    pub key-found : (e ≡ i → ⊥) → getD s e 0 ≡ 61 → key.Key e (cursorAt (e + 1)) ≡ keyAt s i
     unfolding keyAt
     key-found ne w =
         let f : from endsKey (drop i s) ≡ 61 ∷ drop (e + 1) s = rest-is ∙ here s e h ∙ rw w in
@@ -126,7 +126,7 @@ pub separator-past : (s : Bytes) (i : ℕ) → length s ≤ i → Other ≡ sepa
 unfolding separatorAt begins
 separator-past s i h = rw (drop-past s i h)
 
-pub separator-comma : (s : Bytes) (i : ℕ) → i < length s → getD s i 0 ≡ 44 → Comma (to (i + 1)) ≡ separatorAt s i
+pub separator-comma : (s : Bytes) (i : ℕ) → i < length s → getD s i 0 ≡ 44 → Comma (cursorAt (i + 1)) ≡ separatorAt s i
 unfolding separatorAt begins
 separator-comma s i h e = rw (here s i) (rw (eq-eqb (getD s i 0) 44 e))
 
@@ -137,7 +137,7 @@ separator-other s i h ne = rw (here s i) (rw (ne-eqb (getD s i 0) 44 ne))
 pub ruleset separators = (separator-past, separator-comma, separator-other)
 
 -- what the code was told of a separator
-pub placed-comma : (i : ℕ) (q : Bool) {c : Cursor} → separatorPlaced i q ≡ Comma c → (q ≡ true) × (to (i + 1) ≡ c)
+pub placed-comma : (i : ℕ) (q : Bool) {c : Cursor} → separatorPlaced i q ≡ Comma c → (q ≡ true) × (cursorAt (i + 1) ≡ c)
 placed-comma i true e = (refl, cc)
 placed-comma i false e = never cc
 
@@ -153,10 +153,6 @@ pub bracket-values : (m : Bool) (k : Bytes) → not m ≡ false → {q : Bool} �
 bracket-values m k n a = a ∙ rw (not-false m n)
 
 pub ruleset may = (no-bracket, bracket-values)
-
--- the part of s from a up to e
-abbrev pub part : Bytes → ℕ → ℕ → Bytes
-part s a e = take (e - a) (drop a s)
 
 pub tail-is : (c : ℕ) (bs : Bytes) → begins c bs ≡ true → bs ≡ c ∷ tail bs
 unfolding begins
@@ -209,7 +205,7 @@ key-here s i {e} {c} q = go (readKey (drop i s)) refl q
     go none a f = never cc
     go (some p) a f =
         let w : i + length (p .0) ≡ e = cc in
-        let n : to (i + length (p .0) + 1) ≡ c = cc in
+        let n : cursorAt (i + length (p .0) + 1) ≡ c = cc in
         let t = on-some (KeyIn (drop i s)) (key-in (drop i s)) a .text in
         let h = text-here s i (p .0) (61 ∷ p .1) t in
         let l = text-inside s i (p .0) 61 (p .1) t in

@@ -11,11 +11,11 @@ use borrow.Author.Tests.{le-leb, lt-leb, leb-true, eq-eqb, ne-eqb}
 use Rattle.values.specs.Bytes.{Bytes, empty, begins, any}
 use Rattle.values.specs.declared.integer.IntegerRead.{IntegerRead}
 use Rattle.values.specs.declared.integer.IntegerRead.the-variants.{Value, Refused}
-use Rattle.values.specs.Integer.{isOther, numberOf, spells, answer, unsignedRead, withoutSign, integerRead}
+use Rattle.values.specs.Integer.{isNoDigit, numberOf, spells, valueIf, unsignedRead, withoutSign, integerRead}
 use Rattle.values.proofs.Tests.{pass, fail, test, and-r, and-off, not-true, not-false, never}
 use Rattle.values.proofs.Lists.{here, rest}
 
-other-byte : (bound : ℕ) (s : Bytes) → any isOther s ≡ true → Refused ≡ unsignedRead bound s
+other-byte : (bound : ℕ) (s : Bytes) → any isNoDigit s ≡ true → Refused ≡ unsignedRead bound s
 unfolding unsignedRead
 other-byte bound [] e = refl
 other-byte bound (b ∷ s) e = simp e
@@ -24,9 +24,9 @@ too-large : (bound : ℕ) (s : Bytes) → bound < numberOf s → Refused ≡ uns
 unfolding unsignedRead
 too-large bound [] h = refl
 too-large bound (b ∷ s) h =
-    sym (ap (λ (t : Bool). answer t (numberOf (b ∷ s))) (and-off (not (any isOther (b ∷ s))) (lt-leb (numberOf (b ∷ s)) bound h)))
+    sym (ap (λ (t : Bool). valueIf t (numberOf (b ∷ s))) (and-off (not (any isNoDigit (b ∷ s))) (lt-leb (numberOf (b ∷ s)) bound h)))
 
-pub spelled : (bound : ℕ) (s : Bytes) → (length s ≡ 0 → ⊥) → any isOther s ≡ false → numberOf s ≤ bound → Value (numberOf s) ≡ unsignedRead bound s
+pub spelled : (bound : ℕ) (s : Bytes) → (length s ≡ 0 → ⊥) → any isNoDigit s ≡ false → numberOf s ≤ bound → Value (numberOf s) ≡ unsignedRead bound s
 unfolding unsignedRead
 spelled bound [] ne e h = absurd (ne refl)
 spelled bound (b ∷ s) ne e h = simp (e, le-leb (numberOf (b ∷ s)) bound h)
@@ -36,7 +36,7 @@ unfolding unsignedRead
 nothing bound [] e = refl
 nothing bound (b ∷ s) e = absurd (let k : suc (length s) ≡ 0 = e in omega arith)
 
-any-cons : (b : ℕ) (s : Bytes) → any isOther (b ∷ s) ≡ (isOther b || any isOther s)
+any-cons : (b : ℕ) (s : Bytes) → any isNoDigit (b ∷ s) ≡ (isNoDigit b || any isNoDigit s)
 unfolding any
 any-cons b s = refl
 
@@ -48,7 +48,7 @@ number-cons b s = refl
 pub record Reading (s : Bytes) (bound n i : ℕ) : Type 0 where
   pub inside : i ≤ length s
   pub small : n ≤ bound
-  pub others : any isOther s ≡ any isOther (drop i s)
+  pub others : any isNoDigit s ≡ any isNoDigit (drop i s)
   pub value : numberOf s ≡ n * 10 ^ length (drop i s) + numberOf (drop i s)
 
 module _ {s : Bytes} {bound n i : ℕ} (g : Reading s bound n i) (h : i < length s) where
@@ -58,7 +58,7 @@ module _ {s : Bytes} {bound n i : ℕ} (g : Reading s bound n i) (h : i < length
   abbrev t : Bytes
   t = drop (i + 1) s
 
-  others : any isOther s ≡ (isOther b || any isOther t)
+  others : any isNoDigit s ≡ (isNoDigit b || any isNoDigit t)
   others = g .others ∙ rw (here s i) (any-cons b t)
 
   -- the digit at i joins the number
@@ -69,7 +69,7 @@ module _ {s : Bytes} {bound n i : ℕ} (g : Reading s bound n i) (h : i < length
   low lt = other-byte bound s (others ∙ simp (lt-leb 48 b lt))
 
   pub high : 57 < b → Refused ≡ unsignedRead bound s
-  high lt = other-byte bound s (others ∙ ap (λ (p : Bool). not p || any isOther t) (and-off (leb 48 b) (lt-leb b 57 lt)))
+  high lt = other-byte bound s (others ∙ ap (λ (p : Bool). not p || any isNoDigit t) (and-off (leb 48 b) (lt-leb b 57 lt)))
 
   over : bound < n * 10 + (b - 48) → Refused ≡ unsignedRead bound s
   over lt =
@@ -147,6 +147,6 @@ read-bound sign bound s e = go (withoutSign sign s) e
     go : (w : Bytes) {n : ℕ} → unsignedRead bound w ≡ Value n → n ≤ bound
     go w {n} e = elim (test (spells bound w)) [
       | pass q ↦ let k : numberOf w ≡ n = cc (e, q) in
-          omega (arith, leb-true (numberOf w) bound (and-r (not (any isOther w)) _ (and-r (not (empty w)) _ q)))
+          omega (arith, leb-true (numberOf w) bound (and-r (not (any isNoDigit w)) _ (and-r (not (empty w)) _ q)))
       | fail q ↦ never (cc (e, q))
     ]

@@ -8,23 +8,23 @@ use mathlib.Core.Option.{Option, none, some}
 use lib.ListN.{length, drop, length-append, length-drop}
 use lib.Seq.{drop-drop}
 use borrow.Author.Tests.{eqb-true}
-use Rattle.values.specs.Bytes.{Bytes, is, begins, any, before, from}
-use Rattle.values.specs.Value.{Value, quoted, bare, textOf, written, put, isEscapable, quotedText, inQuotes, isStop, isBracketed, readValues, readUnquoted, readValue}
+use Rattle.values.specs.Bytes.{Bytes, is, begins, any, before, from, part}
+use Rattle.values.specs.Value.{Value, quoted, bare, textOf, written, prepend, isEscapable, quotedText, inQuotes, isStop, isBracketed, readValues, readUnquoted, readValue}
 use Rattle.values.specs.Field.{Field, writtenField, isKey, readKey, withValue, mayBracket, withKey, readField}
-use Rattle.values.specs.Places.{to, textAt, fieldPlaced, fieldAt}
+use Rattle.values.specs.Places.{cursorAt, textAt, fieldPlaced, fieldAt}
 use Rattle.values.specs.declared.cursor.Cursor.{Cursor}
 use Rattle.values.specs.declared.string.Text.{Text}
 use Rattle.values.specs.declared.field.FieldRead.the-variants as field
 use Rattle.values.proofs.Tests.{pass, fail, test, and-r, never}
 use Rattle.values.proofs.Lists.{OnSome, on-some, before-from, from-is}
 use Rattle.values.proofs.Values.{bracketed-is, bracketed-not}
-use Rattle.values.proofs.Fields.{part, KeyIn, key-in, text-here, text-inside, tail-is}
+use Rattle.values.proofs.Fields.{KeyIn, key-in, text-here, text-inside, tail-is}
 
 -- a quoted text stands before its closing quote
 abbrev pub QuotedIn : Bytes → Bytes × Bytes → Type 0
 QuotedIn bs p = bs ≡ p .0 ++ 34 ∷ p .1
 
-put-in : (b : ℕ) (bs : Bytes) (a : Option (Bytes × Bytes)) → OnSome (QuotedIn bs) a → OnSome (QuotedIn (b ∷ bs)) (put b a)
+put-in : (b : ℕ) (bs : Bytes) (a : Option (Bytes × Bytes)) → OnSome (QuotedIn bs) a → OnSome (QuotedIn (b ∷ bs)) (prepend b a)
 put-in b bs none h = tt
 put-in b bs (some p) h = ap (b ∷_) h
 
@@ -161,7 +161,7 @@ field-here m s i {e} {t} {n} q = go (readField m (drop i s)) refl q
         let j = i + length k + 1 in
         let we : i + length k ≡ e = cc in
         let wt : textAt j v ≡ t = cc in
-        let wn : to (i + length (k ++ 61 ∷ written v)) ≡ n = cc in
+        let wn : cursorAt (i + length (k ++ 61 ∷ written v)) ≡ n = cc in
         let h = on-some (FieldIn m (drop i s)) (field-in m (drop i s)) a in
         let x : drop i s ≡ k ++ 61 ∷ (written v ++ p .1) = h .text ∙ append-assoc k (61 ∷ written v) (p .1) in
         let kh = text-here s i k (61 ∷ written v ++ p .1) x in

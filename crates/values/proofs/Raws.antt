@@ -6,8 +6,8 @@ use mathlib.Core.List.{[], _∷_, tail}
 use mathlib.Core.Option.{Option, none, some}
 use borrow.Author.Tests.{eqb-true}
 use Rattle.values.specs.Bytes.{Bytes, is, empty, begins, any}
-use Rattle.values.specs.Integer.{isOther, answer, unsignedRead, withoutSign, integerRead, numberOf}
-use Rattle.values.specs.Value.{Value, textOf, meaningOf, unescaped, put, isEscapable, quotedText, inQuotes, isBracketed, readUnquoted, readValue}
+use Rattle.values.specs.Integer.{isNoDigit, valueIf, unsignedRead, withoutSign, integerRead, numberOf}
+use Rattle.values.specs.Value.{Value, textOf, meaningOf, unescaped, prepend, isEscapable, quotedText, inQuotes, isBracketed, readUnquoted, readValue}
 use Rattle.values.specs.Field.{readKey, withValue, mayBracket, withKey, readField}
 use Rattle.values.specs.declared.integer.IntegerRead.the-variants.{Refused}
 use Rattle.values.proofs.Tests.{pass, fail, test, or-l, or-r, or-on, and-r}
@@ -20,16 +20,16 @@ abbrev Slashed : Bool → Bytes × Bytes → Type 0
 Slashed true p = any isEscapable (unescaped true (p .0)) ≡ true
 Slashed false p = any (is 92) (p .0) ≡ true → any isEscapable (unescaped false (p .0)) ≡ true
 
-put-escaped : (b : ℕ) → isEscapable b ≡ true → (a : Option (Bytes × Bytes)) → OnSome (Slashed true) (put b a)
+put-escaped : (b : ℕ) → isEscapable b ≡ true → (a : Option (Bytes × Bytes)) → OnSome (Slashed true) (prepend b a)
 unfolding any
 put-escaped b e none = tt
 put-escaped b e (some p) = rw (unescaped-escaped b (p .0) e, any, e)
 
-put-slash : (b : ℕ) → is 92 b ≡ true → (a : Option (Bytes × Bytes)) → OnSome (Slashed true) a → OnSome (Slashed false) (put b a)
+put-slash : (b : ℕ) → is 92 b ≡ true → (a : Option (Bytes × Bytes)) → OnSome (Slashed true) a → OnSome (Slashed false) (prepend b a)
 put-slash b e none h = tt
 put-slash b e (some p) h = λ u. rw (unescaped-slash b (p .0) e) h
 
-put-plain : (b : ℕ) → is 92 b ≡ false → (a : Option (Bytes × Bytes)) → OnSome (Slashed false) a → OnSome (Slashed false) (put b a)
+put-plain : (b : ℕ) → is 92 b ≡ false → (a : Option (Bytes × Bytes)) → OnSome (Slashed false) a → OnSome (Slashed false) (prepend b a)
 unfolding any
 put-plain b e none h = tt
 put-plain b e (some p) h = λ u. rw (unescaped-plain b (p .0) e, any) (or-on (isEscapable b) (h (rw (any, e) at u)))
@@ -56,7 +56,7 @@ unfolding any unescaped
 plain-means [] e = refl
 plain-means (b ∷ t) e = unescaped-plain b t (or-l (is 92 b) (any (is 92) t) e) ∙ ap (b ∷_) (plain-means t (or-r (is 92 b) (any (is 92) t) e))
 
-escapable-other : (b : ℕ) → isEscapable b ≡ true → isOther b ≡ true
+escapable-other : (b : ℕ) → isEscapable b ≡ true → isNoDigit b ≡ true
 escapable-other b e = elim (test (is 34 b)) [
   | pass q ↦ rw (eqb-true b 34 q)
   | fail q ↦ rw (eqb-true b 92 (rw q at e))
@@ -74,12 +74,12 @@ any-more s t h (b ∷ bs) e = elim (test (s b)) [
 ]
 
 -- a sign is no escapable byte
-sign-left : (sign : Bool) (t : Bytes) → any isEscapable t ≡ true → any isOther (withoutSign sign t) ≡ true
+sign-left : (sign : Bool) (t : Bytes) → any isEscapable t ≡ true → any isNoDigit (withoutSign sign t) ≡ true
 unfolding withoutSign any begins
 sign-left sign [] e = cc
 sign-left sign (b ∷ t) e = elim (test (sign && is 43 b)) [
-  | pass q ↦ rw (withoutSign, q) (any-more isEscapable isOther escapable-other t (rw (any, eqb-true b 43 (and-r sign (is 43 b) q)) at e))
-  | fail q ↦ rw (withoutSign, q) (any-more isEscapable isOther escapable-other (b ∷ t) e)
+  | pass q ↦ rw (withoutSign, q) (any-more isEscapable isNoDigit escapable-other t (rw (any, eqb-true b 43 (and-r sign (is 43 b) q)) at e))
+  | fail q ↦ rw (withoutSign, q) (any-more isEscapable isNoDigit escapable-other (b ∷ t) e)
 ]
 
 -- an escapable byte refuses the text
@@ -87,7 +87,7 @@ refused : (sign : Bool) (bound : ℕ) (t : Bytes) → any isEscapable t ≡ true
 unfolding unsignedRead
 refused sign bound t e = rw (unsignedRead, sign-left sign t e) (off (not (empty (withoutSign sign t))))
   where
-    off : (q : Bool) → answer (q && false) (numberOf (withoutSign sign t)) ≡ Refused
+    off : (q : Bool) → valueIf (q && false) (numberOf (withoutSign sign t)) ≡ Refused
     off true = refl
     off false = refl
 

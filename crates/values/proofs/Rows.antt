@@ -8,7 +8,7 @@ use mathlib.Core.List.{List, [], _∷_}
 use mathlib.Core.Option.{Option, none, some}
 use lib.Dec.{leb, ltb}
 use borrow.Author.Tests.{le-leb, lt-leb, leb-true, ltb-true}
-use Rattle.values.specs.Utf8.{Range, Row, within, look, rows, followers}
+use Rattle.values.specs.Utf8.{Range, Character, within, look, rows, followers}
 use Rattle.values.proofs.Tests.{and-l, and-r, and-off}
 
 pub data Found : Type 0 where
@@ -22,18 +22,18 @@ step false true above hit more = more
 step false false true hit more = more
 step false false false hit more = split
 
-abbrev pub span : List Row → ℕ → ℕ → Found
+abbrev pub span : List Character → ℕ → ℕ → Found
 span [] lo hi = one none
 span (r ∷ rs) lo hi =
     step (leb (r .first .low) lo && leb hi (r .first .high)) (ltb hi (r .first .low)) (ltb (r .first .high) lo) (one (some (r .follow))) (span rs lo hi)
 
-in-row : (r : Row) (rs : List Row) (b : ℕ) → within (r .first) b ≡ true → look (r ∷ rs) b ≡ some (r .follow)
+in-row : (r : Character) (rs : List Character) (b : ℕ) → within (r .first) b ≡ true → look (r ∷ rs) b ≡ some (r .follow)
 in-row r rs b e = rw (e, look)
 
-off-row : (r : Row) (rs : List Row) (b : ℕ) → within (r .first) b ≡ false → look (r ∷ rs) b ≡ look rs b
+off-row : (r : Character) (rs : List Character) (b : ℕ) → within (r .first) b ≡ false → look (r ∷ rs) b ≡ look rs b
 off-row r rs b e = rw (e, look)
 
-module _ (r : Row) (rs : List Row) (lo hi b : ℕ) {x : Option (List Range)} (l : lo ≤ b) (h : b ≤ hi) (later : span rs lo hi ≡ one x → look rs b ≡ x) where
+module _ (r : Character) (rs : List Character) (lo hi b : ℕ) {x : Option (List Range)} (l : lo ≤ b) (h : b ≤ hi) (later : span rs lo hi ≡ one x → look rs b ≡ x) where
   go : (i u o : Bool) → (leb (r .first .low) lo && leb hi (r .first .high)) ≡ i → ltb hi (r .first .low) ≡ u → ltb (r .first .high) lo ≡ o
       → step i u o (one (some (r .follow))) (span rs lo hi) ≡ one x → look (r ∷ rs) b ≡ x
   go true u o ei eu eo e =
@@ -48,7 +48,7 @@ module _ (r : Row) (rs : List Row) (lo hi b : ℕ) {x : Option (List Range)} (l 
       off-row r rs b (and-off (leb (r .first .low) b) (lt-leb b (r .first .high) (lt-of-lt-of-le (ltb-true _ _ eo) l))) ∙ later e
   go false false false ei eu eo e = cc
 
-span-look : (rs : List Row) (lo hi b : ℕ) {x : Option (List Range)} → span rs lo hi ≡ one x → lo ≤ b → b ≤ hi → look rs b ≡ x
+span-look : (rs : List Character) (lo hi b : ℕ) {x : Option (List Range)} → span rs lo hi ≡ one x → lo ≤ b → b ≤ hi → look rs b ≡ x
 span-look [] lo hi b e l h = cc
 span-look (r ∷ rs) lo hi b e l h =
     go r rs lo hi b l h (λ e′. span-look rs lo hi b e′ l h)

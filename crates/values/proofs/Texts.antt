@@ -9,7 +9,7 @@ use lib.Dec.{leb, eqb, eqb·suc-zero}
 use lib.ListN.{length, getD, drop, replicate, drop-of-length-le}
 use borrow.Author.Tests.{le-leb, lt-leb}
 use Rattle.values.specs.Bytes.{Bytes}
-use Rattle.values.specs.Utf8.{Range, Row, to, tail, within, look, rows, followers, completes, isUtf8}
+use Rattle.values.specs.Utf8.{Range, Character, upTo, tail, within, look, rows, followers, completes, isUtf8}
 use Rattle.values.specs.declared.utf8.Lead.{Lead}
 use Rattle.values.specs.declared.utf8.Lead.the-variants.{Follow, Refused}
 use Rattle.values.specs.Lead.{due, leadMeans}
@@ -55,21 +55,21 @@ module _ {s : Bytes} {left low high i : ℕ} (g : Going s left low high i) (h : 
   pub first : left ≡ 0 → {r : Lead} → leadMeans r ≡ followers b → {n l u : ℕ} → r ≡ Follow n l u → Going s n l u (i + 1)
   first e f q = record { inside = omega arith; same = g .same ∙ rw (here s i, e) (begin b t (sym f ∙ ap leadMeans q)) }
 
-  tailing : (left ≡ 0 → ⊥) → isUtf8 s ≡ completes (to low high ∷ due (left - 1) 0x80 0xBF) (b ∷ t)
+  tailing : (left ≡ 0 → ⊥) → isUtf8 s ≡ completes (upTo low high ∷ due (left - 1) 0x80 0xBF) (b ∷ t)
   tailing ne = g .same ∙ rw (here s i) (ap (λ (p : List Range). completes p (b ∷ t)) (head left ne))
     where
-      head : (m : ℕ) → (m ≡ 0 → ⊥) → due m low high ≡ to low high ∷ due (m - 1) 0x80 0xBF
+      head : (m : ℕ) → (m ≡ 0 → ⊥) → due m low high ≡ upTo low high ∷ due (m - 1) 0x80 0xBF
       head zero ne = absurd (ne refl)
       head (suc n) ne = let e : n ≡ suc n - 1 = omega arith in rw (← e, ← (tails n))
 
   pub below : (left ≡ 0 → ⊥) → b < low → false ≡ isUtf8 s
-  below ne lt = sym (tailing ne ∙ next-bad b t (to low high) _ (simp (lt-leb low b lt)))
+  below ne lt = sym (tailing ne ∙ next-bad b t (upTo low high) _ (simp (lt-leb low b lt)))
 
   pub above : (left ≡ 0 → ⊥) → high < b → false ≡ isUtf8 s
-  above ne lt = sym (tailing ne ∙ next-bad b t (to low high) _ (and-off (leb low b) (lt-leb b high lt)))
+  above ne lt = sym (tailing ne ∙ next-bad b t (upTo low high) _ (and-off (leb low b) (lt-leb b high lt)))
 
   pub later : (left ≡ 0 → ⊥) → low ≤ b → b ≤ high → Going s (left - 1) 0x80 0xBF (i + 1)
-  later ne l u = record { inside = omega arith; same = tailing ne ∙ next b t (to low high) _ (simp (le-leb low b l, le-leb b high u)) }
+  later ne l u = record { inside = omega arith; same = tailing ne ∙ next b t (upTo low high) _ (simp (le-leb low b l, le-leb b high u)) }
 
 pub started : (s : Bytes) → Going s 0 0x80 0xBF 0
 started s = record { inside = omega arith; same = refl }
@@ -98,7 +98,7 @@ abbrev pub High : List Range → Type 0
 High [] = Unit {0}
 High (r ∷ p) = (128 ≤ r .low) × High p
 
-abbrev pub HighRows : List Row → Type 0
+abbrev pub HighRows : List Character → Type 0
 HighRows [] = Unit {0}
 HighRows (r ∷ rs) = High (r .follow) × HighRows rs
 
@@ -106,7 +106,7 @@ abbrev pub HighLook : Option (List Range) → Type 0
 HighLook none = Unit {0}
 HighLook (some p) = High p
 
-pub look-high : (rs : List Row) (b : ℕ) → HighRows rs → HighLook (look rs b)
+pub look-high : (rs : List Character) (b : ℕ) → HighRows rs → HighLook (look rs b)
 look-high [] b h = tt
 look-high (r ∷ rs) b h = elim (test (within (r .first) b)) [
   | pass e ↦ rw (e, look) (h .0)

@@ -1,4 +1,4 @@
--- Values: the scan for a closing quote, and the ways through the readers of a value, on plain values. Assumes nothing.
+-- Values: the scan for a closingAt quote, and the ways through the readers of a value, on plain values. Assumes nothing.
 use Prim.Native.Nat.{ℕ, suc, _+_, _≤_, _<_}
 use native.Mathlib.Omega.{arith}
 use mathlib.Core.Path.{_≡_, refl, sym, ap, _∙_}
@@ -9,8 +9,8 @@ use lib.Dec.{eqb}
 use lib.ListN.{length, getD, drop, length-append}
 use borrow.Author.Tests.{eq-eqb, ne-eqb}
 use Rattle.values.specs.Bytes.{Bytes, is, begins, before, from}
-use Rattle.values.specs.Value.{quoted, written, put, isEscapable, quotedText, inQuotes, readQuoted, isStop, readBare, isBracketed, readBracketed, readValues, readUnquoted, readValue}
-use Rattle.values.specs.Places.{to, byteAt, closing, valuePlaced, escapedFrom, valueAt}
+use Rattle.values.specs.Value.{quoted, written, prepend, isEscapable, quotedText, inQuotes, readQuoted, isStop, readBare, isBracketed, readBracketed, readValues, readUnquoted, readValue}
+use Rattle.values.specs.Places.{cursorAt, byteAt, closingAt, valuePlaced, escapedFrom, valueAt}
 use Rattle.values.specs.declared.cursor.Cursor.{Cursor}
 use Rattle.values.specs.declared.cursor.ByteRead.{ByteRead}
 use Rattle.values.specs.declared.cursor.ByteRead.the-variants.{Byte, End}
@@ -23,23 +23,23 @@ use Rattle.values.proofs.Lists.{there, past, stands, drop-past, here, f
 use Rattle.values.proofs.Scans.{stopOf}
 use Rattle.values.proofs.Cursors.{byte-read, byte-there}
 
-closing-put : (i b : ℕ) (x : Option (Bytes × Bytes)) → closing i (put b x) ≡ closing (i + 1) x
+closing-put : (i b : ℕ) (x : Option (Bytes × Bytes)) → closingAt i (prepend b x) ≡ closingAt (i + 1) x
 closing-put i b none = refl
 closing-put i b (some p) = let e : i + suc (length (p .0)) ≡ i + 1 + length (p .0) = omega arith in rw e
 
--- the text before i goes on with no closing quote
+-- the text before i goes on with no closingAt quote
 pub record Quoting (s : Bytes) (start : ℕ) (escaped : Bool) (i : ℕ) : Type 0 where
-  pub still : closing start (quotedText false (drop start s)) ≡ closing i (quotedText escaped (drop i s))
+  pub still : closingAt start (quotedText false (drop start s)) ≡ closingAt i (quotedText escaped (drop i s))
 
 pub open-quote : (s : Bytes) (start : ℕ) → Quoting s start false start
 open-quote s start = record { still = refl }
 
 module _ {s : Bytes} {start : ℕ} {escaped : Bool} {i : ℕ} (g : Quoting s start escaped i) where
-  pub never-closed : length s ≤ i → Missing ≡ closing start (quotedText false (drop start s))
+  pub never-closed : length s ≤ i → Missing ≡ closingAt start (quotedText false (drop start s))
   unfolding quotedText
   never-closed h = sym (g .still ∙ rw (drop-past s i h) (none escaped))
     where
-      none : (e : Bool) → closing i (quotedText e []) ≡ Missing
+      none : (e : Bool) → closingAt i (quotedText e []) ≡ Missing
       none true = refl
       none false = refl
 
@@ -50,11 +50,11 @@ module _ {s : Bytes} {start : ℕ} {escaped : Bool} {i : ℕ} (g : Quoting s sta
     abbrev t : Bytes
     t = drop (i + 1) s
 
-    turn : closing start (quotedText false (drop start s)) ≡ closing i (quotedText escaped (b ∷ t))
+    turn : closingAt start (quotedText false (drop start s)) ≡ closingAt i (quotedText escaped (b ∷ t))
     turn = g .still ∙ rw (here s i)
 
     -- q is what the code's test of the byte answered
-    pub bad-escape : escaped ≡ true → {q : Bool} → q ≡ isEscapable b → not q ≡ true → Missing ≡ closing start (quotedText false (drop start s))
+    pub bad-escape : escaped ≡ true → {q : Bool} → q ≡ isEscapable b → not q ≡ true → Missing ≡ closingAt start (quotedText false (drop start s))
     unfolding quotedText
     bad-escape e {q} a n = sym (turn ∙ rw (e, quotedText, ← a, not-true q n))
 
@@ -62,7 +62,7 @@ module _ {s : Bytes} {start : ℕ} {escaped : Bool} {i : ℕ} (g : Quoting s sta
     unfolding quotedText
     good-escape e {q} a n = record { still = turn ∙ rw (e, quotedText, ← a, not-false q n) (closing-put i b (quotedText false t)) }
 
-    pub closed : escaped ≡ false → b ≡ 34 → At i (to (i + 1)) ≡ closing start (quotedText false (drop start s))
+    pub closed : escaped ≡ false → b ≡ 34 → At i (cursorAt (i + 1)) ≡ closingAt start (quotedText false (drop start s))
     unfolding quotedText
     closed e w = let z : i + 0 ≡ i = omega arith in sym (turn ∙ rw (e, quotedText, eq-eqb b 34 w) (rw z))
 
@@ -75,7 +75,7 @@ pub ruleset closes = (open-quote, never-closed, bad-escape, good-escape, closed,
 
 -- what answers the needs of `parse_raw_string`
 pub bare-placed : (s : Bytes) (i : ℕ) {e : ℕ} → e ≡ stopOf isStop s i
-    → value.Value (record { start = i; end = e; quoted = false }) (to e) ≡ valuePlaced i (readBare (drop i s))
+    → value.Value (record { start = i; end = e; quoted = false }) (cursorAt e) ≡ valuePlaced i (readBare (drop i s))
 unfolding written
 bare-placed s i a = rw a
 
@@ -87,17 +87,17 @@ escaped-other : (i b : ℕ) (bs : Bytes) → (b ≡ 34 → ⊥) → escapedFrom 
 unfolding begins
 escaped-other i b bs ne = rw (ne-eqb b 34 ne, escapedFrom)
 
-quoted-placed : (i j : ℕ) → j ≡ i + 1 → (x : Option (Bytes × Bytes)) {e : ℕ} {n : Cursor} → closing j x ≡ At e n
+quoted-placed : (i j : ℕ) → j ≡ i + 1 → (x : Option (Bytes × Bytes)) {e : ℕ} {n : Cursor} → closingAt j x ≡ At e n
     → value.Value (record { start = j; end = e; quoted = true }) n ≡ valuePlaced i (inQuotes x)
 unfolding written
 quoted-placed i j h none q = cc
 quoted-placed i j h (some p) {e} {n} q =
     let a : e ≡ j + length (p .0) = cc in
-    let b : n ≡ to (j + length (p .0) + 1) = cc in
+    let b : n ≡ cursorAt (j + length (p .0) + 1) = cc in
     let d : i + suc (length (p .0 ++ 34 ∷ [])) ≡ i + 1 + length (p .0) + 1 = rw (length-append (p .0) (34 ∷ [])) (omega arith) in
     rw (a, b, h, d)
 
-quoted-refused : (i j : ℕ) (x : Option (Bytes × Bytes)) → closing j x ≡ Missing → value.Refused ≡ valuePlaced i (inQuotes x)
+quoted-refused : (i j : ℕ) (x : Option (Bytes × Bytes)) → closingAt j x ≡ Missing → value.Refused ≡ valuePlaced i (inQuotes x)
 quoted-refused i j none q = refl
 quoted-refused i j (some p) q = cc
 
@@ -106,7 +106,7 @@ module _ (s : Bytes) (i : ℕ) {r : ByteRead} (a : r ≡ byteAt s i) where
   pub no-quote : r ≡ End → value.Refused ≡ escapedFrom i (drop i s)
   unfolding begins
   no-quote e = elim (stands s i) [
-    | there h ↦ let f : Byte (getD s i 0) (to (i + 1)) ≡ End = byte-there s i h ∙ sym a ∙ e in cc
+    | there h ↦ let f : Byte (getD s i 0) (cursorAt (i + 1)) ≡ End = byte-there s i h ∙ sym a ∙ e in cc
     | past h ↦ rw (drop-past s i h)
   ]
 
@@ -118,7 +118,7 @@ module _ (s : Bytes) (i : ℕ) {r : ByteRead} (a : r ≡ byteAt s i) where
     other-byte ne = sym (rw rest-is (escaped-other i b (drop (c .at) s) ne))
 
     -- k is what the code's scan answered
-    module _ (w : b ≡ 34) {k : Closing} (f : k ≡ closing (c .at) (quotedText false (drop (c .at) s))) where
+    module _ (w : b ≡ 34) {k : Closing} (f : k ≡ closingAt (c .at) (quotedText false (drop (c .at) s))) where
       pub not-closed : k ≡ Missing → value.Refused ≡ escapedFrom i (drop i s)
       not-closed m = quoted-refused i (c .at) (quotedText false (drop (c .at) s)) (sym f ∙ m) ∙ sym (rw rest-is (escaped-quote i b (drop (c .at) s) w))
 
@@ -159,7 +159,7 @@ module _ (s : Bytes) (i : ℕ) {r : ValueRead} (a : r ≡ valuePlaced i (readBar
       not-bracketed (and-off (begins 91 (drop i s)) (from-none (is 93) (drop i s) (from-at (is 93) s i ∙ rw (← q) (drop-past s k h))))
 
 pub values-closed : (s : Bytes) (i : ℕ) → i < length s → getD s i 0 ≡ 91 → {k : ℕ} → k ≡ stopOf (is 93) s i → k < length s
-    → value.Value (record { start = i; end = k + 1; quoted = false }) (to (k + 1)) ≡ valuePlaced i (readValues (drop i s))
+    → value.Value (record { start = i; end = k + 1; quoted = false }) (cursorAt (k + 1)) ≡ valuePlaced i (readValues (drop i s))
 unfolding written
 values-closed s i h w {k} q l =
     let f : from (is 93) (drop i s) ≡ getD s k 0 ∷ drop (k + 1) s = from-at (is 93) s i ∙ rw (← q) (here s k l) in
@@ -188,7 +188,7 @@ module _ (m : Bool) (s : Bytes) (i : ℕ) {r : ByteRead} (a : r ≡ byteAt s i) 
   pub value-past : r ≡ End → {v : ValueRead} → v ≡ valuePlaced i (readBare (drop i s)) → v ≡ valueAt m s i
   unfolding valueAt
   value-past e f = elim (stands s i) [
-    | there h ↦ let g : Byte (getD s i 0) (to (i + 1)) ≡ End = byte-there s i h ∙ sym a ∙ e in cc
+    | there h ↦ let g : Byte (getD s i 0) (cursorAt (i + 1)) ≡ End = byte-there s i h ∙ sym a ∙ e in cc
     | past h ↦ f ∙ rw (drop-past s i h) (ap (valuePlaced i) (sym (value-none m)))
   ]
 

@@ -10,7 +10,7 @@ use Rattle.values.specs.Integer.{u32Read, u64Read, unsignedRead, without
 use Rattle.values.specs.Value.{Value, written, quotedText, readValues, readValue, unescaped, meaning, escape, writeValue}
 use Rattle.values.specs.Field.{readKey, readField, writtenField}
 use Rattle.values.specs.Hash.{offsetBasis, hashByte, hashed, hashOf}
-use Rattle.values.specs.Places.{to, unescapedAt, fieldAt}
+use Rattle.values.specs.Places.{cursorAt, unescapedAt, fieldAt}
 use Rattle.values.specs.declared.cursor.ByteRead.{ByteRead}
 use Rattle.values.specs.declared.cursor.ByteRead.the-variants.{Byte, End}
 use Rattle.values.specs.declared.integer.IntegerRead.the-variants as integer
@@ -97,14 +97,14 @@ fieldOf meta p = fieldAt meta (p .0) (p .1)
 
 -- fields of document 01's lines; places past the end, `"` alone, a backslash as the last byte and before another byte
 field-table : Table (fieldOf false) (
-    ((ascii "ID=W07,K=0.98>", 0), Field 2 (bareAt 3 6) (to 6))
-    ∷ ((ascii "ID=W07,K=0.98>", 7), Field 8 (bareAt 9 13) (to 13))
-    ∷ ((ascii "K=\"0.98\",ID=\"W07\">", 0), Field 1 (quotedAt 3 7) (to 8))
-    ∷ ((ascii "a=\"x\\\"y\\\\\"z", 0), Field 1 (quotedAt 3 9) (to 10))
-    ∷ ((ascii "a=\\,", 0), Field 1 (bareAt 2 3) (to 3))
-    ∷ ((ascii "a=", 0), Field 1 (bareAt 2 2) (to 2))
-    ∷ ((ascii "a=b", 0), Field 1 (bareAt 2 3) (to 3))
-    ∷ ((ascii "Values=[a,b]>", 0), Field 6 (bareAt 7 9) (to 9))
+    ((ascii "ID=W07,K=0.98>", 0), Field 2 (bareAt 3 6) (cursorAt 6))
+    ∷ ((ascii "ID=W07,K=0.98>", 7), Field 8 (bareAt 9 13) (cursorAt 13))
+    ∷ ((ascii "K=\"0.98\",ID=\"W07\">", 0), Field 1 (quotedAt 3 7) (cursorAt 8))
+    ∷ ((ascii "a=\"x\\\"y\\\\\"z", 0), Field 1 (quotedAt 3 9) (cursorAt 10))
+    ∷ ((ascii "a=\\,", 0), Field 1 (bareAt 2 3) (cursorAt 3))
+    ∷ ((ascii "a=", 0), Field 1 (bareAt 2 2) (cursorAt 2))
+    ∷ ((ascii "a=b", 0), Field 1 (bareAt 2 3) (cursorAt 3))
+    ∷ ((ascii "Values=[a,b]>", 0), Field 6 (bareAt 7 9) (cursorAt 9))
     ∷ (([], 0), Refused)
     ∷ ((ascii "a=b", 3), Refused)
     ∷ ((ascii "a=b", 9), Refused)
@@ -123,10 +123,10 @@ field-table = refl
 
 -- META's Values from 4.3
 meta-table : Table (fieldOf true) (
-    ((ascii "Values=[a,b]>", 0), Field 6 (bareAt 7 12) (to 12))
-    ∷ ((ascii "Values=[a>", 0), Field 6 (bareAt 7 9) (to 9))
-    ∷ ((ascii "Values=\"[a\",K=]>", 0), Field 6 (quotedAt 8 10) (to 11))
-    ∷ ((ascii "Value=[a,b]>", 0), Field 5 (bareAt 6 8) (to 8))
+    ((ascii "Values=[a,b]>", 0), Field 6 (bareAt 7 12) (cursorAt 12))
+    ∷ ((ascii "Values=[a>", 0), Field 6 (bareAt 7 9) (cursorAt 9))
+    ∷ ((ascii "Values=\"[a\",K=]>", 0), Field 6 (quotedAt 8 10) (cursorAt 11))
+    ∷ ((ascii "Value=[a,b]>", 0), Field 5 (bareAt 6 8) (cursorAt 8))
     ∷ []
     )
 unfolding opened
@@ -136,13 +136,13 @@ abbrev pub unescape : (Bool × Bytes) × ℕ → ByteRead
 unescape p = unescapedAt (p .0 .0) (p .0 .1) (p .1)
 
 unescape-table : Table unescape (
-    (((true, ascii "a\\\"b"), 0), Byte 97 (to 1))
-    ∷ (((true, ascii "a\\\"b"), 1), Byte 34 (to 3))
-    ∷ (((true, ascii "a\\"), 1), Byte 92 (to 2))
-    ∷ (((true, ascii "a\\b"), 1), Byte 92 (to 2))
-    ∷ (((true, ascii "\\\\\""), 0), Byte 92 (to 2))
-    ∷ (((true, ascii "\\\\\""), 2), Byte 34 (to 3))
-    ∷ (((false, ascii "a\\"), 1), Byte 92 (to 2))
+    (((true, ascii "a\\\"b"), 0), Byte 97 (cursorAt 1))
+    ∷ (((true, ascii "a\\\"b"), 1), Byte 34 (cursorAt 3))
+    ∷ (((true, ascii "a\\"), 1), Byte 92 (cursorAt 2))
+    ∷ (((true, ascii "a\\b"), 1), Byte 92 (cursorAt 2))
+    ∷ (((true, ascii "\\\\\""), 0), Byte 92 (cursorAt 2))
+    ∷ (((true, ascii "\\\\\""), 2), Byte 34 (cursorAt 3))
+    ∷ (((false, ascii "a\\"), 1), Byte 92 (cursorAt 2))
     ∷ (((true, ascii "a"), 1), End)
     ∷ (((false, ascii "a"), 7), End)
     ∷ []

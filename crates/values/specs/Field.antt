@@ -1,9 +1,9 @@
--- Document 01, "Records": a field of a map. Bytes by their numbers: `"` 34, `,` 44, `<` 60, `=` 61, `>` 62. Assumes nothing.
+-- Document 01, "Records": a field of a map. Assumes nothing.
 use Prim.Native.Nat.{ℕ}
 use mathlib.Core.Bool.{Bool, true, false, not, _||_, _&&_}
 use mathlib.Core.List.{_∷_, _++_, tail}
 use mathlib.Core.Option.{Option, none, some}
-use Rattle.values.specs.Bytes.{Bytes, ascii, is, empty, begins, any, before, from, same}
+use Rattle.values.specs.Bytes.{Bytes, ascii, is, empty, begins, any, before, from, same, COMMA, EQUALS, GREATER, LESS, QUOTE}
 use Rattle.values.specs.Value.{Value, written, readValue}
 
 pub record Field : Type 0 where
@@ -12,14 +12,14 @@ pub record Field : Type 0 where
 
 -- key through value, as it stands in the line
 unfoldable pub writtenField : Field → Bytes
-writtenField f = f .key ++ 61 ∷ written (f .value)
+writtenField f = f .key ++ EQUALS ∷ written (f .value)
 
 abbrev pub isForbidden : ℕ → Bool
-isForbidden b = is 44 b || is 60 b || is 62 b || is 34 b
+isForbidden b = is COMMA b || is LESS b || is GREATER b || is QUOTE b
 
 -- what a key's scan meets first: its `=`, or a byte that no key holds
 abbrev pub endsKey : ℕ → Bool
-endsKey b = is 61 b || isForbidden b
+endsKey b = is EQUALS b || isForbidden b
 
 -- one byte or more, without `,` `<` `>` `"`
 abbrev pub isKey : Bytes → Bool
@@ -27,8 +27,8 @@ isKey k = not (empty k) && not (any isForbidden k)
 
 -- up to the first `=`, and past it
 unfoldable pub readKey : Bytes → Option (Bytes × Bytes)
-readKey bs = elim (isKey (before (is 61) bs) && begins 61 (from (is 61) bs)) [
-  | true ↦ some (before (is 61) bs, tail (from (is 61) bs))
+readKey bs = elim (isKey (before (is EQUALS) bs) && begins EQUALS (from (is EQUALS) bs)) [
+  | true ↦ some (before (is EQUALS) bs, tail (from (is EQUALS) bs))
   | false ↦ none
 ]
 

@@ -4,15 +4,15 @@ use mathlib.Core.Bool.{Bool, true, false, not, _&&_}
 use mathlib.Core.List.{[], _∷_, _++_, tail}
 use lib.ListN.{length}
 use lib.Dec.{leb, ltb}
-use Rattle.values.specs.Bytes.{Bytes, empty, begins, any}
+use Rattle.values.specs.Bytes.{Bytes, empty, begins, any, PLUS}
 use Rattle.values.specs.declared.integer.IntegerRead.{IntegerRead}
 use Rattle.values.specs.declared.integer.IntegerRead.the-variants.{Value, Refused}
 
 abbrev pub isDigit : ℕ → Bool
 isDigit b = leb 48 b && leb b 57
 
-abbrev pub isOther : ℕ → Bool
-isOther b = not (isDigit b)
+abbrev pub isNoDigit : ℕ → Bool
+isNoDigit b = not (isDigit b)
 
 -- the number that digits spell: each at its power of ten
 unfoldable pub numberOf : Bytes → ℕ
@@ -21,18 +21,18 @@ numberOf (b ∷ bs) = (b - 48) * 10 ^ length bs + numberOf bs
 
 -- one digit or more, nothing else, and a number of at most bound
 abbrev pub spells : ℕ → Bytes → Bool
-spells bound bs = not (empty bs) && (not (any isOther bs) && leb (numberOf bs) bound)
+spells bound bs = not (empty bs) && (not (any isNoDigit bs) && leb (numberOf bs) bound)
 
-abbrev pub answer : Bool → ℕ → IntegerRead
-answer true n = Value n
-answer false n = Refused
+abbrev pub valueIf : Bool → ℕ → IntegerRead
+valueIf true n = Value n
+valueIf false n = Refused
 
 unfoldable pub unsignedRead : ℕ → Bytes → IntegerRead
-unsignedRead bound bs = answer (spells bound bs) (numberOf bs)
+unsignedRead bound bs = valueIf (spells bound bs) (numberOf bs)
 
 -- without one `+` in front, where a sign is allowed
 unfoldable pub withoutSign : Bool → Bytes → Bytes
-withoutSign allowed bs = elim (allowed && begins 43 bs) [ true ↦ tail bs | false ↦ bs ]
+withoutSign allowed bs = elim (allowed && begins PLUS bs) [ true ↦ tail bs | false ↦ bs ]
 
 abbrev pub integerRead : Bool → ℕ → Bytes → IntegerRead
 integerRead allowed bound bs = unsignedRead bound (withoutSign allowed bs)

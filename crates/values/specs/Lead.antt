@@ -5,12 +5,12 @@ use mathlib.Core.Option.{Option, none, some}
 use lib.ListN.{replicate}
 use Rattle.values.specs.declared.utf8.Lead.{Lead}
 use Rattle.values.specs.declared.utf8.Lead.the-variants.{Follow, Refused}
-use Rattle.values.specs.Utf8.{Range, to, tail}
+use Rattle.values.specs.Utf8.{Range, upTo, tail}
 
 -- n bytes are due, the next from low to high and the others tails
 abbrev pub due : ℕ → ℕ → ℕ → List Range
 due zero low high = []
-due (suc n) low high = to low high ∷ replicate n tail
+due (suc n) low high = upTo low high ∷ replicate n tail
 
 abbrev pub leadMeans : Lead → Option (List Range)
 leadMeans (Follow n low high) = some (due n low high)

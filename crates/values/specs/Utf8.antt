@@ -12,40 +12,40 @@ pub record Range : Type 0 where
   pub low : ℕ
   pub high : ℕ
 
-abbrev pub to : ℕ → ℕ → Range
-to a b = record { low = a; high = b }
+abbrev pub upTo : ℕ → ℕ → Range
+upTo a b = record { low = a; high = b }
 
 abbrev pub within : Range → ℕ → Bool
 within r b = leb (r .low) b && leb b (r .high)
 
 -- UTF8-tail
 abbrev pub tail : Range
-tail = to 0x80 0xBF
+tail = upTo 0x80 0xBF
 
 -- a first byte's range, and those of the bytes that follow it
-pub record Row : Type 0 where
+pub record Character : Type 0 where
   pub first : Range
   pub follow : List Range
 
-abbrev pub row : Range → List Range → Row
-row r rs = record { first = r; follow = rs }
+abbrev pub character : Range → List Range → Character
+character r rs = record { first = r; follow = rs }
 
 -- UTF8-1 to UTF8-4
-abbrev pub rows : List Row
+abbrev pub rows : List Character
 rows =
-    row (to 0x00 0x7F) []
-    ∷ row (to 0xC2 0xDF) (tail ∷ [])
-    ∷ row (to 0xE0 0xE0) (to 0xA0 0xBF ∷ tail ∷ [])
-    ∷ row (to 0xE1 0xEC) (tail ∷ tail ∷ [])
-    ∷ row (to 0xED 0xED) (to 0x80 0x9F ∷ tail ∷ [])
-    ∷ row (to 0xEE 0xEF) (tail ∷ tail ∷ [])
-    ∷ row (to 0xF0 0xF0) (to 0x90 0xBF ∷ tail ∷ tail ∷ [])
-    ∷ row (to 0xF1 0xF3) (tail ∷ tail ∷ tail ∷ [])
-    ∷ row (to 0xF4 0xF4) (to 0x80 0x8F ∷ tail ∷ tail ∷ [])
+    character (upTo 0x00 0x7F) []
+    ∷ character (upTo 0xC2 0xDF) (tail ∷ [])
+    ∷ character (upTo 0xE0 0xE0) (upTo 0xA0 0xBF ∷ tail ∷ [])
+    ∷ character (upTo 0xE1 0xEC) (tail ∷ tail ∷ [])
+    ∷ character (upTo 0xED 0xED) (upTo 0x80 0x9F ∷ tail ∷ [])
+    ∷ character (upTo 0xEE 0xEF) (tail ∷ tail ∷ [])
+    ∷ character (upTo 0xF0 0xF0) (upTo 0x90 0xBF ∷ tail ∷ tail ∷ [])
+    ∷ character (upTo 0xF1 0xF3) (tail ∷ tail ∷ tail ∷ [])
+    ∷ character (upTo 0xF4 0xF4) (upTo 0x80 0x8F ∷ tail ∷ tail ∷ [])
     ∷ []
 
 -- what follows the first byte b by the rows; nothing, where no character begins with b
-abbrev pub look : List Row → ℕ → Option (List Range)
+abbrev pub look : List Character → ℕ → Option (List Range)
 look [] b = none
 look (r ∷ rs) b = elim (within (r .first) b) [ true ↦ some (r .follow) | false ↦ look rs b ]
 

@@ -1,10 +1,9 @@
--- Document 01, "Records": a value of a map's field, as it stands in the line and by its meaning; and how the house form writes one.
--- Bytes by their numbers: `"` 34, `,` 44, `>` 62, `[` 91, backslash 92, `]` 93. Assumes nothing.
+-- Document 01, "Records": a value of a map's field, as it stands in the line and by its meaning; and how the house form writes one. Assumes nothing.
 use Prim.Native.Nat.{ℕ}
 use mathlib.Core.Bool.{Bool, true, false, _||_, _&&_}
 use mathlib.Core.List.{[], _∷_, _++_, tail}
 use mathlib.Core.Option.{Option, none, some}
-use Rattle.values.specs.Bytes.{Bytes, is, begins, any, before, from}
+use Rattle.values.specs.Bytes.{Bytes, is, begins, any, before, from, BACKSLASH, CLOSE, COMMA, GREATER, OPEN, QUOTE}
 
 -- quoted: the bytes between the quotes; bare: the bytes as they stand, those of a bracketed value too
 pub data Value : Type 0 where
@@ -20,19 +19,19 @@ textOf (bare t) = t
 
 -- as it stands in the line, with its quotes
 unfoldable pub written : Value → Bytes
-written (quoted t) = 34 ∷ t ++ 34 ∷ []
+written (quoted t) = QUOTE ∷ t ++ QUOTE ∷ []
 written (bare t) = t
 
 -- what a backslash may stand before
 abbrev pub isEscapable : ℕ → Bool
-isEscapable b = is 34 b || is 92 b
+isEscapable b = is QUOTE b || is BACKSLASH b
 
 -- a backslash just before `"` or a backslash is dropped, and that byte kept; any other stays, a last one too; `true`: one stood just before
 unfoldable pub unescaped : Bool → Bytes → Bytes
-unescaped true [] = 92 ∷ []
+unescaped true [] = BACKSLASH ∷ []
 unescaped false [] = []
-unescaped true (b ∷ bs) = elim (isEscapable b) [ true ↦ b ∷ unescaped false bs | false ↦ 92 ∷ b ∷ unescaped false bs ]
-unescaped false (b ∷ bs) = elim (is 92 b) [ true ↦ unescaped true bs | false ↦ b ∷ unescaped false bs ]
+unescaped true (b ∷ bs) = elim (isEscapable b) [ true ↦ b ∷ unescaped false bs | false ↦ BACKSLASH ∷ b ∷ unescaped false bs ]
+unescaped false (b ∷ bs) = elim (is BACKSLASH b) [ true ↦ unescaped true bs | false ↦ b ∷ unescaped false bs ]
 
 -- what a text means, between quotes or bare
 abbrev pub meaning : Bool → Bytes → Bytes
@@ -43,15 +42,15 @@ abbrev pub meaningOf : Value → Bytes
 meaningOf v = meaning (isQuoted v) (textOf v)
 
 -- what was read, and the bytes after it
-abbrev pub put : ℕ → Option (Bytes × Bytes) → Option (Bytes × Bytes)
-put b none = none
-put b (some p) = some (b ∷ p .0, p .1)
+abbrev pub prepend : ℕ → Option (Bytes × Bytes) → Option (Bytes × Bytes)
+prepend b none = none
+prepend b (some p) = some (b ∷ p .0, p .1)
 
 -- up to the next unescaped `"`, and past it; a backslash stands only before `"` or a backslash
 unfoldable pub quotedText : Bool → Bytes → Option (Bytes × Bytes)
 quotedText after [] = none
-quotedText true (b ∷ bs) = elim (isEscapable b) [ true ↦ put b (quotedText false bs) | false ↦ none ]
-quotedText false (b ∷ bs) = elim (is 34 b) [ true ↦ some ([], bs) | false ↦ put b (quotedText (is 92 b) bs) ]
+quotedText true (b ∷ bs) = elim (isEscapable b) [ true ↦ prepend b (quotedText false bs) | false ↦ none ]
+quotedText false (b ∷ bs) = elim (is QUOTE b) [ true ↦ some ([], bs) | false ↦ prepend b (quotedText (is BACKSLASH b) bs) ]
 
 abbrev pub inQuotes : Option (Bytes × Bytes) → Option (Value × Bytes)
 inQuotes none = none
@@ -63,18 +62,18 @@ readQuoted bs = inQuotes (quotedText false bs)
 
 -- up to the next `,` or `>` or the end
 abbrev pub isStop : ℕ → Bool
-isStop b = is 44 b || is 62 b
+isStop b = is COMMA b || is GREATER b
 
 abbrev pub readBare : Bytes → Option (Value × Bytes)
 readBare bs = some (bare (before isStop bs), from isStop bs)
 
 -- through the first `]`
 abbrev pub readBracketed : Bytes → Option (Value × Bytes)
-readBracketed bs = some (bare (before (is 93) bs ++ 93 ∷ []), tail (from (is 93) bs))
+readBracketed bs = some (bare (before (is CLOSE) bs ++ CLOSE ∷ []), tail (from (is CLOSE) bs))
 
 -- begins `[`, and a `]` follows
 abbrev pub isBracketed : Bytes → Bool
-isBracketed bs = begins 91 bs && any (is 93) bs
+isBracketed bs = begins OPEN bs && any (is CLOSE) bs
 
 -- META's Values from 4.3
 unfoldable pub readValues : Bytes → Option (Value × Bytes)
@@ -86,11 +85,11 @@ readUnquoted false bs = readBare bs
 
 -- `brackets`: the value may be bracketed
 unfoldable pub readValue : Bool → Bytes → Option (Value × Bytes)
-readValue brackets bs = elim (begins 34 bs) [ true ↦ readQuoted (tail bs) | false ↦ readUnquoted brackets bs ]
+readValue brackets bs = elim (begins QUOTE bs) [ true ↦ readQuoted (tail bs) | false ↦ readUnquoted brackets bs ]
 
 -- in quotes `"` and the backslash stand escaped, and nothing else
 abbrev pub escapedByte : ℕ → Bytes
-escapedByte b = elim (isEscapable b) [ true ↦ 92 ∷ b ∷ [] | false ↦ b ∷ [] ]
+escapedByte b = elim (isEscapable b) [ true ↦ BACKSLASH ∷ b ∷ [] | false ↦ b ∷ [] ]
 
 unfoldable pub escape : Bytes → Bytes
 escape [] = []

@@ -11,7 +11,7 @@ ghost use Prim.Native.Nat.{_+_};
 ghost use lib.ListN.{length, drop};
 ghost use Rattle.values.specs.Bytes.{before, same};
 ghost use Rattle.values.specs.Value.{isStop, quotedText, readBare, readValues, meaning, spelling, writeValue};
-ghost use Rattle.values.specs.Places.{closing, escapedFrom, valuePlaced};
+ghost use Rattle.values.specs.Places.{closingAt, escapedFrom, valuePlaced};
 ghost use Rattle.values.specs.Written.{Wrote};
 
 // A text without its quotes.
@@ -52,7 +52,7 @@ fn find_stop(s: &[u8], start: usize) -> usize
 }
 
 fn find_closing(s: &[u8], start: usize) -> Closing
-    ensures { λ r. ⌜ r ≡ closing start (quotedText false (drop start (now (s .entry)))) ⌝ }
+    ensures { λ r. ⌜ r ≡ closingAt start (quotedText false (drop start (now (s .entry)))) ⌝ }
 {
     let mut i = start;
     let mut escaped = false;

@@ -6,7 +6,6 @@ mod why;
 
 use header::file_format_option::FileFormatOption;
 use header::parser::Outcome;
-use records::file_format::FileFormat;
 use records::refusal::Refusal;
 use values::bytes;
 ghost use mathlib.Core.Path.{_≡_};
@@ -42,30 +41,21 @@ fn header_end(s: &[u8]) -> usize {
     s.len()
 }
 
-fn say_accepted(version: FileFormat, entries: usize, samples: usize) {
-    say::numbered(1, b"ok version=", version.major as u64);
-    say::numbered(1, b".", version.minor as u64);
-    say::numbered(1, b" entries=", entries as u64);
-    say::numbered(1, b" samples=", samples as u64);
-    say::text(1, b"\n");
-}
-
-fn say_refused(fd: i32, refusal: Refusal, line: usize, start: usize) {
-    say::numbered(fd, b"refused ", refusal.number());
-    say::numbered(fd, b" line=", line as u64);
-    say::numbered(fd, b" offset=", start as u64);
-    say::text(fd, b"\n");
+fn say_refused(refusal: Refusal, line: usize, start: usize) {
+    let mut out = io::buffer();
+    let end = report::put_refused(&mut out, 0, refusal.number(), line, start);
+    say::text(2, bytes::part(&out, 0, end));
 }
 
 fn check(header: &[u8], table: &mut [u64]) {
     let answer = header::parser::read(header, FileFormatOption::None, table);
+    let mut out = io::buffer();
+    let end = report::put_answer(&mut out, 0, answer);
+    say::text(1, bytes::part(&out, 0, end));
     let outcome = answer.outcome;
     match outcome {
-        Outcome::Accepted(version, samples) => say_accepted(version, answer.entries, samples),
-        Outcome::Refused(refusal) => {
-            say_refused(1, refusal, answer.line, answer.start);
-            why::say_why(refusal, header, answer.start);
-        }
+        Outcome::Accepted(_, _) => {}
+        Outcome::Refused(refusal) => why::say_why(refusal, header, answer.start),
     }
 }
 
@@ -75,7 +65,7 @@ fn entries(header: &[u8], table: &mut [u64]) {
     match outcome {
         Outcome::Accepted(_, _) => listing::say_entries(header, table, answer.entries),
         Outcome::Refused(refusal) => {
-            say_refused(2, refusal, answer.line, answer.start);
+            say_refused(refusal, answer.line, answer.start);
             why::say_why(refusal, header, answer.start);
         }
     }
@@ -87,7 +77,7 @@ fn house(header: &[u8], table: &mut [u64], form: &mut [u8]) {
     match outcome {
         Outcome::Accepted(_, _) => say::text(1, bytes::part(form, 0, answer.length)),
         Outcome::Refused(refusal) => {
-            say_refused(2, refusal, answer.line, answer.start);
+            say_refused(refusal, answer.line, answer.start);
             why::say_why_no_form(refusal, header, answer.start);
         }
     }

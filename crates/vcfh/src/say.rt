@@ -6,11 +6,6 @@ pub fn text(fd: i32, s: &[u8]) {
     io::write_all(fd, s);
 }
 
-pub fn numbered(fd: i32, label: &[u8], n: u64) {
-    io::write_all(fd, label);
-    io::print_decimal(fd, n);
-}
-
 fn is_control(b: u8) -> bool {
     if b < 0x20 {
         return true;

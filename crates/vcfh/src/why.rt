@@ -1,5 +1,6 @@
 // Why a header is refused, in a sentence on standard error.
 use crate::say;
+use entries::limits::Limits;
 use lines::line;
 use records::file_format::FileFormat;
 use records::record;
@@ -34,7 +35,7 @@ fn version_of(header: &[u8]) -> FileFormat {
     let first = line::next_line(header, 0);
     match record::parse_record(bytes::part(header, 0, first.end), FileFormat::V4_5) {
         RecordRead::FileFormat(version) => version,
-        RecordRead::Map(_, _, _, _) => FileFormat::V4_5,
+        RecordRead::Map(_) => FileFormat::V4_5,
         RecordRead::Text(_) => FileFormat::V4_5,
         RecordRead::Refused(_) => FileFormat::V4_5,
     }
@@ -50,7 +51,10 @@ fn say_twice(id: &[u8], l: &[u8]) {
 fn say_id_twice(l: &[u8], version: FileFormat) {
     match record::parse_record(l, version) {
         RecordRead::FileFormat(_) => say(b"an ID stands twice"),
-        RecordRead::Map(_, _, id, _) => say_twice(bytes::part(l, id.start, id.end), l),
+        RecordRead::Map(map) => {
+            let id = map.id;
+            say_twice(bytes::part(l, id.start, id.end), l)
+        }
         RecordRead::Text(_) => say(b"an ID stands twice"),
         RecordRead::Refused(_) => say(b"an ID stands twice"),
     }
@@ -72,9 +76,10 @@ fn stands_from(l: &[u8], start: usize, name: &[u8]) -> bool {
     false
 }
 
-// The column line of a header with a sample name that stands twice.
+// The column line of a header with a sample name that stands twice: the names follow these columns.
 fn say_name_twice(l: &[u8]) {
-    let mut at = 0;
+    let columns = b"#CHROM\tPOS\tID\tREF\tALT\tQUAL\tFILTER\tINFO\tFORMAT\t";
+    let mut at = columns.len();
     while at < l.len() {
         let end = bytes::find(l, at, b'\t');
         if l.len() <= end {
@@ -170,15 +175,16 @@ pub fn say_why(refusal: Refusal, header: &[u8], start: usize) {
 // The same where a form was asked for: the header may be fine and its form, or a line of that, too long.
 pub fn say_why_no_form(refusal: Refusal, header: &[u8], start: usize) {
     let number = refusal.number();
+    let limits = Limits::FIRST;
     if number == 27 {
-        if header.len() <= 1048575 {
+        if header.len() <= limits.header {
             say(b"the house form is longer than 1,048,575 bytes");
             return;
         }
     }
     if number == 2 {
         let found = line::next_line(header, start);
-        if bytes::part(header, start, found.end).len() <= 65535 {
+        if bytes::part(header, start, found.end).len() <= limits.line {
             say(b"a line of the house form is longer than 65,535 bytes");
             return;
         }

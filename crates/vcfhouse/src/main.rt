@@ -3,24 +3,19 @@ use header::file_format_option::FileFormatOption;
 use header::parser::Outcome;
 use house::form::HouseAnswer;
 use records::refusal::Refusal;
-
-fn say_number(label: &[u8], n: u64) {
-    io::write_all(2, label);
-    io::print_decimal(2, n);
-}
+use values::bytes;
 
 fn say_refused(refusal: Refusal, line: usize, start: usize) {
-    say_number(b"refused ", refusal.number());
-    say_number(b" line=", line as u64);
-    say_number(b" offset=", start as u64);
-    io::write_all(2, b"\n");
+    let mut out = io::buffer();
+    let end = report::put_refused(&mut out, 0, refusal.number(), line, start);
+    io::write_all(2, bytes::part(&out, 0, end));
 }
 
 fn say_answer(answer: HouseAnswer, form: &[u8]) {
     let outcome = answer.outcome;
     match outcome {
         Outcome::Accepted(_, _) => {
-            io::write_all(1, values::bytes::part(form, 0, answer.length));
+            io::write_all(1, bytes::part(form, 0, answer.length));
         }
         Outcome::Refused(refusal) => say_refused(refusal, answer.line, answer.start),
     }

@@ -17,8 +17,9 @@ use Rattle.rules.specs.Shown.{Part as RulePart, wellFormed}
 use Rattle.entries.specs.Tables.{room, wordsClear, entryIn, entryAt, shownEntry}
 use Rattle.entries.specs.declared.shown.Shown.{Shown}
 use Rattle.entries.specs.declared.shown.Shown.the-variants.{Part, Refused}
-use Rattle.entries.specs.Shown.{shownAs}
-use Rattle.view.specs.Steps.{stepped, stepAt, steps, shownFrom, after}
+use Rattle.entries.specs.Shown.{answered, orRefused, shownAs}
+use Rattle.entries.proofs.Calls.{answer-is}
+use Rattle.view.specs.Steps.{stepped, stepAt, steps, shownFrom, stepsTo}
 use Rattle.view.specs.declared.Stepped.{Stepped}
 
 -- A step
@@ -40,7 +41,10 @@ shown-none : (o : Option RulePart) → Refused ≡ shownAs o → o ≡ none
 shown-none none e = refl
 shown-none (some p) e = never cc
 
-module _ (h : Bytes) (table : List ℕ) (at : ℕ) {r : Shown} (a : r ≡ shownAs (shownEntry h table at)) where
+module _ (h : Bytes) (table : List ℕ) (at : ℕ) {r : Shown} (said : answered r ≡ orRefused (shownEntry h table at)) where
+  a : r ≡ shownAs (shownEntry h table at)
+  a = answer-is r (shownEntry h table at) said
+
   pub step-refused : r ≡ Refused → _≡_ {A = Stepped} (record { found = r; at = at }) (stepAt h table at)
   step-refused e = rw (← a, e)
 
@@ -151,21 +155,21 @@ walk-shown h table first k l = steps-shown (room table) h table first k l
 pub walk-ended : (h : Bytes) (table : List ℕ) (first : ℕ) → shownEntry h table (first + length (shownFrom h table first)) ≡ none
 walk-ended h table first = steps-ended (room table) h table first (omega arith)
 
-steps-moved : (n : ℕ) (h : Bytes) (table : List ℕ) (at k : ℕ) → k ≤ length (steps n h table at) → after k h table at ≡ at + k
-unfolding steps after
+steps-moved : (n : ℕ) (h : Bytes) (table : List ℕ) (at k : ℕ) → k ≤ length (steps n h table at) → stepsTo k h table at ≡ at + k
+unfolding steps stepsTo
 steps-moved n h table at zero l = omega arith
 steps-moved zero h table at (suc k) l = absurd (omega arith)
 steps-moved (suc n) h table at (suc k) l = go (λ m. steps-moved n h table (at + 1) k m) (shownEntry h table at) l
   where
-    go : (k ≤ length (steps n h table (at + 1)) → after k h table (at + 1) ≡ at + 1 + k) → (o : Option RulePart) → suc k ≤ length {A = RulePart} (elim o [ none ↦ [] | some p ↦ p ∷ steps n h table (at + 1) ])
-        → after k h table (stepped at (shownAs o) .at) ≡ at + suc k
+    go : (k ≤ length (steps n h table (at + 1)) → stepsTo k h table (at + 1) ≡ at + 1 + k) → (o : Option RulePart) → suc k ≤ length {A = RulePart} (elim o [ none ↦ [] | some p ↦ p ∷ steps n h table (at + 1) ])
+        → stepsTo k h table (stepped at (shownAs o) .at) ≡ at + suc k
     go next none l = absurd (omega arith)
     go next (some p) l = let z : at + suc k ≡ at + 1 + k = omega arith in rw z (next (omega arith))
 
 -- until then each step leads to the next number
-pub walk-moved : (h : Bytes) (table : List ℕ) (first k : ℕ) → k ≤ length (shownFrom h table first) → after k h table first ≡ first + k
+pub walk-moved : (h : Bytes) (table : List ℕ) (first k : ℕ) → k ≤ length (shownFrom h table first) → stepsTo k h table first ≡ first + k
 walk-moved h table first k l = steps-moved (room table) h table first k l
 
 -- so the view's step number k shows what the entry call shows of entry first + k
-pub walk-found : (h : Bytes) (table : List ℕ) (first k : ℕ) → k ≤ length (shownFrom h table first) → stepAt h table (after k h table first) .found ≡ shownAs (shownEntry h table (first + k))
+pub walk-found : (h : Bytes) (table : List ℕ) (first k : ℕ) → k ≤ length (shownFrom h table first) → stepAt h table (stepsTo k h table first) .found ≡ shownAs (shownEntry h table (first + k))
 walk-found h table first k l = rw (walk-moved h table first k l) (stepped-found (first + k) (shownAs (shownEntry h table (first + k))))

@@ -33,6 +33,6 @@ abbrev pub shownFrom : Bytes → List ℕ → ℕ → List RulePart
 shownFrom h table first = steps (room table) h table first
 
 -- where k steps lead
-unfoldable pub after : ℕ → Bytes → List ℕ → ℕ → ℕ
-after zero h table at = at
-after (suc k) h table at = after k h table (stepAt h table at .at)
+unfoldable pub stepsTo : ℕ → Bytes → List ℕ → ℕ → ℕ
+stepsTo zero h table at = at
+stepsTo (suc k) h table at = stepsTo k h table (stepAt h table at .at)

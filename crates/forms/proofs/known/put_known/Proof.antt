@@ -1,4 +1,4 @@
-use Rattle.forms.proofs.Searches.{known-none, knowns}
+use Rattle.forms.proofs.Rows.{known-none, knowns}
 use borrow.Author.Needs.{needs}
 use Rattle.forms.proofs.known.put_known.Statement.{statement}
 use Rattle.forms.proofs.known.put_known.Tie as tie

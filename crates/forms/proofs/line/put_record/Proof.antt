@@ -9,14 +9,17 @@ parse-record-requires c κs = search (records, needs)
 enum-told : tie.Need-enum-told
 enum-told c = search (records, needs)
 
-enum-known-key : tie.Need-enum-known-key
-enum-known-key c = search (records, needs)
+enum-known-m : tie.Need-enum-known-m
+enum-known-m c = search (records, needs)
 
 returns : tie.Need-returns
 returns c = search (records, needs)
 
-add-put-map : tie.Need-add-put-map
-add-put-map c = search (records, needs)
+add-context : tie.Need-add-context
+add-context c = search (records, needs)
+
+context-requires : tie.Need-context-requires
+context-requires c κs = search (records, needs)
 
 put-map-requires : tie.Need-put-map-requires
 put-map-requires c κs = search (records, needs)
@@ -54,9 +57,10 @@ put-record-spec =
     (tie.spec
     parse-record-requires
     enum-told
-    enum-known-key
+    enum-known-m
     returns
-    add-put-map
+    add-context
+    context-requires
     put-map-requires
     enum-told-2
     put-bytes-requires

@@ -15,8 +15,8 @@ parse-record-requires c κs = search (line-fields, needs)
 enum-told : tie.Need-enum-told
 enum-told c = search (line-fields, needs)
 
-enum-known-key : tie.Need-enum-known-key
-enum-known-key c = search (line-fields, needs)
+enum-known-map : tie.Need-enum-known-map
+enum-known-map c = search (line-fields, needs)
 
 kind-requires : tie.Need-kind-requires
 kind-requires c κs = search (line-fields, needs)
@@ -59,7 +59,7 @@ line-field-spec =
     returns
     parse-record-requires
     enum-told
-    enum-known-key
+    enum-known-map
     kind-requires
     returns-2
     add-nth-field

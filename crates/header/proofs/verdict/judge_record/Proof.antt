@@ -12,8 +12,8 @@ parse-record-requires c κs = search (records, needs)
 enum-told : tie.Need-enum-told
 enum-told c = search (records, needs)
 
-enum-known-key : tie.Need-enum-known-key
-enum-known-key c = search (records, needs)
+enum-known-map : tie.Need-enum-known-map
+enum-known-map c = search (records, needs)
 
 judge-map-requires : tie.Need-judge-map-requires
 judge-map-requires c κs = search (records, needs)
@@ -58,7 +58,7 @@ judge-record-spec =
     part-requires
     parse-record-requires
     enum-told
-    enum-known-key
+    enum-known-map
     judge-map-requires
     enum-known-value
     plain-requires

@@ -4,34 +4,25 @@ use Rattle.records.proofs.key.untyped_key_of.Statement.{statement}
 use Rattle.records.proofs.key.untyped_key_of.Tie as tie
 
 slice-aggregate-same : tie.Need-slice-aggregate-same
-slice-aggregate-same c = search needs
+slice-aggregate-same c = search (tried, needs) depth 9
 
 same-requires : tie.Need-same-requires
-same-requires c κs = search needs
+same-requires c κs = search (tried, needs) depth 9
 
 returns : tie.Need-returns
 returns c = search (tried, needs) depth 9
 
 slice-aggregate-same-2 : tie.Need-slice-aggregate-same-2
-slice-aggregate-same-2 c = search needs
+slice-aggregate-same-2 c = search (tried, needs) depth 9
 
 same-requires-2 : tie.Need-same-requires-2
-same-requires-2 c κs = search needs
+same-requires-2 c κs = search (tried, needs) depth 9
 
 returns-2 : tie.Need-returns-2
 returns-2 c = search (tried, needs) depth 9
 
-slice-aggregate-same-3 : tie.Need-slice-aggregate-same-3
-slice-aggregate-same-3 c = search needs
-
-same-requires-3 : tie.Need-same-requires-3
-same-requires-3 c κs = search needs
-
 returns-3 : tie.Need-returns-3
 returns-3 c = search (tried, needs) depth 9
-
-returns-4 : tie.Need-returns-4
-returns-4 c = search (tried, needs) depth 9
 
 pub untyped-key-of-spec : {M : Type 1} → statement M
 untyped-key-of-spec =
@@ -43,7 +34,4 @@ untyped-key-of-spec =
     slice-aggregate-same-2
     same-requires-2
     returns-2
-    slice-aggregate-same-3
-    same-requires-3
-    returns-3
-    returns-4)
+    returns-3)

@@ -1,16 +1,13 @@
-use borrow.Author.Needs.{needs}
 use Rattle.records.proofs.Loops.{all-fields}
+use borrow.Author.Needs.{needs}
 use Rattle.records.proofs.map.parse_fields.Statement.{statement}
 use Rattle.records.proofs.map.parse_fields.Tie as tie
 
 is-bare-requires : tie.Need-is-bare-requires
 is-bare-requires c κs = search (all-fields, needs)
 
-known-of-requires : tie.Need-known-of-requires
-known-of-requires c κs = search (all-fields, needs)
-
-has-brackets-requires : tie.Need-has-brackets-requires
-has-brackets-requires c κs = search (all-fields, needs)
+context-requires : tie.Need-context-requires
+context-requires c κs = search (all-fields, needs)
 
 walk-fields-requires : tie.Need-walk-fields-requires
 walk-fields-requires c κs = search (all-fields, needs)
@@ -35,8 +32,7 @@ parse-fields-spec =
     tie.close
     (tie.spec
     is-bare-requires
-    known-of-requires
-    has-brackets-requires
+    context-requires
     walk-fields-requires
     returns
     consume-suffix-requires

@@ -4,31 +4,28 @@ use Rattle.records.proofs.map.read_field.Statement.{statement}
 use Rattle.records.proofs.map.read_field.Tie as tie
 
 take-field-requires : tie.Need-take-field-requires
-take-field-requires c κs = search needs
+take-field-requires c κs = search (steps, needs)
 
 enum-known-x : tie.Need-enum-known-x
-enum-known-x c = search needs
+enum-known-x c = search (steps, needs)
 
 enum-known-tag : tie.Need-enum-known-tag
-enum-known-tag c = search needs
+enum-known-tag c = search (steps, needs)
 
 put-requires : tie.Need-put-requires
-put-requires c κs = search needs
+put-requires c κs = search (steps, needs)
 
 after-field-requires : tie.Need-after-field-requires
-after-field-requires c κs = search needs
+after-field-requires c κs = search (steps, needs)
 
 enum-known-d : tie.Need-enum-known-d
-enum-known-d c = search needs
-
-is-kept-requires : tie.Need-is-kept-requires
-is-kept-requires c κs = search needs
+enum-known-d c = search (steps, needs)
 
 enum-told : tie.Need-enum-told
-enum-told c = search needs
+enum-told c = search (steps, needs)
 
 enum-told-2 : tie.Need-enum-told-2
-enum-told-2 c = search needs
+enum-told-2 c = search (steps, needs)
 
 returns : tie.Need-returns
 returns c = search (steps, needs)
@@ -52,7 +49,6 @@ read-field-spec =
     put-requires
     after-field-requires
     enum-known-d
-    is-kept-requires
     enum-told
     enum-told-2
     returns

@@ -1,16 +1,15 @@
-use borrow.Author.Needs.{needs}
-use Prim.Native.Nat.{_-_}
-use lib.ListN.{length}
 use Rattle.records.proofs.Loops.{Walking, walks}
-use Rattle.records.specs.Formats.{versionOf}
+use lib.ListN.{length}
+use Prim.Native.Nat.{_-_}
+use borrow.Author.Needs.{needs}
 use Rattle.records.proofs.map.walk_fields.Statement.{statement}
 use Rattle.records.proofs.map.walk_fields.Tie as tie
 
 abbrev Inv-loop : tie.InvT-loop
-Inv-loop s known version brackets start c₀ slots₀ plain₀ c slots plain = Walking known (versionOf version) brackets s start (c .at) slots plain
+Inv-loop s map c₀ slots₀ c slots = Walking map s (c .at) slots
 
 abbrev μ-loop : tie.MeasureT-loop
-μ-loop s known version brackets start c₀ slots₀ plain₀ c slots plain = length s - c .at
+μ-loop s map c₀ slots₀ c slots = length s - c .at
 
 empty-requires : tie.Need-empty-requires Inv-loop μ-loop
 empty-requires c κs = search (walks, needs)

@@ -1,5 +1,5 @@
-use Rattle.records.proofs.Records.{records}
 use borrow.Author.Needs.{needs}
+use Rattle.records.proofs.Records.{records}
 use Rattle.records.proofs.record.parse_record.Statement.{statement}
 use Rattle.records.proofs.record.parse_record.Tie as tie
 
@@ -12,29 +12,32 @@ returns c = search (records, needs)
 parse-key-requires : tie.Need-parse-key-requires
 parse-key-requires c κs = search (records, needs)
 
+enum-known-next : tie.Need-enum-known-next
+enum-known-next c = search (records, needs)
+
+parse-version-requires : tie.Need-parse-version-requires
+parse-version-requires c κs = search (records, needs)
+
 enum-known-key : tie.Need-enum-known-key
 enum-known-key c = search (records, needs)
-
-enum-told : tie.Need-enum-told
-enum-told c = search (records, needs)
-
-returns-2 : tie.Need-returns-2
-returns-2 c = search (records, needs)
 
 parse-value-requires : tie.Need-parse-value-requires
 parse-value-requires c κs = search (records, needs)
 
-enum-known-v : tie.Need-enum-known-v
-enum-known-v c = search (records, needs)
-
 enum-known-id : tie.Need-enum-known-id
 enum-known-id c = search (records, needs)
+
+enum-told : tie.Need-enum-told
+enum-told c = search (records, needs)
+
+enum-known-x : tie.Need-enum-known-x
+enum-known-x c = search (records, needs)
 
 enum-told-2 : tie.Need-enum-told-2
 enum-told-2 c = search (records, needs)
 
-enum-known-x : tie.Need-enum-known-x
-enum-known-x c = search (records, needs)
+returns-2 : tie.Need-returns-2
+returns-2 c = search (records, needs)
 
 returns-3 : tie.Need-returns-3
 returns-3 c = search (records, needs)
@@ -55,14 +58,15 @@ parse-record-spec =
     consume-prefix-requires
     returns
     parse-key-requires
+    enum-known-next
+    parse-version-requires
     enum-known-key
-    enum-told
-    returns-2
     parse-value-requires
-    enum-known-v
     enum-known-id
-    enum-told-2
+    enum-told
     enum-known-x
+    enum-told-2
+    returns-2
     returns-3
     returns-4
     returns-5

@@ -1,34 +1,13 @@
-use Rattle.records.proofs.Records.{values}
 use borrow.Author.Needs.{needs}
+use Rattle.records.proofs.Records.{values}
 use Rattle.records.proofs.value.parse_value.Statement.{statement}
 use Rattle.records.proofs.value.parse_value.Tie as tie
-
-is-file-format-requires : tie.Need-is-file-format-requires
-is-file-format-requires c κs = search (values, needs)
-
-part-requires : tie.Need-part-requires
-part-requires c κs = search (values, needs)
-
-parse-file-format-requires : tie.Need-parse-file-format-requires
-parse-file-format-requires c κs = search (values, needs)
-
-enum-known-v : tie.Need-enum-known-v
-enum-known-v c = search (values, needs)
-
-enum-told : tie.Need-enum-told
-enum-told c = search (values, needs)
-
-returns : tie.Need-returns
-returns c = search (values, needs)
-
-returns-2 : tie.Need-returns-2
-returns-2 c = search (values, needs)
 
 is-map-value-requires : tie.Need-is-map-value-requires
 is-map-value-requires c κs = search (values, needs)
 
-returns-3 : tie.Need-returns-3
-returns-3 c = search (values, needs)
+returns : tie.Need-returns
+returns c = search (values, needs)
 
 parse-map-value-requires : tie.Need-parse-map-value-requires
 parse-map-value-requires c κs = search (values, needs)
@@ -39,27 +18,20 @@ enum-known-id c = search (values, needs)
 enum-known-x : tie.Need-enum-known-x
 enum-known-x c = search (values, needs)
 
-returns-4 : tie.Need-returns-4
-returns-4 c = search (values, needs)
+returns-2 : tie.Need-returns-2
+returns-2 c = search (values, needs)
 
-returns-5 : tie.Need-returns-5
-returns-5 c = search (values, needs)
+returns-3 : tie.Need-returns-3
+returns-3 c = search (values, needs)
 
 pub parse-value-spec : {M : Type 1} → statement M
 parse-value-spec =
     tie.close
     (tie.spec
-    is-file-format-requires
-    part-requires
-    parse-file-format-requires
-    enum-known-v
-    enum-told
-    returns
-    returns-2
     is-map-value-requires
-    returns-3
+    returns
     parse-map-value-requires
     enum-known-id
     enum-known-x
-    returns-4
-    returns-5)
+    returns-2
+    returns-3)

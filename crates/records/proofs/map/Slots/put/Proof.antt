@@ -4,25 +4,46 @@ use Rattle.records.proofs.map.Slots.put.Statement.{statement}
 use Rattle.records.proofs.map.Slots.put.Tie as tie
 
 enum-told : tie.Need-enum-told
-enum-told c = search needs
+enum-told c = search (put-told, needs)
 
 enum-told-2 : tie.Need-enum-told-2
-enum-told-2 c = search needs
+enum-told-2 c = search (put-told, needs)
 
 enum-told-3 : tie.Need-enum-told-3
-enum-told-3 c = search needs
+enum-told-3 c = search (put-told, needs)
 
 enum-told-4 : tie.Need-enum-told-4
-enum-told-4 c = search needs
+enum-told-4 c = search (put-told, needs)
 
 enum-told-5 : tie.Need-enum-told-5
-enum-told-5 c = search needs
+enum-told-5 c = search (put-told, needs)
+
+mixed-requires : tie.Need-mixed-requires
+mixed-requires c κs = search (put-told, needs)
 
 enum-told-6 : tie.Need-enum-told-6
-enum-told-6 c = search needs
+enum-told-6 c = search (put-told, needs)
+
+mixed-requires-2 : tie.Need-mixed-requires-2
+mixed-requires-2 c κs = search (put-told, needs)
 
 enum-told-7 : tie.Need-enum-told-7
-enum-told-7 c = search needs
+enum-told-7 c = search (put-told, needs)
+
+mixed-requires-3 : tie.Need-mixed-requires-3
+mixed-requires-3 c κs = search (put-told, needs)
+
+enum-told-8 : tie.Need-enum-told-8
+enum-told-8 c = search (put-told, needs)
+
+mixed-requires-4 : tie.Need-mixed-requires-4
+mixed-requires-4 c κs = search (put-told, needs)
+
+enum-told-9 : tie.Need-enum-told-9
+enum-told-9 c = search (put-told, needs)
+
+mixed-requires-5 : tie.Need-mixed-requires-5
+mixed-requires-5 c κs = search (put-told, needs)
 
 returns : tie.Need-returns
 returns c = search (put-told, needs)
@@ -37,13 +58,19 @@ returns-4 : tie.Need-returns-4
 returns-4 c = search (put-told, needs)
 
 returns-5 : tie.Need-returns-5
-returns-5 c = search needs
+returns-5 c = search (put-told, needs)
 
 returns-6 : tie.Need-returns-6
-returns-6 c = search needs
+returns-6 c = search (put-told, needs)
 
 returns-7 : tie.Need-returns-7
-returns-7 c = search needs
+returns-7 c = search (put-told, needs)
+
+returns-8 : tie.Need-returns-8
+returns-8 c = search (put-told, needs)
+
+returns-9 : tie.Need-returns-9
+returns-9 c = search (put-told, needs)
 
 pub put-spec : {M : Type 1} → statement M
 put-spec =
@@ -54,12 +81,21 @@ put-spec =
     enum-told-3
     enum-told-4
     enum-told-5
+    mixed-requires
     enum-told-6
+    mixed-requires-2
     enum-told-7
+    mixed-requires-3
+    enum-told-8
+    mixed-requires-4
+    enum-told-9
+    mixed-requires-5
     returns
     returns-2
     returns-3
     returns-4
     returns-5
     returns-6
-    returns-7)
+    returns-7
+    returns-8
+    returns-9)

@@ -1,0 +1,158 @@
+// What the calls show of entries. Asked: the version under which fields are read, the table's words, the entry and the field (no
+// number: each, and one past the last), then words to forge (no number: the word that reading left stays).
+use crate::text;
+use crate::words;
+use header::file_format_option::FileFormatOption;
+use header::parser;
+use header::shown;
+use header::shown::Shown;
+use records::file_format::FileFormat;
+use values::integer::IntegerRead;
+use values::output;
+ghost use mathlib.Core.Path.{_≡_};
+ghost use lib.ListN.{length};
+
+// As with `io::buffer`, the contract gives only the length.
+fn empty_table() -> [u64; 64]
+    ensures { λ r. ⌜ 64 ≡ length r ⌝ }
+{
+    [0; 64]
+}
+
+fn put_shown(out: &mut [u8], at: usize, shown: Shown) -> usize {
+    match shown {
+        Shown::Part { start, end } => {
+            let next = text::put_number(out, at, b"", start as u64);
+            text::put_number(out, next, b"-", end as u64)
+        }
+        Shown::Refused => output::put_bytes(out, at, b"29"),
+    }
+}
+
+// The ID's part, and its bytes.
+fn put_id(out: &mut [u8], at: usize, header: &[u8], table: &[u64], n: usize) -> usize {
+    let id = shown::id(header, table, n);
+    let labelled = output::put_bytes(out, at, b" id=");
+    let placed = put_shown(out, labelled, id);
+    let next = output::put_byte(out, placed, b' ');
+    output::put_bytes(out, next, shown::bytes_of(header, id))
+}
+
+// The fields up to the first that is refused, at most 64.
+fn put_fields(
+    out: &mut [u8],
+    at: usize,
+    header: &[u8],
+    table: &[u64],
+    n: usize,
+    version: FileFormat,
+) -> usize {
+    let mut next = at;
+    let mut i = 0;
+    while i < 64 {
+        let shown = shown::field(header, table, n, version, i);
+        next = output::put_byte(out, next, b' ');
+        next = put_shown(out, next, shown);
+        match shown {
+            Shown::Part { start: _, end: _ } => i += 1,
+            Shown::Refused => return next,
+        }
+    }
+    next
+}
+
+// The entry's number, its part, and its ID.
+fn put_places(out: &mut [u8], at: usize, header: &[u8], table: &[u64], n: usize) -> usize {
+    let numbered = text::put_number(out, at, b"", n as u64);
+    let labelled = output::put_bytes(out, numbered, b" entry=");
+    let placed = put_shown(out, labelled, shown::entry(header, table, n));
+    put_id(out, placed, header, table, n)
+}
+
+fn put_entry(
+    out: &mut [u8],
+    at: usize,
+    header: &[u8],
+    table: &[u64],
+    n: usize,
+    version: FileFormat,
+    field: IntegerRead,
+) -> usize {
+    let placed = put_places(out, at, header, table, n);
+    match field {
+        IntegerRead::Value(i) => {
+            let next = output::put_bytes(out, placed, b" fields: ");
+            put_shown(
+                out,
+                next,
+                shown::field(header, table, n, version, i as usize),
+            )
+        }
+        IntegerRead::Refused => {
+            let next = output::put_bytes(out, placed, b" fields:");
+            put_fields(out, next, header, table, n, version)
+        }
+    }
+}
+
+// How many entries a view steps over, then each entry.
+fn put_entries(
+    out: &mut [u8],
+    header: &[u8],
+    table: &[u64],
+    version: FileFormat,
+    field: IntegerRead,
+) -> usize {
+    let mut next = text::put_number(out, 0, b"steps=", view::count_from(header, table, 0) as u64);
+    let entries = table.len() / 2;
+    let mut n = 0;
+    while n <= entries {
+        next = output::put_byte(out, next, b'\n');
+        next = put_entry(out, next, header, table, n, version, field);
+        n += 1;
+    }
+    next
+}
+
+fn forge_word(table: &mut [u64], k: usize, word: IntegerRead) {
+    if table.len() <= k {
+        return;
+    }
+    match word {
+        IntegerRead::Value(value) => table[k] = value,
+        IntegerRead::Refused => {}
+    }
+}
+
+fn forge(table: &mut [u64], asked: &[u8]) {
+    let mut k = 0;
+    while k < table.len() {
+        forge_word(table, k, words::number(asked, k + 5));
+        k += 1;
+    }
+}
+
+// Reads the header into the table, forges words of that, and puts what the calls show.
+fn put_calls(out: &mut [u8], header: &[u8], asked: &[u8], table: &mut [u64]) -> usize {
+    parser::read(header, FileFormatOption::None, table);
+    forge(table, asked);
+    let version = words::version(asked, 1);
+    let field = words::number(asked, 4);
+    match words::number(asked, 3) {
+        IntegerRead::Value(n) => put_entry(out, 0, header, table, n as usize, version, field),
+        IntegerRead::Refused => put_entries(out, header, table, version, field),
+    }
+}
+
+// The same with the first `size` words of the table.
+fn put_sized(out: &mut [u8], header: &[u8], asked: &[u8], table: &mut [u64], size: usize) -> usize {
+    if table.len() < size {
+        return 0;
+    }
+    put_calls(out, header, asked, &mut table[..size])
+}
+
+pub fn put(out: &mut [u8], header: &[u8], asked: &[u8]) -> usize {
+    let mut table = empty_table();
+    put_sized(out, header, asked, &mut table, words::size(asked, 2))
+}

@@ -1,0 +1,37 @@
+use Rattle.records.proofs.Tags.{tried}
+use borrow.Author.Needs.{needs}
+use Rattle.records.proofs.tag.filter_tag.Statement.{statement}
+use Rattle.records.proofs.tag.filter_tag.Tie as tie
+
+slice-aggregate-same : tie.Need-slice-aggregate-same
+slice-aggregate-same c = search (tried, needs)
+
+same-requires : tie.Need-same-requires
+same-requires c κs = search (tried, needs)
+
+returns : tie.Need-returns
+returns c = search (tried, needs)
+
+slice-aggregate-same-2 : tie.Need-slice-aggregate-same-2
+slice-aggregate-same-2 c = search (tried, needs)
+
+same-requires-2 : tie.Need-same-requires-2
+same-requires-2 c κs = search (tried, needs)
+
+returns-2 : tie.Need-returns-2
+returns-2 c = search (tried, needs)
+
+returns-3 : tie.Need-returns-3
+returns-3 c = search (tried, needs)
+
+pub filter-tag-spec : {M : Type 1} → statement M
+filter-tag-spec =
+    tie.close
+    (tie.spec
+    slice-aggregate-same
+    same-requires
+    returns
+    slice-aggregate-same-2
+    same-requires-2
+    returns-2
+    returns-3)

@@ -1,0 +1,134 @@
+-- What the theorems say of a header, an entry or a table, beside the rules themselves. Assumes nothing.
+use mathlib.Core.List.{List, [], _∷_, _++_}
+use Prim.Native.Nat.{_-_, _^_, _≤_, ℕ, _+_, zero, suc}
+use mathlib.Core.Option.{Option, none, some}
+use Rattle.rules.specs.Version.{Version}
+use mathlib.Core.Path.{_≡_}
+use Rattle.rules.specs.Record.{Record, fileformat, fields, text, readRecord}
+use Rattle.rules.specs.Columns.{Columns}
+use Rattle.rules.specs.Reading.{done, Reading, State, step}
+use lib.ListN.{length}
+use Rattle.rules.specs.Sizes.{Limits}
+use Rattle.rules.specs.Known.{kindOf}
+use Rattle.rules.specs.Map.{fieldNamed, valueNamed}
+use Rattle.rules.specs.Meaning.{Meaning, tagIn}
+use Rattle.rules.specs.House.{houseLines, houseForm, tooLong}
+use mathlib.Core.Bool.{true}
+use Rattle.values.specs.Bytes.{Bytes, ascii, part}
+use Rattle.values.specs.Utf8.{isUtf8}
+use Rattle.rules.specs.Answer.{ok}
+use Rattle.rules.specs.Entry.{Entry, mapKind, textKind, recordEntry}
+use Rattle.values.specs.Field.{Field, writtenField}
+use Rattle.rules.specs.Shown.{Part, wellFormed, lineIn, idMeaning, idPart, entryFieldPart}
+use Rattle.rules.specs.Lines.{lineOf}
+
+-- the property holds of each one of a list
+abbrev pub All : {A : Type 0} → (A → Type 0) → List A → Type 0
+All P [] = Unit {0}
+All P (x ∷ xs) = P x × All P xs
+
+-- its parts are below 2 to the 32
+pub record Sized (v : Version) : Type 0 where
+  pub major : v .major ≤ 2 ^ 32 - 1
+  pub minor : v .minor ≤ 2 ^ 32 - 1
+
+-- a version that may be imposed
+abbrev pub SizedOption : Option Version → Type 0
+SizedOption none = Unit {0}
+SizedOption (some v) = Sized v
+
+-- accepted, with these records
+pub record Accepted (v : Version) (rs : List Record) (c : Columns) (r : Reading) : Type 0 where
+  pub number : r .number ≡ 0
+  pub state : r .state ≡ done v rs c
+
+-- a form within the limits
+pub record Fits (lim : Limits) (m : Meaning) : Type 0 where
+  pub header : length (houseForm m) ≤ lim .header
+  pub lines : tooLong (lim .line) 0 0 (houseLines m) ≡ none
+
+-- a line of the header, at its place
+pub record LineAt (lim : Limits) (h : Bytes) (start : ℕ) (l : Bytes) : Type 0 where
+  pub here : part h start (start + length l) ≡ l
+  pub inside : start + length l ≤ length h
+  pub short : length l ≤ lim .line
+  pub utf8 : isUtf8 l ≡ true
+
+-- an entry, and the record of its line
+pub record Row (lim : Limits) (h : Bytes) (v : Version) (e : Entry) (r : Record) : Type 0 where
+  pub start : ℕ
+  pub line : Bytes
+  pub there : LineAt lim h start line
+  pub read : readRecord v line ≡ ok r
+  pub entry : e ≡ recordEntry v start line r
+
+abbrev pub Rows : Limits → Bytes → Version → List Entry → List Record → Type 0
+Rows lim h v [] [] = Unit {0}
+Rows lim h v [] (r ∷ rs) = ⊥
+Rows lim h v (e ∷ es) [] = ⊥
+Rows lim h v (e ∷ es) (r ∷ rs) = Row lim h v e r × Rows lim h v es rs
+
+-- number n of a list, from 0
+abbrev pub nth : {A : Type 0} → List A → ℕ → Option A
+nth [] n = none
+nth (x ∷ xs) zero = some x
+nth (x ∷ xs) (suc n) = nth xs n
+
+-- the i-th field and its part go together
+abbrev pub PartOf : Bytes → Option Field → Option Part → Type 0
+PartOf l none none = Unit {0}
+PartOf l none (some p) = ⊥
+PartOf l (some f) none = ⊥
+PartOf l (some f) (some p) = (part l (p .0) (p .1) ≡ writtenField f) × (p .1 ≤ length l)
+
+-- an entry of a map is well formed, and shows its line, its ID and each of its fields as written
+pub record ShowsMap (h : Bytes) (v : Version) (k : Bytes) (fs : List Field) (l : Bytes) (e : Entry) : Type 0 where
+  pub formed : wellFormed (length h) e ≡ true
+  pub kind : e .kind ≡ mapKind (kindOf k)
+  pub line : lineIn h e ≡ l
+  pub tag : e .tag ≡ tagIn (fieldNamed v k (ascii "ID") fs)
+  pub id : idMeaning h e ≡ valueNamed v k (ascii "ID") fs
+  pub field : (i : ℕ) → PartOf h (nth fs i) (entryFieldPart h v i (some e))
+
+-- an entry of another kind is well formed and shows its line, and neither an ID nor a field
+pub record ShowsPlain (h : Bytes) (kind : ℕ) (l : Bytes) (e : Entry) : Type 0 where
+  pub formed : wellFormed (length h) e ≡ true
+  pub is-kind : e .kind ≡ kind
+  pub line : lineIn h e ≡ l
+  pub id : idPart (some e) ≡ none
+  pub field : (w : Version) (i : ℕ) → entryFieldPart h w i (some e) ≡ none
+
+-- what is shown of a record's entry
+abbrev pub Shows : Bytes → Version → Bytes → Entry → Record → Type 0
+Shows h v l e (fileformat w) = ⊥
+Shows h v l e (fields k fs) = ShowsMap h v k fs l e
+Shows h v l e (text k t) = ShowsPlain h textKind l e
+
+-- entry n of the entries shows the record r: its line, and what the calls show of it
+pub record Shown (lim : Limits) (h : Bytes) (v : Version) (es : List Entry) (n : ℕ) (r : Record) : Type 0 where
+  pub entry : Entry
+  pub is : nth es n ≡ some entry
+  pub start : ℕ
+  pub line : Bytes
+  pub there : LineAt lim h start line
+  pub read : readRecord v line ≡ ok r
+  pub shows : Shows h v line entry r
+
+-- entry n of the entries is of a kind without an ID, and shows these bytes
+pub record ShownPlain (h : Bytes) (es : List Entry) (n kind : ℕ) (x : Bytes) : Type 0 where
+  pub entry : Entry
+  pub is : nth es n ≡ some entry
+  pub shows : ShowsPlain h kind x entry
+
+-- these are the entries of the first k lines, in order, each line taken in the state that those before it leave
+abbrev pub LinesTaken : Limits → Option Version → ℕ → ℕ → State → List Bytes → List Entry → Type 0
+LinesTaken lim imposed zero start s ps es = es ≡ []
+LinesTaken lim imposed (suc k) start s [] es = ⊥
+LinesTaken lim imposed (suc k) start s (p ∷ ps) es =
+    (q : State × List Entry) × (fs : List Entry) × (step lim imposed start s (lineOf p) ≡ ok q) × (es ≡ q .1 ++ fs)
+    × LinesTaken lim imposed k (start + length p) (q .0) ps fs
+
+-- every line was taken; or the line after the first k was refused or had no room
+pub data Keeps (lim : Limits) (imposed : Option Version) (n start : ℕ) (s : State) (ps : List Bytes) (r : Reading) : Type 0 where
+  all-taken : r .line ≡ n + length ps → LinesTaken lim imposed (length ps) start s ps (r .entries) → Keeps lim imposed n start s ps r
+  stopped : (k : ℕ) → r .line ≡ suc (n + k) → LinesTaken lim imposed k start s ps (r .entries) → Keeps lim imposed n start s ps r

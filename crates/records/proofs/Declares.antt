@@ -17,24 +17,24 @@ use Rattle.values.proofs.Lists.{some-is}
 use Rattle.values.proofs.Sames.{same-sound}
 use Rattle.rules.specs.Answer.{unless}
 use Rattle.rules.specs.Version.{Version, v4-3, earlier}
-use Rattle.rules.specs.Known.{Kind, isIn, kindOf, letters, countOr, letterIn, readNumber}
+use Rattle.rules.specs.Known.{Kind, INFO, FILTER, FORMAT, ALT, contig, other, isInfo, isFormat, isIn, kindOf, letters, countOr, letterIn, readNumber}
 use Rattle.rules.specs.Known.{count, letter}
 use Rattle.rules.specs.Known.{Number as Asked}
-use Rattle.rules.specs.Reserved.{ReservedRow, tableOf, lookRow, reserved, isNumber, declares}
+use Rattle.rules.specs.Reserved.{ReservedRow, infoRows, formatRows, tableOf, lookRow, reserved, isNumber, declares}
 use Rattle.rules.specs.Map.{valueNamed, misdeclared}
-use Rattle.records.specs.Keys.{bytesOf}
+use Rattle.records.specs.Keys.{bytesOf, kindBy}
 use Rattle.records.specs.Numbers.{isInteger, isNumberOf, typeName}
 use Rattle.records.specs.Definitions.{asked, definitionMeans, outline, infoList, formatList}
 use Rattle.records.specs.Fields.{textIn}
 use Rattle.records.specs.Maps.{Declared}
 use Rattle.records.specs.Records.{fits}
 use Rattle.records.specs.declared.key.MapKey.{MapKey}
-use Rattle.records.specs.declared.key.MapKey.the-variants as key
 use Rattle.records.specs.declared.number.Number.{Number}
 use Rattle.records.specs.declared.number.Number.the-variants.{Count, A, R, G}
 use Rattle.records.specs.declared.number.ValueType.{ValueType}
 use Rattle.records.specs.declared.definition.Definition.{Definition}
 use Rattle.records.specs.declared.definition.Definition.the-variants.{Of, Unreserved}
+use Rattle.records.proofs.Keys.{kind-by-case}
 use Rattle.records.proofs.Definitions.{info-rows, format-rows}
 
 eqb-sym : (a b : ℕ) → eqb a b ≡ eqb b a
@@ -82,33 +82,66 @@ module _ (v : Version) (kind : Kind) (t raw : Bytes) (q : Bool) (m : t ≡ meani
       pair : {a b : Asked} {c d : Bytes} → _≡_ {A = Option (Asked × Bytes)} (some (a, c)) (some (b, d)) → (a ≡ b) × (c ≡ d)
       pair {a} {b} {c} {d} e = let p : _≡_ {A = Asked × Bytes} (a, c) (b, d) = some-is e in (ap (λ (x : Asked × Bytes). x .0) p, ap (λ (x : Asked × Bytes). x .1) p)
 
-pub table-info : tableOf (kindOf (bytesOf key.Info)) ≡ infoList
-unfolding kindOf same
-table-info = sym info-rows
+-- The table of a kind
 
-pub table-format : tableOf (kindOf (bytesOf key.Format)) ≡ formatList
-unfolding kindOf same
-table-format = sym format-rows
+module _ (kind : Kind) (id : Bytes) {q : Bool} (a : q ≡ isInfo kind) where
+  pub table-info : q ≡ true → {o : Option (Asked × Bytes)} → o ≡ outline (lookRow id infoList) → o ≡ outline (lookRow id (tableOf kind))
+  table-info e f = f ∙ ap (λ (rs : List ReservedRow). outline (lookRow id rs)) (info-rows ∙ go kind (sym a ∙ e))
+    where
+      go : (kind : Kind) → isInfo kind ≡ true → infoRows ≡ tableOf kind
+      go INFO e = refl
+      go FILTER e = absurd (false≢true e)
+      go FORMAT e = absurd (false≢true e)
+      go ALT e = absurd (false≢true e)
+      go contig e = absurd (false≢true e)
+      go other e = absurd (false≢true e)
+
+  module _ (e : q ≡ false) {p : Bool} (b : p ≡ isFormat kind) where
+    pub table-format : p ≡ true → {o : Option (Asked × Bytes)} → o ≡ outline (lookRow id formatList) → o ≡ outline (lookRow id (tableOf kind))
+    table-format g f = f ∙ ap (λ (rs : List ReservedRow). outline (lookRow id rs)) (format-rows ∙ go kind (sym b ∙ g))
+      where
+        go : (kind : Kind) → isFormat kind ≡ true → formatRows ≡ tableOf kind
+        go INFO e = absurd (false≢true e)
+        go FILTER e = absurd (false≢true e)
+        go FORMAT e = refl
+        go ALT e = absurd (false≢true e)
+        go contig e = absurd (false≢true e)
+        go other e = absurd (false≢true e)
+
+    pub table-none : p ≡ false → none ≡ outline (lookRow id (tableOf kind))
+    unfolding lookRow
+    table-none g = go kind (sym a ∙ e) (sym b ∙ g)
+      where
+        go : (kind : Kind) → isInfo kind ≡ false → isFormat kind ≡ false → none ≡ outline (lookRow id (tableOf kind))
+        go INFO e f = absurd (false≢true (sym e))
+        go FILTER e f = refl
+        go FORMAT e f = absurd (false≢true (sym f))
+        go ALT e f = refl
+        go contig e f = refl
+        go other e f = refl
+
+pub ruleset tables = (table-info, table-format, table-none)
 
 module _ (v : Version) (key : MapKey) (s : Bytes) (id number kind : Text) {e : Bool} (a : e ≡ earlier v v4-3) where
   pub unreserved-yet : e ≡ true → Declared v key s id number kind true
   unfolding misdeclared reserved
   unreserved-yet f = record { is = λ at tag t. rw (misdeclared, reserved, sym a ∙ f) }
 
-  pub reserved-asked : e ≡ false → {rows : List ReservedRow} → tableOf (kindOf (bytesOf key)) ≡ rows → {n x y : Bytes} → n ≡ textIn s id → x ≡ textIn s number → y ≡ textIn s kind
-      → (d : Definition) → definitionMeans d ≡ outline (lookRow (meaning (id .quoted) n) rows) → {r : Bool} → r ≡ fits d x (number .quoted) y (kind .quoted) → Declared v key s id number kind r
+  pub reserved-asked : e ≡ false → {n x y : Bytes} → n ≡ textIn s id → x ≡ textIn s number → y ≡ textIn s kind
+      → (d : Definition) → definitionMeans d ≡ outline (lookRow (meaning (id .quoted) n) (tableOf (kindBy key))) → {r : Bool} → r ≡ fits d x (number .quoted) y (kind .quoted)
+      → Declared v key s id number kind r
   unfolding misdeclared reserved
-  reserved-asked f {rows} q {n} {x} {y} i j l d m {r} z = record {
+  reserved-asked f {n} {x} {y} i j l d m {r} z = record {
     is = λ at tag t.
-        let row : lookRow (valueNamed v (bytesOf key) (ascii "ID") (t .fs)) (tableOf (kindOf (bytesOf key))) ≡ lookRow (meaning (id .quoted) n) rows
-        = ap₂ lookRow (t .id-is ∙ ap (meaning (id .quoted)) (sym i)) q in
+        let row : lookRow (valueNamed v (bytesOf key) (ascii "ID") (t .fs)) (tableOf (kindOf (bytesOf key))) ≡ lookRow (meaning (id .quoted) n) (tableOf (kindBy key))
+        = ap₂ lookRow (t .id-is ∙ ap (meaning (id .quoted)) (sym i)) (ap tableOf (kind-by-case key)) in
         rw (misdeclared, reserved, sym a ∙ f, row) (ap (λ (b : Bool). unless b 18) (
         declares-as v (kindOf (bytesOf key)) (valueNamed v (bytesOf key) (ascii "Number") (t .fs)) x (number .quoted) (t .number-is ∙ ap (meaning (number .quoted)) (sym j)) (t .raw ∙ ap u64Read (sym j))
-        y (kind .quoted) (t .kind-is ∙ ap (meaning (kind .quoted)) (sym l)) d (lookRow (meaning (id .quoted) n) rows) m
+        y (kind .quoted) (t .kind-is ∙ ap (meaning (kind .quoted)) (sym l)) d (lookRow (meaning (id .quoted) n) (tableOf (kindBy key))) m
         ∙ sym z));
   }
 
-pub ruleset declared = (unreserved-yet, reserved-asked, table-info, table-format)
+pub ruleset declared = (unreserved-yet, reserved-asked)
 
 pub no-definition : (d : Definition) (n : Bytes) (nq : Bool) (t : Bytes) (tq : Bool) → d ≡ Unreserved → true ≡ fits d n nq t tq
 no-definition d n nq t tq e = rw e

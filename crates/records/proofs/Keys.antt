@@ -6,7 +6,6 @@ use mathlib.Core.List.{List, [], _∷_, map, tail}
 use mathlib.Core.Option.{Option, some}
 use lib.Dec.{eqb}
 use lib.ListN.{length}
-use borrow.Author.Tests.{eq-eqb, ne-eqb}
 use Rattle.values.specs.Bytes.{Bytes, ascii, begins, same}
 use Rattle.values.specs.Field.{Field, writtenField}
 use Rattle.values.specs.Places.{textAt}
@@ -143,14 +142,19 @@ typed-by-kind key e = rw e (typed-kind key)
 pub info-by-kind : (key : MapKey) {n : ℕ} → n ≡ mapKind (kindBy key) → eqb n 2 ≡ isInfo (kindBy key)
 info-by-kind key e = rw e (info-kind (kindBy key))
 
-module _ (key : MapKey) (v : Version) {n : ℕ} (a : n ≡ mapKind (kindBy key)) where
-  pub not-format : (n ≡ 4 → ⊥) → false ≡ (isFormat (kindBy key) && since v4-5 v)
-  not-format h = rw (← format-kind (kindBy key), ← a, ne-eqb n 4 h)
+pub format-by-kind : (key : MapKey) {n : ℕ} → n ≡ mapKind (kindBy key) → eqb n 4 ≡ isFormat (kindBy key)
+format-by-kind key e = rw e (format-kind (kindBy key))
 
-  pub format-since : n ≡ 4 → {e : Bool} → e ≡ earlier v v4-5 → not e ≡ (isFormat (kindBy key) && since v4-5 v)
-  format-since h b = rw (← format-kind (kindBy key), ← a, eq-eqb n 4 h, b)
+module _ (kind : Kind) (v : Version) {q : Bool} (a : q ≡ isFormat kind) where
+  pub not-format : not q ≡ true → false ≡ (isFormat kind && since v4-5 v)
+  not-format h = rw (← a, not-true q h)
 
-pub ruleset kinds = (info-by-kind, not-format, format-since)
+  pub format-since : not q ≡ false → {e : Bool} → e ≡ earlier v v4-5 → not e ≡ (isFormat kind && since v4-5 v)
+  format-since h b = rw (← a, not-false q h, b)
+
+pub ruleset kinds = (info-by-kind, format-by-kind)
+
+pub ruleset locals = (not-format, format-since)
 
 -- a key, and its case
 unformatted : (key : MapKey) → same (bytesOf key) (ascii "fileformat") ≡ false

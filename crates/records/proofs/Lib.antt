@@ -12,7 +12,7 @@ pub mod Fields
 pub mod Steps
 pub mod Loops
 pub mod Required
-pub mod Typed
+pub mod Needed
 pub mod Declares
 pub mod Records
 pub mod Determined

@@ -21,7 +21,7 @@ use Rattle.rules.specs.Entry.{fieldsStart, textNamed}
 use Rattle.rules.specs.Record.{fields, text, looksMap, isMap, fileformatRead, readRecordValue, readKeyed, readRecord}
 use Rattle.records.specs.Formats.{formatRead}
 use Rattle.records.specs.Keys.{bytesOf, keyNamed, Named}
-use Rattle.records.specs.Maps.{slotted, MapIs, ParsesMap, TypedIs, ParsesTyped, Typed, Declared}
+use Rattle.records.specs.Maps.{slotted, MapIs, ParsesMap, Full, TypedIs, ParsesTyped, Typed, Declared}
 use Rattle.records.specs.Records.{ValueIs, ParsesValue, keyIn, KeyedIs, versionRecord, RecordIs, ParsesRecord}
 use Rattle.records.specs.declared.file_format.FileFormat.{FileFormat}
 use Rattle.records.specs.declared.file_format.FileFormatRead.{FileFormatRead}
@@ -39,6 +39,7 @@ use Rattle.records.specs.declared.record.KeyParsed.{KeyParsed}
 use Rattle.records.specs.declared.record.KeyParsed.the-variants as key
 use Rattle.records.specs.declared.record.RecordRead.{RecordRead}
 use Rattle.records.specs.declared.record.RecordRead.the-variants as read
+use Rattle.records.proofs.Needed.{full-info, full-format}
 use Rattle.records.proofs.Keys.{named, map-by-case, text-by-case, looks-by-case}
 
 -- INFO and FORMAT with their definition
@@ -49,25 +50,30 @@ judged-unless x e f = rw (e, f)
 judged-otherwise : {A : Type 0} {n : ℕ} {b : Bool} (x : A) → n ≡ unless b 18 → b ≡ false → judged n x ≡ refuse 18
 judged-otherwise x e f = rw (e, f)
 
-module _ (v : Version) (key : MapKey) (s : Bytes) (c : Cursor) {r : TypedRead} (o : ParsesTyped v key s (c .at) r) where
-  pub typed-unread : {x : Refusal} → r ≡ typed.Refused x → ParsesMap v key s (c .at) (maps.Refused x)
-  typed-unread e = record { is = subst (TypedIs v (bytesOf key) s (c .at)) e (o .is) }
+module _ (v : Version) (key : MapKey) (s : Bytes) (c : Cursor) {r : TypedRead} (o : Full key → ParsesTyped v key s (c .at) r) where
+  pub typed-unread : {x : Refusal} → r ≡ typed.Refused x → Full key → ParsesMap v key s (c .at) (maps.Refused x)
+  typed-unread e full = record { is = subst (TypedIs v (bytesOf key) s (c .at)) e (o full .is) }
 
   module _ {id : Text} {g : ℕ} {n t : Text} (e : r ≡ typed.Typed id g n t) {q : Bool} (d : Declared v key s id n t q) where
-    as-typed : Typed v (bytesOf key) s (c .at) id g n t
-    as-typed = subst (TypedIs v (bytesOf key) s (c .at)) e (o .is)
+    as-typed : Full key → Typed v (bytesOf key) s (c .at) id g n t
+    as-typed full = subst (TypedIs v (bytesOf key) s (c .at)) e (o full .is)
 
-    pub typed-otherwise : not q ≡ true → ParsesMap v key s (c .at) (maps.Refused DefinitionMismatch)
-    typed-otherwise f = record { is = let y = as-typed in y .read ∙ judged-otherwise (y .fs) (d .is (c .at) g y) (not-true q f) }
+    pub typed-otherwise : not q ≡ true → Full key → ParsesMap v key s (c .at) (maps.Refused DefinitionMismatch)
+    typed-otherwise f full = record { is = let y = as-typed full in y .read ∙ judged-otherwise (y .fs) (d .is (c .at) g y) (not-true q f) }
 
-    pub typed-defined : not q ≡ false → ParsesMap v key s (c .at) (maps.Map id g)
-    typed-defined f = record { is = let y = as-typed in (y .fs, y .read ∙ judged-unless (y .fs) (d .is (c .at) g y) (not-false q f), y .named) }
+    pub typed-defined : not q ≡ false → Full key → ParsesMap v key s (c .at) (maps.Map id g)
+    typed-defined f full = record { is = let y = as-typed full in (y .fs, y .read ∙ judged-unless (y .fs) (d .is (c .at) g y) (not-false q f), y .named) }
 
 pub ruleset with-definition = (typed-unread, typed-otherwise, typed-defined)
 
 -- by the case of the key
 pub map-told : (v : Version) (key : MapKey) (s : Bytes) (at : ℕ) {j : MapKey} → key ≡ j → {r : MapRead} → ParsesMap v j s at r → ParsesMap v key s at r
 map-told v key s at e {r} h = subst (λ (x : MapKey). ParsesMap v x s at r) (sym e) h
+
+pub typed-told : (v : Version) (key : MapKey) (s : Bytes) (at : ℕ) {j : MapKey} → key ≡ j → Full j → {r : MapRead} → (Full j → ParsesMap v j s at r) → ParsesMap v key s at r
+typed-told v key s at e full h = map-told v key s at e (h full)
+
+pub ruleset by-case = (map-told, typed-told, full-info, full-format)
 
 -- Whether the value is a map
 

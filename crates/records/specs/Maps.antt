@@ -13,7 +13,7 @@ use Rattle.values.specs.Places.{cursorAt}
 use Rattle.values.specs.declared.string.Text.{Text}
 use Rattle.rules.specs.Answer.{ok, refuse, unless, first, judged}
 use Rattle.rules.specs.Version.{Version}
-use Rattle.rules.specs.Known.{Kind, Reads, KnownField, anyText, aNumber, aType, anInteger, rows, rowNamed, idField, descriptionField, isIn, kindOf, required, nameOf, tagOf, letters, types, alwaysMap}
+use Rattle.rules.specs.Known.{Kind, Reads, KnownField, anyText, aNumber, aType, anInteger, rows, rowNamed, idField, numberField, typeField, descriptionField, isIn, kindOf, required, nameOf, tagOf, letters, types, alwaysMap}
 use Rattle.rules.specs.Reserved.{tableOf}
 use Rattle.rules.specs.Map.{After, more, done, wrong, after, Scan, scan, readFields, isMeta, knownNamed, checkFields, valueNamed, misdeclared, readMap}
 use Rattle.rules.specs.Entry.{textNamed}
@@ -261,6 +261,13 @@ pub record Described (key : MapKey) : Type 0 where
   pub needs : required (kindOf (bytesOf key)) ≡ idField ∷ descriptionField ∷ []
   pub free : tableOf (kindOf (bytesOf key)) ≡ []
   pub known : rowNamed (ascii "Description") (rows (kindOf (bytesOf key))) ≡ some descriptionField
+
+-- INFO and FORMAT: the ID, a Number, a Type and a Description are required
+pub record Full (key : MapKey) : Type 0 where
+  pub needs : required (kindOf (bytesOf key)) ≡ idField ∷ numberField ∷ typeField ∷ descriptionField ∷ []
+  pub numbered : rowNamed (ascii "Number") (rows (kindOf (bytesOf key))) ≡ some numberField
+  pub typed : rowNamed (ascii "Type") (rows (kindOf (bytesOf key))) ≡ some typeField
+  pub described : rowNamed (ascii "Description") (rows (kindOf (bytesOf key))) ≡ some descriptionField
 
 -- an INFO or FORMAT map whose fields are all there: where its ID, Number and Type stand; its definition is still to be looked at
 pub record Typed (v : Version) (k s : Bytes) (at : ℕ) (id : Text) (tag : ℕ) (number kind : Text) : Type 0 where

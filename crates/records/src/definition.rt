@@ -1,10 +1,12 @@
 // The Number and Type that the specification gives to a reserved ID.
+use crate::key::MapKey;
 use crate::list;
 use crate::number::Number;
 use crate::number::ValueType;
 ghost use mathlib.Core.Path.{_≡_};
 ghost use Rattle.values.specs.Value.{meaning};
-ghost use Rattle.rules.specs.Reserved.{lookRow};
+ghost use Rattle.rules.specs.Reserved.{tableOf, lookRow};
+ghost use Rattle.records.specs.Keys.{kindBy};
 ghost use Rattle.records.specs.Definitions.{definitionMeans, outline, infoCounts, infoList, formatScores, formatList};
 
 pub enum Definition {
@@ -13,7 +15,7 @@ pub enum Definition {
 }
 
 // The rows of INFO whose Number is a count.
-fn info_count_definition(id: &[u8], quoted: bool) -> Definition
+fn info_count_row(id: &[u8], quoted: bool) -> Definition
     ensures { λ r. ⌜ definitionMeans r ≡ outline (lookRow (meaning quoted (now (id .entry))) infoCounts) ⌝ }
 {
     if list::is_listed(b"AA", id, quoted) {
@@ -34,7 +36,8 @@ fn info_count_definition(id: &[u8], quoted: bool) -> Definition
     Definition::Unreserved
 }
 
-pub fn info_definition(id: &[u8], quoted: bool) -> Definition
+// The rows of INFO.
+fn info_row(id: &[u8], quoted: bool) -> Definition
     ensures { λ r. ⌜ definitionMeans r ≡ outline (lookRow (meaning quoted (now (id .entry))) infoList) ⌝ }
 {
     if list::is_listed(b"AC", id, quoted) {
@@ -49,11 +52,11 @@ pub fn info_definition(id: &[u8], quoted: bool) -> Definition
     if list::is_listed(b"AD,ADF,ADR", id, quoted) {
         return Definition::Of(Number::R, ValueType::Integer);
     }
-    info_count_definition(id, quoted)
+    info_count_row(id, quoted)
 }
 
 // The last rows of FORMAT.
-fn format_score_definition(id: &[u8], quoted: bool) -> Definition
+fn format_score_row(id: &[u8], quoted: bool) -> Definition
     ensures { λ r. ⌜ definitionMeans r ≡ outline (lookRow (meaning quoted (now (id .entry))) formatScores) ⌝ }
 {
     if list::is_listed(b"HQ", id, quoted) {
@@ -68,7 +71,8 @@ fn format_score_definition(id: &[u8], quoted: bool) -> Definition
     Definition::Unreserved
 }
 
-pub fn format_definition(id: &[u8], quoted: bool) -> Definition
+// The rows of FORMAT.
+fn format_row(id: &[u8], quoted: bool) -> Definition
     ensures { λ r. ⌜ definitionMeans r ≡ outline (lookRow (meaning quoted (now (id .entry))) formatList) ⌝ }
 {
     if list::is_listed(b"AD,ADF,ADR", id, quoted) {
@@ -83,5 +87,18 @@ pub fn format_definition(id: &[u8], quoted: bool) -> Definition
     if list::is_listed(b"FT,GT", id, quoted) {
         return Definition::Of(Number::Count(1), ValueType::String);
     }
-    format_score_definition(id, quoted)
+    format_score_row(id, quoted)
+}
+
+// The row of an ID in its kind's table.
+pub fn definition_of(key: MapKey, id: &[u8], quoted: bool) -> Definition
+    ensures { λ r. ⌜ definitionMeans r ≡ outline (lookRow (meaning quoted (now (id .entry))) (tableOf (kindBy key))) ⌝ }
+{
+    if key.is_info() {
+        return info_row(id, quoted);
+    }
+    if key.is_format() {
+        return format_row(id, quoted);
+    }
+    Definition::Unreserved
 }

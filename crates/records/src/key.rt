@@ -2,7 +2,7 @@
 use crate::file_format::FileFormat;
 use values::bytes;
 ghost use mathlib.Core.Path.{_≡_};
-ghost use Rattle.rules.specs.Known.{alwaysMap, isTyped};
+ghost use Rattle.rules.specs.Known.{isInfo, isFormat, isTyped, alwaysMap};
 ghost use Rattle.rules.specs.Map.{isMeta};
 ghost use Rattle.records.specs.Formats.{versionOf};
 ghost use Rattle.records.specs.Keys.{bytesOf, untypedKeys, among, keyNamed, contextOf, kindBy, isMetaKey, isPedigreeKey};
@@ -98,6 +98,18 @@ impl MapKey {
             MapKey::Pedigree => true,
             MapKey::Other => false,
         }
+    }
+
+    pub fn is_info(self) -> bool
+        ensures { λ r. ⌜ r ≡ isInfo (kindBy self) ⌝ }
+    {
+        self.kind() == 2
+    }
+
+    pub fn is_format(self) -> bool
+        ensures { λ r. ⌜ r ≡ isFormat (kindBy self) ⌝ }
+    {
+        self.kind() == 4
     }
 
     // META and PEDIGREE are always maps, and need a field.

@@ -18,7 +18,7 @@ ghost use mathlib.Core.Bool.{_&&_};
 ghost use lib.ListN.{drop};
 ghost use Rattle.rules.specs.Answer.{unless};
 ghost use Rattle.rules.specs.Version.{v4-5, since};
-ghost use Rattle.rules.specs.Known.{isFormat, isInfo, alwaysMap};
+ghost use Rattle.rules.specs.Known.{isFormat, alwaysMap};
 ghost use Rattle.rules.specs.Record.{looksMap};
 ghost use Rattle.records.specs.Formats.{versionOf};
 ghost use Rattle.records.specs.Refusals.{number};
@@ -149,17 +149,11 @@ fn pass_or(passed: bool, refusal: Refusal) -> Check
 }
 
 impl MapKey {
-    fn is_info(self) -> bool
-        ensures { λ r. ⌜ r ≡ isInfo (kindBy self) ⌝ }
-    {
-        self.kind() == 2
-    }
-
     // FORMAT from 4.5 has more letters.
     fn has_local_letters(self, version: FileFormat) -> bool
         ensures { λ r. ⌜ r ≡ (isFormat (kindBy self) && since v4-5 (versionOf version)) ⌝ }
     {
-        if self.kind() != 4 {
+        if !self.is_format() {
             return false;
         }
         !version.lt(FileFormat::V4_5)

@@ -5,14 +5,13 @@ use crate::definition;
 use crate::definition::Definition;
 use crate::file_format::FileFormat;
 use crate::filter;
-use crate::format;
-use crate::info;
 use crate::key::MapKey;
 use crate::map;
 use crate::map::MapRead;
 use crate::map::TypedRead;
 use crate::other;
 use crate::refusal::Refusal;
+use crate::typed;
 use values::bytes;
 use values::cursor::Cursor;
 use values::string::Text;
@@ -21,9 +20,8 @@ ghost use lib.ListN.{drop};
 ghost use Rattle.rules.specs.Record.{isMap};
 ghost use Rattle.records.specs.Formats.{versionOf};
 ghost use Rattle.records.specs.Keys.{bytesOf};
-ghost use Rattle.records.specs.Maps.{Declared, ParsesMap};
+ghost use Rattle.records.specs.Maps.{Declared, Full, ParsesMap};
 ghost use Rattle.records.specs.Records.{fits, ParsesValue};
-ghost use Rattle.records.specs.declared.key.MapKey.the-variants.{Info, Format};
 
 pub enum ValueParsed {
     Map(Text, u8),
@@ -45,63 +43,32 @@ fn is_defined(definition: Definition, n: &[u8], nq: bool, t: &[u8], tq: bool) ->
     }
 }
 
-fn validate_info_definition(
+fn validate_definition(
     s: &[u8],
     version: FileFormat,
+    key: MapKey,
     id: Text,
     number: Text,
     kind: Text,
 ) -> bool
-    ensures { λ r. ⌜ Declared (versionOf version) Info (now (s .entry)) id number kind r ⌝ }
+    ensures { λ r. ⌜ Declared (versionOf version) key (now (s .entry)) id number kind r ⌝ }
 {
     if version.lt(FileFormat::V4_3) {
         return true;
     }
-    let definition = definition::info_definition(bytes::part(s, id.start, id.end), id.quoted);
+    let definition = definition::definition_of(key, bytes::part(s, id.start, id.end), id.quoted);
     let n = bytes::part(s, number.start, number.end);
     let t = bytes::part(s, kind.start, kind.end);
     is_defined(definition, n, number.quoted, t, kind.quoted)
 }
 
-fn validate_format_definition(
-    s: &[u8],
-    version: FileFormat,
-    id: Text,
-    number: Text,
-    kind: Text,
-) -> bool
-    ensures { λ r. ⌜ Declared (versionOf version) Format (now (s .entry)) id number kind r ⌝ }
+fn parse_typed_value(s: &[u8], c: Cursor, key: MapKey, version: FileFormat) -> MapRead
+    ensures { λ r. ⌜ (Full key → ParsesMap (versionOf version) key (now (s .entry)) (c .at) r) ⌝ }
 {
-    if version.lt(FileFormat::V4_3) {
-        return true;
-    }
-    let definition = definition::format_definition(bytes::part(s, id.start, id.end), id.quoted);
-    let n = bytes::part(s, number.start, number.end);
-    let t = bytes::part(s, kind.start, kind.end);
-    is_defined(definition, n, number.quoted, t, kind.quoted)
-}
-
-fn parse_info_value(s: &[u8], c: Cursor, version: FileFormat) -> MapRead
-    ensures { λ r. ⌜ ParsesMap (versionOf version) Info (now (s .entry)) (c .at) r ⌝ }
-{
-    match info::parse_info(s, c, version) {
+    match typed::parse_typed(s, c, key, version) {
         TypedRead::Refused(x) => MapRead::Refused(x),
         TypedRead::Typed(id, tag, number, kind) => {
-            if !validate_info_definition(s, version, id, number, kind) {
-                return MapRead::Refused(Refusal::DefinitionMismatch);
-            }
-            MapRead::Map(id, tag)
-        }
-    }
-}
-
-fn parse_format_value(s: &[u8], c: Cursor, version: FileFormat) -> MapRead
-    ensures { λ r. ⌜ ParsesMap (versionOf version) Format (now (s .entry)) (c .at) r ⌝ }
-{
-    match format::parse_format(s, c, version) {
-        TypedRead::Refused(x) => MapRead::Refused(x),
-        TypedRead::Typed(id, tag, number, kind) => {
-            if !validate_format_definition(s, version, id, number, kind) {
+            if !validate_definition(s, version, key, id, number, kind) {
                 return MapRead::Refused(Refusal::DefinitionMismatch);
             }
             MapRead::Map(id, tag)
@@ -113,9 +80,9 @@ fn parse_map_value(s: &[u8], c: Cursor, key: MapKey, version: FileFormat) -> Map
     ensures { λ r. ⌜ ParsesMap (versionOf version) key (now (s .entry)) (c .at) r ⌝ }
 {
     match key {
-        MapKey::Info => parse_info_value(s, c, version),
+        MapKey::Info => parse_typed_value(s, c, MapKey::Info, version),
         MapKey::Filter => filter::parse_filter(s, c, version),
-        MapKey::Format => parse_format_value(s, c, version),
+        MapKey::Format => parse_typed_value(s, c, MapKey::Format, version),
         MapKey::AlternativeAllele => alternative_allele::parse_alternative_allele(s, c, version),
         MapKey::Contig => contig::parse_contig(s, c, version),
         MapKey::Meta => other::parse_meta(s, c, version),

@@ -1,4 +1,4 @@
-use Rattle.records.proofs.Typed.{described-alternative-allele}
+use Rattle.records.proofs.Needed.{described-alternative-allele}
 use borrow.Author.Needs.{needs}
 use Rattle.records.proofs.alternative_allele.parse_alternative_allele.Statement.{statement}
 use Rattle.records.proofs.alternative_allele.parse_alternative_allele.Tie as tie

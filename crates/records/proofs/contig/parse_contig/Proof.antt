@@ -1,4 +1,4 @@
-use Rattle.records.proofs.Typed.{identified-contig}
+use Rattle.records.proofs.Needed.{identified-contig}
 use borrow.Author.Needs.{needs}
 use Rattle.records.proofs.contig.parse_contig.Statement.{statement}
 use Rattle.records.proofs.contig.parse_contig.Tie as tie

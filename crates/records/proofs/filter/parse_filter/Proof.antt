@@ -1,4 +1,4 @@
-use Rattle.records.proofs.Typed.{described-filter}
+use Rattle.records.proofs.Needed.{described-filter}
 use borrow.Author.Needs.{needs}
 use Rattle.records.proofs.filter.parse_filter.Statement.{statement}
 use Rattle.records.proofs.filter.parse_filter.Tie as tie

@@ -1,4 +1,4 @@
-use Rattle.records.proofs.Typed.{identified-meta}
+use Rattle.records.proofs.Needed.{identified-meta}
 use borrow.Author.Needs.{needs}
 use Rattle.records.proofs.other.parse_meta.Statement.{statement}
 use Rattle.records.proofs.other.parse_meta.Tie as tie

@@ -1,4 +1,4 @@
-use Rattle.records.proofs.Typed.{identified-other}
+use Rattle.records.proofs.Needed.{identified-other}
 use borrow.Author.Needs.{needs}
 use Rattle.records.proofs.other.parse_other.Statement.{statement}
 use Rattle.records.proofs.other.parse_other.Tie as tie

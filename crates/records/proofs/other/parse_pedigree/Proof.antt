@@ -1,4 +1,4 @@
-use Rattle.records.proofs.Typed.{identified-pedigree}
+use Rattle.records.proofs.Needed.{identified-pedigree}
 use borrow.Author.Needs.{needs}
 use Rattle.records.proofs.other.parse_pedigree.Statement.{statement}
 use Rattle.records.proofs.other.parse_pedigree.Tie as tie

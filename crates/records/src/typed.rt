@@ -1,4 +1,4 @@
-// A map under the key FORMAT.
+// A map under the key INFO or FORMAT.
 use crate::file_format::FileFormat;
 use crate::key::MapKey;
 use crate::map;
@@ -8,13 +8,12 @@ use crate::map::TypedRead;
 use crate::refusal::Refusal;
 use values::cursor::Cursor;
 ghost use Rattle.records.specs.Formats.{versionOf};
-ghost use Rattle.records.specs.Maps.{ParsesTyped};
-ghost use Rattle.records.specs.declared.key.MapKey.the-variants.{Format};
+ghost use Rattle.records.specs.Maps.{Full, ParsesTyped};
 
-pub fn parse_format(s: &[u8], c: Cursor, version: FileFormat) -> TypedRead
-    ensures { λ r. ⌜ ParsesTyped (versionOf version) Format (now (s .entry)) (c .at) r ⌝ }
+pub fn parse_typed(s: &[u8], c: Cursor, key: MapKey, version: FileFormat) -> TypedRead
+    ensures { λ r. ⌜ (Full key → ParsesTyped (versionOf version) key (now (s .entry)) (c .at) r) ⌝ }
 {
-    match map::parse_map(s, c, MapKey::Format, version) {
+    match map::parse_map(s, c, key, version) {
         FieldsRead::Refused(x) => TypedRead::Refused(x),
         FieldsRead::Fields(slots) => {
             let named = slots.id;

@@ -1,7 +1,7 @@
 use Rattle.records.proofs.Definitions.{rows}
 use borrow.Author.Needs.{needs}
-use Rattle.records.proofs.definition.info_count_definition.Statement.{statement}
-use Rattle.records.proofs.definition.info_count_definition.Tie as tie
+use Rattle.records.proofs.definition.info_count_row.Statement.{statement}
+use Rattle.records.proofs.definition.info_count_row.Tie as tie
 
 slice-aggregate-is-listed : tie.Need-slice-aggregate-is-listed
 slice-aggregate-is-listed c = search needs
@@ -51,8 +51,8 @@ returns-5 c = search (rows, needs) depth 9
 returns-6 : tie.Need-returns-6
 returns-6 c = search (rows, needs) depth 9
 
-pub info-count-definition-spec : {M : Type 1} → statement M
-info-count-definition-spec =
+pub info-count-row-spec : {M : Type 1} → statement M
+info-count-row-spec =
     tie.close
     (tie.spec
     slice-aggregate-is-listed

@@ -1,7 +1,7 @@
 use Rattle.records.proofs.Definitions.{rows}
 use borrow.Author.Needs.{needs}
-use Rattle.records.proofs.definition.info_definition.Statement.{statement}
-use Rattle.records.proofs.definition.info_definition.Tie as tie
+use Rattle.records.proofs.definition.format_row.Statement.{statement}
+use Rattle.records.proofs.definition.format_row.Tie as tie
 
 slice-aggregate-is-listed : tie.Need-slice-aggregate-is-listed
 slice-aggregate-is-listed c = search needs
@@ -39,14 +39,14 @@ is-listed-requires-4 c κs = search needs
 returns-4 : tie.Need-returns-4
 returns-4 c = search (rows, needs) depth 9
 
-info-count-definition-requires : tie.Need-info-count-definition-requires
-info-count-definition-requires c κs = search needs
+format-score-row-requires : tie.Need-format-score-row-requires
+format-score-row-requires c κs = search needs
 
 returns-5 : tie.Need-returns-5
 returns-5 c = search (rows, needs) depth 9
 
-pub info-definition-spec : {M : Type 1} → statement M
-info-definition-spec =
+pub format-row-spec : {M : Type 1} → statement M
+format-row-spec =
     tie.close
     (tie.spec
     slice-aggregate-is-listed
@@ -61,5 +61,5 @@ info-definition-spec =
     slice-aggregate-is-listed-4
     is-listed-requires-4
     returns-4
-    info-count-definition-requires
+    format-score-row-requires
     returns-5)

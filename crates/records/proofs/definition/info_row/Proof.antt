@@ -1,7 +1,7 @@
 use Rattle.records.proofs.Definitions.{rows}
 use borrow.Author.Needs.{needs}
-use Rattle.records.proofs.definition.format_score_definition.Statement.{statement}
-use Rattle.records.proofs.definition.format_score_definition.Tie as tie
+use Rattle.records.proofs.definition.info_row.Statement.{statement}
+use Rattle.records.proofs.definition.info_row.Tie as tie
 
 slice-aggregate-is-listed : tie.Need-slice-aggregate-is-listed
 slice-aggregate-is-listed c = search needs
@@ -30,11 +30,23 @@ is-listed-requires-3 c κs = search needs
 returns-3 : tie.Need-returns-3
 returns-3 c = search (rows, needs) depth 9
 
+slice-aggregate-is-listed-4 : tie.Need-slice-aggregate-is-listed-4
+slice-aggregate-is-listed-4 c = search needs
+
+is-listed-requires-4 : tie.Need-is-listed-requires-4
+is-listed-requires-4 c κs = search needs
+
 returns-4 : tie.Need-returns-4
 returns-4 c = search (rows, needs) depth 9
 
-pub format-score-definition-spec : {M : Type 1} → statement M
-format-score-definition-spec =
+info-count-row-requires : tie.Need-info-count-row-requires
+info-count-row-requires c κs = search needs
+
+returns-5 : tie.Need-returns-5
+returns-5 c = search (rows, needs) depth 9
+
+pub info-row-spec : {M : Type 1} → statement M
+info-row-spec =
     tie.close
     (tie.spec
     slice-aggregate-is-listed
@@ -46,4 +58,8 @@ format-score-definition-spec =
     slice-aggregate-is-listed-3
     is-listed-requires-3
     returns-3
-    returns-4)
+    slice-aggregate-is-listed-4
+    is-listed-requires-4
+    returns-4
+    info-count-row-requires
+    returns-5)

@@ -1,7 +1,7 @@
-use Rattle.records.proofs.Typed.{all-typed}
+use Rattle.records.proofs.Needed.{all-typed}
 use borrow.Author.Needs.{needs}
-use Rattle.records.proofs.format.parse_format.Statement.{statement}
-use Rattle.records.proofs.format.parse_format.Tie as tie
+use Rattle.records.proofs.typed.parse_typed.Statement.{statement}
+use Rattle.records.proofs.typed.parse_typed.Tie as tie
 
 parse-map-requires : tie.Need-parse-map-requires
 parse-map-requires c κs = search (all-typed, needs)
@@ -54,8 +54,8 @@ returns-5 c = search (all-typed, needs)
 returns-6 : tie.Need-returns-6
 returns-6 c = search (all-typed, needs)
 
-pub parse-format-spec : {M : Type 1} → statement M
-parse-format-spec =
+pub parse-typed-spec : {M : Type 1} → statement M
+parse-typed-spec =
     tie.close
     (tie.spec
     parse-map-requires

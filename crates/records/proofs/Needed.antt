@@ -14,7 +14,7 @@ use Rattle.values.proofs.Lists.{OnSome}
 use Rattle.values.proofs.Places.{text-by}
 use Rattle.rules.specs.Answer.{first}
 use Rattle.rules.specs.Version.{Version}
-use Rattle.rules.specs.Known.{kindOf, idField, numberField, typeField, descriptionField, rowNamed, nameOf, required}
+use Rattle.rules.specs.Known.{kindOf, numberField, typeField, descriptionField, rowNamed, nameOf}
 use Rattle.rules.specs.Map.{isSome, fieldNamed, meaningOfField, valueNamed, missing}
 use Rattle.rules.specs.Entry.{textNamed}
 use Rattle.rules.proofs.Checks.{on-named}
@@ -22,7 +22,7 @@ use Rattle.rules.proofs.Shows.{Both, named-text, value-means}
 use Rattle.records.specs.Keys.{bytesOf}
 use Rattle.records.specs.Tags.{tagName}
 use Rattle.records.specs.Fields.{textIn, meaningIn}
-use Rattle.records.specs.Maps.{get, slotted, OpenIs, OpensMap, ParsesTyped, Identified, Described}
+use Rattle.records.specs.Maps.{get, slotted, OpenIs, OpensMap, Full, ParsesTyped, Identified, Described}
 use Rattle.records.specs.declared.key.MapKey.{MapKey}
 use Rattle.records.specs.declared.key.MapKey.the-variants as key
 use Rattle.records.specs.declared.refusal.Refusal.{Refusal}
@@ -63,68 +63,61 @@ module _ {v : Version} {k s : Bytes} {at : ℕ} {slots : Slots} (f : Fielded v k
 
 -- The four required fields
 
--- a kind in which they are required
-pub record Full (key : MapKey) : Type 0 where
-  pub needs : required (kindOf (bytesOf key)) ≡ idField ∷ numberField ∷ typeField ∷ descriptionField ∷ []
-  pub numbered : Keeps (bytesOf key) Number
-  pub typed : Keeps (bytesOf key) ValueType
-  pub described : Keeps (bytesOf key) Description
-
 pub full-info : Full key.Info
 unfolding kindOf rowNamed same
-full-info = record { needs = refl; numbered = (refl, refl); typed = (refl, refl); described = (refl, refl) }
+full-info = record { needs = refl; numbered = refl; typed = refl; described = refl }
 
 pub full-format : Full key.Format
 unfolding kindOf rowNamed same
-full-format = record { needs = refl; numbered = (refl, refl); typed = (refl, refl); described = (refl, refl) }
+full-format = record { needs = refl; numbered = refl; typed = refl; described = refl }
 
-module _ (v : Version) (key : MapKey) (full : Full key) (s : Bytes) (c : Cursor) {r : FieldsRead} (o : OpensMap v key s (c .at) r) where
-  pub typed-refused : {x : Refusal} → r ≡ fields.Refused x → ParsesTyped v key s (c .at) (typed.Refused x)
-  typed-refused e = record { is = subst (OpenIs v (bytesOf key) s (c .at)) e (o .is) }
+module _ (v : Version) (key : MapKey) (s : Bytes) (c : Cursor) {r : FieldsRead} (o : OpensMap v key s (c .at) r) where
+  pub typed-refused : {x : Refusal} → r ≡ fields.Refused x → Full key → ParsesTyped v key s (c .at) (typed.Refused x)
+  typed-refused e full = record { is = subst (OpenIs v (bytesOf key) s (c .at)) e (o .is) }
 
   module _ {slots : Slots} (e : r ≡ fields.Fields slots) where
     abbrev f : Fielded v (bytesOf key) s (c .at) slots
     f = fielded v (bytesOf key) s (c .at) slots (subst (OpenIs v (bytesOf key) s (c .at)) e (o .is))
 
-    pub no-id : slots .id ≡ slot.Empty → ParsesTyped v key s (c .at) (typed.Refused MissingId)
-    no-id i = record { is = lacks f (asks-of f (full .needs) ∙ asked-first (isSome (fieldNamed v (bytesOf key) (ascii "ID") (f .fs))) 13 _ (has f Id (keeps-id (bytesOf key)) i)) }
+    pub no-id : slots .id ≡ slot.Empty → Full key → ParsesTyped v key s (c .at) (typed.Refused MissingId)
+    no-id i full = record { is = lacks f (asks-of f (full .needs) ∙ asked-first (isSome (fieldNamed v (bytesOf key) (ascii "ID") (f .fs))) 13 _ (has f Id (keeps-id (bytesOf key)) i)) }
 
     module _ {id : Text} {g : ℕ} (i : slots .id ≡ slot.Filled id g) where
-      past-id : missing v (bytesOf key) (f .fs) ≡ first (map (asks v (bytesOf key) (f .fs)) (numberField ∷ typeField ∷ descriptionField ∷ []))
-      past-id = asks-of f (full .needs) ∙ asked-later (isSome (fieldNamed v (bytesOf key) (ascii "ID") (f .fs))) 14 _ (has f Id (keeps-id (bytesOf key)) i)
+      past-id : Full key → missing v (bytesOf key) (f .fs) ≡ first (map (asks v (bytesOf key) (f .fs)) (numberField ∷ typeField ∷ descriptionField ∷ []))
+      past-id full = asks-of f (full .needs) ∙ asked-later (isSome (fieldNamed v (bytesOf key) (ascii "ID") (f .fs))) 14 _ (has f Id (keeps-id (bytesOf key)) i)
 
-      pub no-number : slots .number ≡ slot.Empty → ParsesTyped v key s (c .at) (typed.Refused MissingNumber)
-      no-number n = record { is = lacks f (past-id ∙ asked-first (isSome (fieldNamed v (bytesOf key) (ascii "Number") (f .fs))) 14 _ (has f Number (full .numbered) n)) }
+      pub no-number : slots .number ≡ slot.Empty → Full key → ParsesTyped v key s (c .at) (typed.Refused MissingNumber)
+      no-number n full = record { is = lacks f (past-id full ∙ asked-first (isSome (fieldNamed v (bytesOf key) (ascii "Number") (f .fs))) 14 _ (has f Number (refl, full .numbered) n)) }
 
       module _ {nr : Text} {h : ℕ} (n : slots .number ≡ slot.Filled nr h) where
-        past-number : missing v (bytesOf key) (f .fs) ≡ first (map (asks v (bytesOf key) (f .fs)) (typeField ∷ descriptionField ∷ []))
-        past-number = past-id ∙ asked-later (isSome (fieldNamed v (bytesOf key) (ascii "Number") (f .fs))) 15 _ (has f Number (full .numbered) n)
+        past-number : Full key → missing v (bytesOf key) (f .fs) ≡ first (map (asks v (bytesOf key) (f .fs)) (typeField ∷ descriptionField ∷ []))
+        past-number full = past-id full ∙ asked-later (isSome (fieldNamed v (bytesOf key) (ascii "Number") (f .fs))) 15 _ (has f Number (refl, full .numbered) n)
 
-        pub no-type : slots .kind ≡ slot.Empty → ParsesTyped v key s (c .at) (typed.Refused MissingType)
-        no-type t = record { is = lacks f (past-number ∙ asked-first (isSome (fieldNamed v (bytesOf key) (ascii "Type") (f .fs))) 15 _ (has f ValueType (full .typed) t)) }
+        pub no-type : slots .kind ≡ slot.Empty → Full key → ParsesTyped v key s (c .at) (typed.Refused MissingType)
+        no-type t full = record { is = lacks f (past-number full ∙ asked-first (isSome (fieldNamed v (bytesOf key) (ascii "Type") (f .fs))) 15 _ (has f ValueType (refl, full .typed) t)) }
 
         module _ {ty : Text} {j : ℕ} (t : slots .kind ≡ slot.Filled ty j) where
-          past-type : missing v (bytesOf key) (f .fs) ≡ first (map (asks v (bytesOf key) (f .fs)) (descriptionField ∷ []))
-          past-type = past-number ∙ asked-later (isSome (fieldNamed v (bytesOf key) (ascii "Type") (f .fs))) 16 _ (has f ValueType (full .typed) t)
+          past-type : Full key → missing v (bytesOf key) (f .fs) ≡ first (map (asks v (bytesOf key) (f .fs)) (descriptionField ∷ []))
+          past-type full = past-number full ∙ asked-later (isSome (fieldNamed v (bytesOf key) (ascii "Type") (f .fs))) 16 _ (has f ValueType (refl, full .typed) t)
 
-          pub no-description : slots .description ≡ slot.Empty → ParsesTyped v key s (c .at) (typed.Refused MissingDescription)
-          no-description d = record { is = lacks f (past-type ∙ asked-first (isSome (fieldNamed v (bytesOf key) (ascii "Description") (f .fs))) 16 _ (has f Description (full .described) d)) }
+          pub no-description : slots .description ≡ slot.Empty → Full key → ParsesTyped v key s (c .at) (typed.Refused MissingDescription)
+          no-description d full = record { is = lacks f (past-type full ∙ asked-first (isSome (fieldNamed v (bytesOf key) (ascii "Description") (f .fs))) 16 _ (has f Description (refl, full .described) d)) }
 
-          pub all-given : {de : Text} {l : ℕ} → slots .description ≡ slot.Filled de l → ParsesTyped v key s (c .at) (typed.Typed id g nr ty)
+          pub all-given : {de : Text} {l : ℕ} → slots .description ≡ slot.Filled de l → Full key → ParsesTyped v key s (c .at) (typed.Typed id g nr ty)
           unfolding first
-          all-given d = record {
+          all-given d full = record {
             is = record {
               fs = f .fs;
-              read = whole f (past-type ∙ asked-later (isSome (fieldNamed v (bytesOf key) (ascii "Description") (f .fs))) 17 [] (has f Description (full .described) d));
+              read = whole f (past-type full ∙ asked-later (isSome (fieldNamed v (bytesOf key) (ascii "Description") (f .fs))) 17 [] (has f Description (refl, full .described) d));
               named = holds f Id (keeps-id (bytesOf key)) i;
               id-is = value-is f Id (keeps-id (bytesOf key)) i;
-              number-is = value-is f Number (full .numbered) n;
-              kind-is = value-is f ValueType (full .typed) t;
-              raw = value-raw f Number (full .numbered) n;
+              number-is = value-is f Number (refl, full .numbered) n;
+              kind-is = value-is f ValueType (refl, full .typed) t;
+              raw = value-raw f Number (refl, full .numbered) n;
             };
           }
 
-pub ruleset all-typed = (typed-refused, no-id, no-number, no-type, no-description, all-given, full-info, full-format)
+pub ruleset all-typed = (typed-refused, no-id, no-number, no-type, no-description, all-given)
 
 -- The kinds without reserved IDs
 

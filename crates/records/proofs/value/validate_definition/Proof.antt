@@ -1,7 +1,7 @@
 use Rattle.records.proofs.Declares.{declared}
 use borrow.Author.Needs.{needs}
-use Rattle.records.proofs.value.validate_info_definition.Statement.{statement}
-use Rattle.records.proofs.value.validate_info_definition.Tie as tie
+use Rattle.records.proofs.value.validate_definition.Statement.{statement}
+use Rattle.records.proofs.value.validate_definition.Tie as tie
 
 lt-requires : tie.Need-lt-requires
 lt-requires c κs = search (declared, needs) depth 9
@@ -12,8 +12,8 @@ returns c = search (declared, needs) depth 9
 part-requires : tie.Need-part-requires
 part-requires c κs = search (declared, needs) depth 9
 
-info-definition-requires : tie.Need-info-definition-requires
-info-definition-requires c κs = search (declared, needs) depth 9
+definition-of-requires : tie.Need-definition-of-requires
+definition-of-requires c κs = search (declared, needs) depth 9
 
 part-requires-2 : tie.Need-part-requires-2
 part-requires-2 c κs = search (declared, needs) depth 9
@@ -27,14 +27,14 @@ is-defined-requires c κs = search (declared, needs) depth 9
 returns-2 : tie.Need-returns-2
 returns-2 c = search (declared, needs) depth 9
 
-pub validate-info-definition-spec : {M : Type 1} → statement M
-validate-info-definition-spec =
+pub validate-definition-spec : {M : Type 1} → statement M
+validate-definition-spec =
     tie.close
     (tie.spec
     lt-requires
     returns
     part-requires
-    info-definition-requires
+    definition-of-requires
     part-requires-2
     part-requires-3
     is-defined-requires

@@ -469,3 +469,42 @@ def form_refusal(form, output):
         if len(line) > LINE_LIMIT:
             return 2, count, start
     return (28 if len(form) > output else 0), 0, 0
+
+
+# Document 02, §11: the cell register
+
+Register = namedtuple('Register', 'number line start entries constants')
+
+WELL = re.compile(rb'W(0[1-9]|[123][0-9]|40)')
+CONSTANT = re.compile(rb'([0-9])\.([0-9][0-9])')
+
+
+def hundredths(k):
+    """A constant in whole hundredths, or None; k: the meaning of K, None where the field is missing."""
+    spelled = k is not None and CONSTANT.fullmatch(k)
+    n = spelled and int(spelled[1] + spelled[2])
+    return n if spelled and 50 <= n <= 200 else None
+
+
+def register(header, imposed=None, room=TABLE):
+    """The forty constants in well order, or none; line and start are 0 where document 02 gives no place."""
+    m, (number, line, start) = run(header, imposed, room)
+    if number:
+        return Register(number, line, start, m.entries, ())
+    if m.version < (4, 3):
+        return Register(37, 0, 0, m.entries, ())
+    starts = [at for at, _ in lines(header)]
+    cells = [(n, r) for n, r in enumerate(m.records) if r.key == b'cell' and r.kind == OTHER_MAP]
+    for n, r in cells:
+        if not WELL.fullmatch(r.known[b'ID']):
+            return Register(38, n + 1, starts[n], m.entries, ())
+    wells = {r.known[b'ID']: (n, r) for n, r in cells}
+    if len(wells) < 40:
+        return Register(39, 0, 0, m.entries, ())
+    constants = []
+    for _, (n, r) in sorted(wells.items()):
+        k = hundredths({f.key: f.value for f in r.fields}.get(b'K'))
+        if k is None:
+            return Register(40, n + 1, starts[n], m.entries, ())
+        constants.append(k)
+    return Register(0, line, start, m.entries, tuple(constants))

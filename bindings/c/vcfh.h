@@ -16,6 +16,12 @@ typedef struct { uint64_t number, line, start, entries; } vcfh_answer;
 /* The same, and the length of the form, 0 if refused. */
 typedef struct { uint64_t number, line, start, entries, length; } vcfh_form;
 
+/* The same as an answer, and the constants of the wells W01 to W40 in whole hundredths, all 0 if refused. */
+typedef struct { uint64_t number, line, start, entries, constants[40]; } vcfh_cells;
+
+/* How many wells differ; then, lowest first, each well's number, 1 to 40, what it had and what it has; 0 past these. */
+typedef struct { uint64_t count, wells[40], before[40], after[40]; } vcfh_differences;
+
 /* number: 0, or 29 where there is nothing to show. start and length: a part of the header, in bytes. */
 typedef struct { uint64_t number, start, length; } vcfh_part;
 
@@ -31,6 +37,13 @@ vcfh_answer vcfh_read(const uint8_t *header, size_t length, uint64_t imposed, ui
    refused. An output of 1,048,575 bytes is never too small. */
 vcfh_form vcfh_house(const uint8_t *header, size_t length, uint64_t imposed, uint32_t major, uint32_t minor,
                      uint64_t *table, size_t words, uint8_t *out, size_t space);
+
+/* Reads a header so, and its cell register: each of the wells W01 to W40 has one cell line, whose K is its constant. */
+vcfh_cells vcfh_register(const uint8_t *header, size_t length, uint64_t imposed, uint32_t major, uint32_t minor,
+                         uint64_t *table, size_t words);
+
+/* The wells in which the constants of two registers differ. */
+vcfh_differences vcfh_compare(vcfh_cells old_ones, vcfh_cells new_ones);
 
 /* The line of an entry, from 0, or a sample's name; its ID, without quotes. */
 vcfh_part vcfh_entry(const uint8_t *header, size_t length, const uint64_t *table, size_t words, uint64_t entry);

@@ -7,6 +7,36 @@ COLUMNS = b"#CHROM\tPOS\tID\tREF\tALT\tQUAL\tFILTER\tINFO"
 PROBE = b"##fileformat=VCFv4.3\n##cell=<ID=W07,K=0.98>\n" + COLUMNS + b"\n"
 
 
+def plate(constant):
+    """A probe header whose well w has the constant that the function gives for w."""
+    cells = b"".join(b"##cell=<ID=W%02d,K=%s>\n" % (w, constant(w)) for w in range(1, 41))
+    return b"##fileformat=VCFv4.3\n" + cells + COLUMNS + b"\n"
+
+
+class Cells(unittest.TestCase):
+    def test_a_register_has_forty_constants(self):
+        register = vcfh.Register(plate(lambda w: b"0.98" if w == 7 else b"1.00"))
+        self.assertEqual(register.constants, tuple(98 if w == 7 else 100 for w in range(1, 41)))
+
+    def test_wells_that_differ_are_listed_with_both_numbers(self):
+        old, new = vcfh.Register(plate(lambda w: b"1.00")), vcfh.Register(plate(lambda w: b"2.00" if w in (3, 40) else b"1.00"))
+        self.assertEqual(old.compare(new), [(3, 100, 200), (40, 100, 200)])
+        self.assertEqual(old.compare(old), [])
+
+    def test_a_factory_line_is_refused_and_so_is_a_missing_well(self):
+        header = plate(lambda w: b"1.00")
+        for data, number, line in (
+            (header.replace(COLUMNS, b'##cell=<ID="W07",K=1.00>\n' + COLUMNS), 21, 42),
+            (header.replace(b"VCFv4.3", b"VCFv4.2"), 37, 0),
+            (header.replace(b"W07", b"w07"), 38, 8),
+            (PROBE, 39, 0),
+            (header.replace(b"W07,K=1.00", b"W07,K=2.01"), 40, 8),
+        ):
+            with self.assertRaises(vcfh.Refused) as caught:
+                vcfh.Register(data)
+            self.assertEqual((caught.exception.number, caught.exception.line), (number, line))
+
+
 class Reading(unittest.TestCase):
     def refused(self, data, version=None):
         with self.assertRaises(vcfh.Refused) as caught:
@@ -62,8 +92,8 @@ class Reading(unittest.TestCase):
         self.assertEqual([entry.fields for entry in header], [[], [], [b"K=1", b'L="2,3"', b'ID="W07"'], []])
 
     def test_every_number_has_its_own_words(self):
-        self.assertEqual(sorted(vcfh.WORDS), list(range(1, 30)))
-        self.assertEqual(len(set(vcfh.WORDS.values())), 29)
+        self.assertEqual(sorted(vcfh.WORDS), [*range(1, 30), *range(37, 41)])
+        self.assertEqual(len(set(vcfh.WORDS.values())), len(vcfh.WORDS))
 
     def test_utf8_is_told_from_other_bytes(self):
         self.assertEqual([vcfh.is_utf8(data) for data in (b"", "Grüße".encode(), b"\xc0\x80", b"\xed\xa0\x80")], [True, True, False, False])

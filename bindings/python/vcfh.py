@@ -26,6 +26,14 @@ class _Form(ctypes.Structure):
     _fields_ = _Answer._fields_ + [("length", ctypes.c_uint64)]
 
 
+class _Register(ctypes.Structure):
+    _fields_ = _Answer._fields_ + [("constants", ctypes.c_uint64 * 40)]
+
+
+class _Differences(ctypes.Structure):
+    _fields_ = [("count", ctypes.c_uint64)] + [(name, ctypes.c_uint64 * 40) for name in ("wells", "old", "new")]
+
+
 class _Part(ctypes.Structure):
     _fields_ = [(name, ctypes.c_uint64) for name in ("number", "start", "length")]
 
@@ -42,6 +50,8 @@ def _library():
         ("vcfh_utf8", ctypes.c_uint64, _BYTES),
         ("vcfh_read", _Answer, _BYTES + _NUMBER + _VERSION + _TABLE),
         ("vcfh_house", _Form, _BYTES + _NUMBER + _VERSION + _TABLE + [ctypes.c_char_p, ctypes.c_size_t]),
+        ("vcfh_register", _Register, _BYTES + _NUMBER + _VERSION + _TABLE),
+        ("vcfh_compare", _Differences, [_Register, _Register]),
         ("vcfh_entry", _Part, _BYTES + _TABLE + _NUMBER),
         ("vcfh_id", _Part, _BYTES + _TABLE + _NUMBER),
         ("vcfh_field", _Part, _BYTES + _TABLE + _NUMBER + _VERSION + _NUMBER),
@@ -122,6 +132,20 @@ def house_form(data, version=None):
     form = ctypes.create_string_buffer(MAX_LENGTH)
     answer, _, _ = _called(_vcfh.vcfh_house, bytes(data), version, form, MAX_LENGTH)
     return form.raw[: answer.length]
+
+
+class Register:
+    """The cell register of a probe header: the constants of W01 to W40 in whole hundredths, in well order."""
+
+    def __init__(self, data, version=None):
+        """Reads the bytes by the version given, such as (4, 3), or else by their own."""
+        self._answer, _, _ = _called(_vcfh.vcfh_register, bytes(data), version)
+        self.constants = tuple(self._answer.constants)
+
+    def compare(self, new):
+        """The wells in which another register differs, lowest first: (well, this one's number, the other's)."""
+        found = _vcfh.vcfh_compare(self._answer, new._answer)
+        return [(found.wells[i], found.old[i], found.new[i]) for i in range(found.count)]
 
 
 def is_utf8(data):

@@ -20,6 +20,24 @@ pub struct Form {
 }
 
 #[repr(C)]
+#[derive(Clone, Copy)]
+pub struct Cells {
+    pub number: u64,
+    pub line: u64,
+    pub start: u64,
+    pub entries: u64,
+    pub constants: [u64; 40],
+}
+
+#[repr(C)]
+pub struct Differences {
+    pub count: u64,
+    pub wells: [u64; 40],
+    pub old: [u64; 40],
+    pub new: [u64; 40],
+}
+
+#[repr(C)]
 pub struct Part {
     pub number: u64,
     pub start: u64,
@@ -40,6 +58,8 @@ extern "C" {
         out: *mut u8,
         space: usize,
     ) -> Form;
+    fn vcfh_register(header: *const u8, length: usize, imposed: u64, major: u32, minor: u32, table: *mut u64, words: usize) -> Cells;
+    fn vcfh_compare(old: Cells, new: Cells) -> Differences;
     fn vcfh_entry(header: *const u8, length: usize, table: *const u64, words: usize, entry: u64) -> Part;
     fn vcfh_id(header: *const u8, length: usize, table: *const u64, words: usize, entry: u64) -> Part;
     fn vcfh_field(header: *const u8, length: usize, table: *const u64, words: usize, entry: u64, major: u32, minor: u32, field: u64) -> Part;
@@ -63,6 +83,16 @@ pub fn house(header: &[u8], imposed: Option<Version>, table: &mut [u64], out: &m
     let (imposed, major, minor) = imposing(imposed);
     let (words, space) = (table.len(), out.len());
     unsafe { vcfh_house(header.as_ptr(), header.len(), imposed, major, minor, table.as_mut_ptr(), words, out.as_mut_ptr(), space) }
+}
+
+pub fn register(header: &[u8], imposed: Option<Version>, table: &mut [u64]) -> Cells {
+    let (imposed, major, minor) = imposing(imposed);
+    unsafe { vcfh_register(header.as_ptr(), header.len(), imposed, major, minor, table.as_mut_ptr(), table.len()) }
+}
+
+pub fn compare(old: [u64; 40], new: [u64; 40]) -> Differences {
+    let cells = |constants| Cells { number: 0, line: 0, start: 0, entries: 0, constants };
+    unsafe { vcfh_compare(cells(old), cells(new)) }
 }
 
 pub fn entry(header: &[u8], table: &[u64], entry: u64) -> Part {

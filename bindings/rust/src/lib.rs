@@ -92,6 +92,37 @@ pub fn house_form(bytes: &[u8], imposed: Option<Version>) -> Result<Vec<u8>, Ref
     Ok(form)
 }
 
+/// The cell register of a probe header: the constants of W01 to W40 in whole hundredths, in well order.
+#[derive(Clone, Copy, Debug, Eq, PartialEq)]
+pub struct Register {
+    pub constants: [u64; 40],
+}
+
+/// A well, 1 to 40, in which two registers differ, and the number that each has.
+#[derive(Clone, Copy, Debug, Eq, PartialEq)]
+pub struct Difference {
+    pub well: u64,
+    pub old: u64,
+    pub new: u64,
+}
+
+impl Register {
+    /// Reads a header, by the version imposed or else by its own, and its register.
+    pub fn read(bytes: &[u8], imposed: Option<Version>) -> Result<Self, Refused> {
+        let answer = ffi::register(bytes, imposed, &mut vec![0; table_words(bytes)]);
+        if answer.number != 0 {
+            return Err(Refused { number: answer.number, line: answer.line, start: answer.start });
+        }
+        Ok(Self { constants: answer.constants })
+    }
+
+    /// The wells in which another register differs from this one, lowest first.
+    pub fn compare(&self, new: &Register) -> Vec<Difference> {
+        let found = ffi::compare(self.constants, new.constants);
+        (0..found.count as usize).map(|i| Difference { well: found.wells[i], old: found.old[i], new: found.new[i] }).collect()
+    }
+}
+
 /// An accepted header.
 #[derive(Clone, Debug)]
 pub struct Header<'h> {

@@ -1,5 +1,5 @@
 //! The library through the safe functions.
-use vcfh::{Header, Kind, Refused, Version};
+use vcfh::{Difference, Header, Kind, Refused, Register, Version};
 
 const COLUMNS: &str = "#CHROM\tPOS\tID\tREF\tALT\tQUAL\tFILTER\tINFO";
 
@@ -94,16 +94,38 @@ fn entry_and_field_are_told_apart() {
 
 #[test]
 fn every_number_has_its_own_words() {
-    let mut words: Vec<&str> = (1..=29).map(|number| Refused { number, line: 0, start: 0 }.words()).collect();
+    let mut words: Vec<&str> = (1..=29).chain(37..=40).map(|number| Refused { number, line: 0, start: 0 }.words()).collect();
     let none = Refused { number: 30, line: 0, start: 0 }.words();
     assert!(!words.contains(&none));
     words.sort();
     words.dedup();
-    assert_eq!(words.len(), 29);
+    assert_eq!(words.len(), 33);
 }
 
 #[test]
 fn utf8_is_told_from_other_bytes() {
     assert!(vcfh::is_utf8("Gr\u{fc}\u{df}e".as_bytes()) && vcfh::is_utf8(b""));
     assert!(!vcfh::is_utf8(b"\xc0\x80") && !vcfh::is_utf8(b"\xed\xa0\x80"));
+}
+
+fn plate(constant: impl Fn(u64) -> &'static str) -> String {
+    let cells: String = (1..=40).map(|w| format!("##cell=<ID=W{w:02},K={}>\n", constant(w))).collect();
+    format!("##fileformat=VCFv4.3\n{cells}{COLUMNS}\n")
+}
+
+#[test]
+fn a_register_has_forty_constants_and_is_compared() {
+    let old = Register::read(plate(|_| "1.00").as_bytes(), None).unwrap();
+    let new = Register::read(plate(|w| if w == 7 { "0.98" } else { "1.00" }).as_bytes(), None).unwrap();
+    assert_eq!(old.constants, [100; 40]);
+    assert_eq!(old.compare(&new), [Difference { well: 7, old: 100, new: 98 }]);
+    assert_eq!(old.compare(&old), []);
+}
+
+#[test]
+fn a_factory_line_is_refused() {
+    let header = plate(|_| "0.98").replace(COLUMNS, &format!("##cell=<ID=W07,K=1.00>\n{COLUMNS}"));
+    let refused = Register::read(header.as_bytes(), None).unwrap_err();
+    assert_eq!((refused.number, refused.line), (21, 42));
+    assert_eq!(Register::read(plate(|_| "2.01").as_bytes(), None).unwrap_err(), Refused { number: 40, line: 2, start: 21 });
 }

@@ -10,9 +10,15 @@ use Rattle.rules.specs.House.{HouseReading}
 use Rattle.rules.specs.Shown.{Part}
 use Rattle.entries.specs.declared.shown.Shown.{Shown}
 use Rattle.entries.specs.declared.shown.Shown.the-variants as shown
+use mathlib.Core.List.{List, map}
+use Rattle.register.specs.Register.{RegisterReading}
+use Rattle.register.specs.Compare.{Difference}
+use Rattle.register.specs.Wells.{filled}
 use Rattle.capi.specs.declared.VcfhAnswer.{VcfhAnswer}
 use Rattle.capi.specs.declared.VcfhForm.{VcfhForm}
 use Rattle.capi.specs.declared.VcfhPart.{VcfhPart}
+use Rattle.capi.specs.declared.VcfhRegister.{VcfhRegister}
+use Rattle.capi.specs.declared.VcfhDifferences.{VcfhDifferences}
 
 abbrev pub flag : Bool → ℕ
 flag true = 1
@@ -41,3 +47,15 @@ partAs shown.Refused = record { number = 29; start = 0; length = 0 }
 abbrev pub Ordered : Shown → Type 0
 Ordered (shown.Part start end) = start ≤ end
 Ordered shown.Refused = Unit {0}
+
+-- the forty constants, all 0 if refused
+abbrev pub registerAs : RegisterReading → VcfhRegister
+registerAs r = record { number = r .number; line = r .line; start = r .start; entries = length (r .entries); constants = filled (r .constants) }
+
+abbrev pub differencesAs : List Difference → VcfhDifferences
+differencesAs ds = record {
+  count = length ds;
+  wells = filled (map (λ (d : Difference). d .well) ds);
+  old = filled (map (λ (d : Difference). d .old) ds);
+  new = filled (map (λ (d : Difference). d .new) ds);
+}

@@ -4,6 +4,8 @@ use header::file_format_option::FileFormatOption;
 use header::parser::Outcome;
 use records::file_format::FileFormat;
 use records::refusal::Refusal;
+use register::compare;
+use register::probe;
 ghost use mathlib.Core.Path.{_≡_};
 ghost use lib.ListN.{length};
 ghost use lib.Seq.{sets};
@@ -14,7 +16,9 @@ ghost use Rattle.rules.specs.House.{house};
 ghost use Rattle.entries.specs.Tables.{room, stored, shownEntry, shownId, shownField};
 ghost use Rattle.header.specs.Verdicts.{imposedOf};
 ghost use Rattle.header.specs.Parsers.{outcomeNumber, readInto};
-ghost use Rattle.capi.specs.Answers.{flag, imposedBy, answerInC, formInC, partOf, partAs, Ordered};
+ghost use Rattle.register.specs.Register.{registerOf};
+ghost use Rattle.register.specs.Compare.{differing};
+ghost use Rattle.capi.specs.Answers.{flag, imposedBy, answerInC, formInC, partOf, partAs, Ordered, registerAs, differencesAs};
 
 // Document 01's number, 0 if accepted; the line and its start; how many entries the table keeps.
 #[repr(C)]
@@ -41,6 +45,25 @@ pub struct VcfhPart {
     pub number: u64,
     pub start: u64,
     pub length: u64,
+}
+
+// The same as a read answer, and the constants of W01 to W40 in whole hundredths, all 0 if refused.
+#[repr(C)]
+pub struct VcfhRegister {
+    pub number: u64,
+    pub line: u64,
+    pub start: u64,
+    pub entries: u64,
+    pub constants: [u64; 40],
+}
+
+// How many wells differ; then, lowest first, each well's number, what it had and what it has; 0 past these.
+#[repr(C)]
+pub struct VcfhDifferences {
+    pub count: u64,
+    pub wells: [u64; 40],
+    pub old: [u64; 40],
+    pub new: [u64; 40],
 }
 
 // `imposed` 0: no version is imposed.
@@ -146,6 +169,52 @@ pub extern "C" fn vcfh_house(
         start: answer.start as u64,
         entries: answer.entries as u64,
         length: answer.length as u64,
+    }
+}
+
+// Reads a header into the table, and its cell register.
+#[no_mangle]
+pub extern "C" fn vcfh_register(
+    header: &[u8],
+    imposed: u64,
+    major: u32,
+    minor: u32,
+    table: &mut [u64],
+) -> VcfhRegister
+    ensures answer { λ r. ⌜ r ≡ registerAs (registerOf limits (imposedBy imposed major minor) (room (now (table .entry))) (now (header .entry))) ⌝ }
+    ensures table { λ _. ⌜ now (table .exit) ≡ stored (now (table .entry)) 0
+        (readInto limits (imposedBy imposed major minor) (now (table .entry)) (now (header .entry)) .entries) ⌝ }
+{
+    let version = imposed_by(imposed, major, minor);
+    let answer = probe::register(header, version, table);
+    let outcome = answer.outcome;
+    let number = outcome.number();
+    let constants = answer.constants;
+    VcfhRegister {
+        number,
+        line: answer.line as u64,
+        start: answer.start as u64,
+        entries: answer.entries as u64,
+        constants,
+    }
+}
+
+// The wells in which the constants of two registers differ, whatever they are.
+#[no_mangle]
+pub extern "C" fn vcfh_compare(old: VcfhRegister, new: VcfhRegister) -> VcfhDifferences
+    ensures { λ r. ⌜ r ≡ differencesAs (differing 1 (old .constants) (new .constants)) ⌝ }
+{
+    let had = old.constants;
+    let has = new.constants;
+    let found = compare::compare(had, has);
+    let wells = found.wells;
+    let before = found.old;
+    let after = found.new;
+    VcfhDifferences {
+        count: found.count as u64,
+        wells,
+        old: before,
+        new: after,
     }
 }
 

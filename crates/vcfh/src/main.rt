@@ -1,12 +1,13 @@
-// What bin/vcfh runs. Two arguments make a case: check, entries or house, and a file's name (`-`: standard input).
+// What bin/vcfh runs. Two arguments make a case: a command, and a file's name (`-`: standard input). The command cells-new compares
+// with the file of the cells-old before it.
 // A refusal always says on standard error why, and nothing else is written there: bin/vcfh goes by that.
+mod cells;
 mod listing;
 mod say;
 mod why;
 
 use header::file_format_option::FileFormatOption;
 use header::parser::Outcome;
-use records::refusal::Refusal;
 use values::bytes;
 ghost use mathlib.Core.Path.{_≡_};
 ghost use lib.ListN.{length};
@@ -41,12 +42,6 @@ fn header_end(s: &[u8]) -> usize {
     s.len()
 }
 
-fn say_refused(refusal: Refusal, line: usize, start: usize) {
-    let mut out = io::buffer();
-    let end = report::put_refused(&mut out, 0, refusal.number(), line, start);
-    say::text(2, bytes::part(&out, 0, end));
-}
-
 fn check(header: &[u8], table: &mut [u64]) {
     let answer = header::parser::read(header, FileFormatOption::None, table);
     let mut out = io::buffer();
@@ -65,7 +60,7 @@ fn entries(header: &[u8], table: &mut [u64]) {
     match outcome {
         Outcome::Accepted(_, _) => listing::say_entries(header, table, answer.entries),
         Outcome::Refused(refusal) => {
-            say_refused(refusal, answer.line, answer.start);
+            say::refused(refusal.number(), answer.line, answer.start);
             why::say_why(refusal, header, answer.start);
         }
     }
@@ -77,7 +72,7 @@ fn house(header: &[u8], table: &mut [u64], form: &mut [u8]) {
     match outcome {
         Outcome::Accepted(_, _) => say::text(1, bytes::part(form, 0, answer.length)),
         Outcome::Refused(refusal) => {
-            say_refused(refusal, answer.line, answer.start);
+            say::refused(refusal.number(), answer.line, answer.start);
             why::say_why_no_form(refusal, header, answer.start);
         }
     }
@@ -90,8 +85,29 @@ fn run(command: &[u8], header: &[u8], table: &mut [u64], form: &mut [u8]) {
         entries(header, table);
     } else if bytes::same(command, b"house") {
         house(header, table, form);
+    } else if bytes::same(command, b"cells") {
+        cells::say_plate(header, table);
+    } else if bytes::same(command, b"cells-list") {
+        cells::say_list(header, table);
     } else {
         say::text(2, b"vcfh: no such command\n");
+    }
+}
+
+// `had` are the constants that a comparison goes from.
+fn run_after(
+    command: &[u8],
+    header: &[u8],
+    table: &mut [u64],
+    form: &mut [u8],
+    had: &mut [u64; 40],
+) {
+    if bytes::same(command, b"cells-old") {
+        cells::keep(header, table, had);
+    } else if bytes::same(command, b"cells-new") {
+        cells::say_changes(header, table, had);
+    } else {
+        run(command, header, table, form);
     }
 }
 
@@ -103,7 +119,14 @@ fn open(name: &[u8]) -> i32 {
 }
 
 // One case: the arguments of these numbers.
-fn case(buffer: &mut [u8], table: &mut [u64], form: &mut [u8], command: usize, file: usize) {
+fn case(
+    buffer: &mut [u8],
+    table: &mut [u64],
+    form: &mut [u8],
+    had: &mut [u64; 40],
+    command: usize,
+    file: usize,
+) {
     let mut name = io::buffer();
     let name_end = os::arg(file, &mut name);
     let fd = open(&name[..name_end]);
@@ -116,18 +139,20 @@ fn case(buffer: &mut [u8], table: &mut [u64], form: &mut [u8], command: usize, f
     let mut word = io::buffer();
     let word_end = os::arg(command, &mut word);
     let end = header_end(bytes::part(buffer, 0, n));
-    run(&word[..word_end], bytes::part(buffer, 0, end), table, form);
+    let header = bytes::part(buffer, 0, end);
+    run_after(&word[..word_end], header, table, form, had);
 }
 
 fn main() {
     let mut buffer = header_buffer();
     let mut table = entry_table();
     let mut form = header_buffer();
+    let mut had = [0u64; 40];
     let cases = os::arg_count() / 2;
     let mut k = 0;
     while k < cases {
         let i = 2 * k;
-        case(&mut buffer, &mut table, &mut form, i + 1, i + 2);
+        case(&mut buffer, &mut table, &mut form, &mut had, i + 1, i + 2);
         k += 1;
     }
 }

@@ -6,6 +6,18 @@ pub fn text(fd: i32, s: &[u8]) {
     io::write_all(fd, s);
 }
 
+pub fn numbered(fd: i32, label: &[u8], n: u64) {
+    io::write_all(fd, label);
+    io::print_decimal(fd, n);
+}
+
+// The line of a refusal, on standard error.
+pub fn refused(number: u64, line: usize, start: usize) {
+    let mut out = io::buffer();
+    let end = report::put_refused(&mut out, 0, number, line, start);
+    text(2, bytes::part(&out, 0, end));
+}
+
 fn is_control(b: u8) -> bool {
     if b < 0x20 {
         return true;

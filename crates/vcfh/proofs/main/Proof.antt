@@ -6,10 +6,10 @@ use Rattle.vcfh.proofs.main.Statement.{statement}
 use Rattle.vcfh.proofs.main.Tie as tie
 
 abbrev Inv-loop : tie.InvT-loop
-Inv-loop buffer₀ table₀ form₀ cases k₀ buffer table form k = (1048577 ≡ length buffer) × ((524288 ≡ length table) × (1048577 ≡ length form))
+Inv-loop buffer₀ table₀ form₀ had₀ cases k₀ buffer table form had k = (1048577 ≡ length buffer) × ((524288 ≡ length table) × (1048577 ≡ length form))
 
 abbrev μ-loop : tie.MeasureT-loop
-μ-loop buffer₀ table₀ form₀ cases k₀ buffer table form k = cases - k
+μ-loop buffer₀ table₀ form₀ had₀ cases k₀ buffer table form had k = cases - k
 
 header-buffer-requires : tie.Need-header-buffer-requires Inv-loop μ-loop
 header-buffer-requires c κs = search needs

@@ -1,0 +1,328 @@
+-- What a register call answers is what the definitions say, and it is one answer. Assumes nothing.
+use Prim.Native.Nat.{ℕ, _-_, _≤_, _<_}
+use native.Mathlib.Omega.{arith}
+use mathlib.Core.Path.{_≡_, refl, sym, ap, ap₂, subst, _∙_}
+use mathlib.Core.Bool.{Bool, true, false}
+use mathlib.Core.List.{List, [], _∷_, tail}
+use mathlib.Core.Option.{Option, none, some}
+use lib.Dec.{eqb}
+use lib.ListN.{length, getD}
+use Rattle.values.specs.Bytes.{Bytes}
+use Rattle.values.proofs.Lists.{some-is, none-not}
+use Rattle.rules.specs.Sizes.{limits}
+use Rattle.rules.specs.Version.{Version, v4-3, earlier, inForce}
+use Rattle.rules.specs.Record.{Record}
+use Rattle.rules.specs.Columns.{Columns}
+use Rattle.rules.specs.Reading.{State, empty, ready, done, Reading}
+use Rattle.rules.proofs.House.{accepted-good}
+use Rattle.rules.proofs.Trace.{header-traced}
+use Rattle.rules.proofs.Stands.{reading-stands, reading-fits, accepted-short}
+use Rattle.records.specs.Formats.{versionOf}
+use Rattle.records.specs.Refusals.{number}
+use Rattle.records.specs.declared.refusal.Refusal.{Refusal}
+use Rattle.records.specs.declared.refusal.Refusal.the-variants as refusal
+use Rattle.records.proofs.Refusals.{number-suc, number-injective}
+use Rattle.records.specs.declared.file_format.FileFormat.{FileFormat}
+use Rattle.entries.specs.Tables.{room, firstEntries, entriesIn, entryIn}
+use Rattle.entries.proofs.Stored.{entries-stored, first-packed}
+use Rattle.header.specs.declared.parser.Outcome.the-variants as outcome
+use Rattle.header.specs.declared.parser.ReadAnswer.{ReadAnswer}
+use Rattle.header.specs.Parsers.{AnswerMeaning, outcomeNumber as readNumber, outcomeSays, answerMeans, acceptedIn, readingMeans, readInto, ReadCall}
+use Rattle.register.specs.declared.probe.RegisterOutcome.{RegisterOutcome}
+use Rattle.register.specs.declared.probe.RegisterOutcome.the-variants.{Accepted as Whole, Unread, EarlyVersion, UnknownCell, MissingWell, InvalidConstant}
+use Rattle.register.specs.declared.probe.RegisterRead.{RegisterRead}
+use Rattle.register.specs.declared.cells.Plate.{Plate}
+use Rattle.register.specs.Cells.{Cell, cells, firstOf, wells}
+use Rattle.register.specs.Register.{refused, absent, faultIn, faultOf, faulty, constants, settled, counted, known, accepted, unread, inState, byNumber, registerOf}
+use Rattle.register.specs.Wells.{cellsIn, tableCells, lineOf, Lines, StartTold, MissingTold, filled, plateOf, ConstantsTold}
+use Rattle.register.specs.Answers.{outcomeNumber, ToldRegister, toldRegister, tellsRegister, refusedAs, AnswersKnown, AnswersRegister, RegisterCall}
+use Rattle.register.proofs.Listed.{Seen, there, gone, see, faulty-here, faulty-later}
+use Rattle.register.proofs.Walk.{from-entry}
+use Rattle.register.proofs.Bridge.{header-cells}
+use Rattle.rules.specs.Claims.{Sized, SizedOption, Accepted}
+
+-- what answers the needs of `number`
+pub number-told : (o : RegisterOutcome) {x : Refusal} → o ≡ Unread x → {r : ℕ} → r ≡ number x → r ≡ outcomeNumber o
+number-told o e q = q ∙ rw e
+
+-- The refusals, one by one
+
+counted-absent : (g : Reading) (cs : List Cell) → absent wells cs ≡ true → counted g cs ≡ refused 39 0 0 (g .entries)
+unfolding counted
+counted-absent g cs e = rw (e, counted)
+
+counted-there : (g : Reading) (cs : List Cell) → absent wells cs ≡ false → counted g cs ≡ settled g cs (faulty wells cs)
+unfolding counted
+counted-there g cs e = rw (e, counted)
+
+-- a fault is the cell of a well
+fault-cell : (ws : List ℕ) (cs : List Cell) {c : Cell} → faulty ws cs ≡ some c → (w : ℕ) × (firstOf w cs ≡ some c)
+unfolding faulty
+fault-cell [] cs e = none-not e
+fault-cell (w ∷ ws) cs {c} e = elim (see (faultOf (firstOf w cs))) [
+  | there d q ↦ (w, cell (firstOf w cs) (q ∙ ap some (some-is (sym (faulty-here w ws cs q) ∙ e))))
+  | gone q ↦ fault-cell ws cs (sym (faulty-later w ws cs q) ∙ e)
+]
+  where
+    cell : (o : Option Cell) → faultOf o ≡ some c → o ≡ some c
+    cell none q = none-not q
+    cell (some d) q = one (d .constant) q
+      where
+        one : (k : Option ℕ) → faultIn d k ≡ some c → some d ≡ some c
+        one none q = q
+        one (some n) q = none-not q
+
+-- what the reading told
+module _ (a : ReadAnswer) (g : Reading) (e : answerMeans a ≡ readingMeans g) where
+  line-is : a .line ≡ g .line
+  line-is = ap (λ (x : AnswerMeaning). x .line) e
+
+  start-is : a .start ≡ g .start
+  start-is = ap (λ (x : AnswerMeaning). x .start) e
+
+  entries-are : a .entries ≡ length (g .entries)
+  entries-are = ap (λ (x : AnswerMeaning). x .entries) e
+
+  -- a refusal of the register's own
+  refusal-told : (x : RegisterOutcome) (line start : ℕ) {r : RegisterRead} → r ≡ refusedAs x line start (a .entries) → toldRegister r ≡ tellsRegister (refused (outcomeNumber x) line start (g .entries))
+  refusal-told x line start q = ap toldRegister q ∙ ap (λ (n : ℕ). record { number = outcomeNumber x; line = line; start = start; entries = n; constants = filled [] }) entries-are
+
+-- what answers the needs of `answer_known`
+module _ (a : ReadAnswer) (h : Bytes) (t : List ℕ) {ls : List ℕ} {q : Bool} (m : MissingTold ls q) where
+  pub known-missing : q ≡ true → {r : RegisterRead} → r ≡ refusedAs MissingWell 0 0 (a .entries) → AnswersKnown a h t ls r
+  known-missing f i = record { is = λ l g e. refusal-told a g e MissingWell 0 0 i ∙ ap tellsRegister (sym (counted-absent g (tableCells h t) (sym (m .is h t l) ∙ f))) }
+
+  module _ (f : q ≡ false) {p : Plate} (k : ConstantsTold h t ls p) where
+    abbrev cs : List Cell
+    cs = tableCells h t
+
+    settles : Lines cs ls → (g : Reading) → counted g cs ≡ settled g cs (faulty wells cs)
+    settles l g = counted-there g cs (sym (m .is h t l) ∙ f)
+
+    plate-is : Lines cs ls → p ≡ plateOf cs (faulty wells cs)
+    plate-is l = k .is l (sym (m .is h t l) ∙ f)
+
+    pub known-fault : 0 < p .fault → {s : ℕ} → StartTold t (p .fault) s → {r : RegisterRead} → r ≡ refusedAs InvalidConstant (p .fault) s (a .entries) → AnswersKnown a h t ls r
+    known-fault z {s} y {r} i = record {
+      is = λ l g e. go g e (plate-is l) (settles l g) (see (faulty wells cs));
+    }
+      where
+        go : (g : Reading) → answerMeans a ≡ readingMeans g → p ≡ plateOf cs (faulty wells cs) → counted g cs ≡ settled g cs (faulty wells cs) → Seen (faulty wells cs) → toldRegister r ≡ tellsRegister (counted g cs)
+        go g e u w (gone n) = let b : p .fault ≡ 0 = ap (λ (x : Plate). x .fault) (u ∙ ap (plateOf cs) n) in absurd (omega arith)
+        go g e u w (there c n) =
+            let b : p .fault ≡ c .line = ap (λ (x : Plate). x .fault) (u ∙ ap (plateOf cs) n) in
+            let d = fault-cell wells cs n in
+            let o = from-entry h t (d .0) (d .1) in
+            let s-is : s ≡ c .start = y .is z ∙ ap (λ (x : ℕ). entryIn t (x - 1) .start) b ∙ sym (o .start) in
+            refusal-told a g e InvalidConstant (p .fault) s i ∙ ap₂ (λ (x y : ℕ). tellsRegister (refused 40 x y (g .entries))) b s-is ∙ ap tellsRegister (sym (w ∙ ap (settled g cs) n))
+
+    pub known-whole : p .fault ≤ 0 → AnswersKnown a h t ls (record { outcome = Whole; line = a .line; start = a .start; entries = a .entries; constants = p .constants })
+    known-whole z = record {
+      is = λ l g e. go g e l (plate-is l) (settles l g) (see (faulty wells cs));
+    }
+      where
+        go : (g : Reading) → answerMeans a ≡ readingMeans g → Lines cs ls → p ≡ plateOf cs (faulty wells cs) → counted g cs ≡ settled g cs (faulty wells cs) → Seen (faulty wells cs)
+            → toldRegister (record { outcome = Whole; line = a .line; start = a .start; entries = a .entries; constants = p .constants }) ≡ tellsRegister (counted g cs)
+        go g e l u w (there c n) =
+            let b : p .fault ≡ c .line = ap (λ (x : Plate). x .fault) (u ∙ ap (plateOf cs) n) in
+            let d = fault-cell wells cs n in
+            absurd (omega (arith, from-entry h t (d .0) (d .1) .above, b))
+        go g e l u w (gone n) =
+            let b : p .constants ≡ filled (constants wells cs) = ap (λ (x : Plate). x .constants) (u ∙ ap (plateOf cs) n) in
+            rw (line-is a g e, start-is a g e, entries-are a g e, b) (ap tellsRegister (sym (w ∙ ap (settled g cs) n)))
+
+pub ruleset knowns = (known-missing, known-fault, known-whole)
+
+-- what answers the needs of `answer_accepted`
+accepted-early : (g : Reading) (v : Version) (cs : List Cell) → earlier v v4-3 ≡ true → accepted g v cs ≡ refused 37 0 0 (g .entries)
+unfolding accepted
+accepted-early g v cs e = rw (e, accepted)
+
+accepted-recent : (g : Reading) (v : Version) (cs : List Cell) → earlier v v4-3 ≡ false → accepted g v cs ≡ known g cs (firstOf 0 cs)
+unfolding accepted
+accepted-recent g v cs e = rw (e, accepted)
+
+module _ (a : ReadAnswer) (f : FileFormat) (i : f .major < 4294967296) (j : f .minor < 4294967296) (h : Bytes) (t : List ℕ) {q : Bool} (u : q ≡ earlier (versionOf f) v4-3) where
+  sized-is : Sized (versionOf f)
+  sized-is = record { major = omega arith; minor = omega arith }
+
+  pub early-version : q ≡ true → {r : RegisterRead} → r ≡ refusedAs EarlyVersion 0 0 (a .entries) → AnswersRegister a f (tableCells h t) r
+  early-version y k = record {
+    is = λ g e. refusal-told a g e EarlyVersion 0 0 k ∙ ap tellsRegister (sym (accepted-early g (versionOf f) (tableCells h t) (sym u ∙ y)));
+    sized = sized-is;
+  }
+
+  module _ (y : q ≡ false) {ls : List ℕ} (l : Lines (tableCells h t) ls) where
+    abbrev those : List Cell
+    those = tableCells h t
+
+    recent : (g : Reading) {o : Option Cell} → firstOf 0 those ≡ o → accepted g (versionOf f) those ≡ known g those o
+    recent g n = accepted-recent g (versionOf f) those (sym u ∙ y) ∙ ap (known g those) n
+
+    pub unknown-cell : 0 < getD ls 0 0 → {s : ℕ} → StartTold t (getD ls 0 0) s → {r : RegisterRead} → r ≡ refusedAs UnknownCell (getD ls 0 0) s (a .entries) → AnswersRegister a f those r
+    unknown-cell z {s} x {r} k = record { is = λ g e. go g e (see (firstOf 0 those)); sized = sized-is }
+      where
+        go : (g : Reading) → answerMeans a ≡ readingMeans g → Seen (firstOf 0 those) → toldRegister r ≡ tellsRegister (accepted g (versionOf f) those)
+        go g e (gone n) = let b : getD ls 0 0 ≡ 0 = l .each 0 (omega arith) ∙ ap lineOf n in absurd (omega arith)
+        go g e (there c n) =
+            let b : getD ls 0 0 ≡ c .line = l .each 0 (omega arith) ∙ ap lineOf n in
+            let s-is : s ≡ c .start = x .is z ∙ ap (λ (m : ℕ). entryIn t (m - 1) .start) b ∙ sym (from-entry h t 0 n .start) in
+            refusal-told a g e UnknownCell (getD ls 0 0) s k ∙ ap₂ (λ (x y : ℕ). tellsRegister (refused 38 x y (g .entries))) b s-is ∙ ap tellsRegister (sym (recent g n))
+
+    pub known-cells : getD ls 0 0 ≤ 0 → {r : RegisterRead} → AnswersKnown a h t ls r → AnswersRegister a f those r
+    known-cells z {r} k = record { is = λ g e. go g e (see (firstOf 0 those)); sized = sized-is }
+      where
+        go : (g : Reading) → answerMeans a ≡ readingMeans g → Seen (firstOf 0 those) → toldRegister r ≡ tellsRegister (accepted g (versionOf f) those)
+        go g e (gone n) = k .is l g e ∙ ap tellsRegister (sym (recent g n))
+        go g e (there c n) =
+            let b : getD ls 0 0 ≡ c .line = l .each 0 (omega arith) ∙ ap lineOf n in
+            absurd (omega (arith, from-entry h t 0 n .above, b))
+
+pub ruleset accepteds = (early-version, unknown-cell, known-cells)
+
+-- what answers the needs of `register`
+
+-- an accepted reading: the version in force is that of the answer
+record Read (r : Reading) (v : Version) : Type 0 where
+  records : List Record
+  columns : Columns
+  accepted-is : Accepted v records columns r
+
+was-accepted : (r : Reading) (v : Version) {n : ℕ} → r .number ≡ 0 → acceptedIn (r .number) (r .state) ≡ some (v, n) → Read r v
+was-accepted r v {n} z e = go (r .state) refl (rw z at e)
+  where
+    go : (s : State) → r .state ≡ s → acceptedIn 0 s ≡ some (v, n) → Read r v
+    go empty q a = none-not a
+    go (ready w rs) q a = none-not a
+    go (done w rs c) q a = record {
+      records = rs;
+      columns = c;
+      accepted-is = record { number = z; state = q ∙ ap (λ (u : Version). done u rs c) (ap (λ (x : Version × ℕ). x .0) (some-is a)) };
+    }
+
+-- the version in force is of 32-bit parts, so the imposed one is
+sized-imposed : (imposed : Option Version) (own : Version) {v : Version} → v ≡ inForce imposed own → Sized v → SizedOption imposed
+sized-imposed none own e s = tt
+sized-imposed (some w) own e s = rw e at s
+
+module _ (imposed : Option Version) (h : Bytes) (t₀ : List ℕ) (a : ReadAnswer) {t : List ℕ} (call : ReadCall limits imposed h t₀ a t) where
+  abbrev read : Reading
+  read = readInto limits imposed t₀ h
+
+  module _ {x : Refusal} (o : a .outcome ≡ outcome.Refused x) where
+    number-is : read .number ≡ number x
+    number-is = sym (ap (λ (y : AnswerMeaning). y .number) (call .answer)) ∙ ap readNumber o
+
+    refused-is : registerOf limits imposed (room t₀) h ≡ unread read
+    unfolding registerOf
+    refused-is = let n = number-suc x in ap (byNumber read) (number-is ∙ n .1)
+
+    pub refused-call : {r : RegisterRead} → r ≡ refusedAs (Unread x) (a .line) (a .start) (a .entries) → RegisterCall limits imposed h t₀ r t
+    refused-call q = record {
+      answer = ap toldRegister q ∙ rw (line-is a read (call .answer), start-is a read (call .answer), entries-are a read (call .answer), ← number-is) (ap tellsRegister (sym refused-is));
+      table = call .table;
+    }
+
+  module _ {f : FileFormat} {n : ℕ} (o : a .outcome ≡ outcome.Accepted f n) {kept : List ℕ} (ek : kept ≡ firstEntries t (a .entries)) where
+    number-zero : read .number ≡ 0
+    number-zero = sym (ap (λ (y : AnswerMeaning). y .number) (call .answer)) ∙ ap readNumber o
+
+    was-read : Read read (versionOf f)
+    was-read = was-accepted read (versionOf f) number-zero (sym (ap (λ (y : AnswerMeaning). y .accepted) (call .answer)) ∙ ap outcomeSays o)
+
+    the-entries : entriesIn kept ≡ read .entries
+    the-entries =
+        let n : length (read .entries) ≡ a .entries = sym (entries-are a read (call .answer)) in
+        ap entriesIn (ek ∙ ap (λ (x : List ℕ). firstEntries x (a .entries)) (call .table))
+        ∙ entries-stored limits first-packed (accepted-short limits imposed (room t₀) h number-zero) t₀ (read .entries) n (subst (λ (k : ℕ). k ≤ room t₀) n (reading-fits limits imposed (room t₀) h)) (reading-stands limits h imposed (room t₀))
+
+    the-cells : Sized (versionOf f) → tableCells h kept ≡ cells (versionOf f) 2 (tail (read .entries)) (was-read .records)
+    the-cells s =
+        let d = header-traced limits imposed (room t₀) h (was-read .accepted-is) in
+        let g = accepted-good limits imposed (room t₀) h (sized-imposed imposed (d .own) (d .force) s) (was-read .accepted-is) in
+        ap (cellsIn h 1) the-entries ∙ header-cells limits imposed h (versionOf f) (was-read .records) (was-read .columns) (read .entries) d (g .0 .0 .good)
+
+    pub accepted-call : {r : RegisterRead} → AnswersRegister a f (tableCells h kept) r → RegisterCall limits imposed h t₀ r t
+    unfolding registerOf
+    accepted-call w = record {
+      answer = w .is read (call .answer) ∙ ap (λ (cs : List Cell). tellsRegister (accepted read (versionOf f) cs)) (the-cells (w .sized))
+          ∙ ap tellsRegister (sym (ap (byNumber read) number-zero ∙ ap (inState read) (was-read .accepted-is .state)));
+      table = call .table;
+    }
+
+pub ruleset registers = (refused-call, accepted-call)
+
+-- One answer
+
+-- document 01's numbers
+number-small : (x : Refusal) → (1 ≤ number x) × (number x ≤ 29)
+number-small refusal.ExpectedEof = omega arith
+number-small refusal.LineTooLong = omega arith
+number-small refusal.InvalidUtf8 = omega arith
+number-small refusal.MissingFileFormat = omega arith
+number-small refusal.UnexpectedFileFormat = omega arith
+number-small refusal.InvalidRecord = omega arith
+number-small refusal.InvalidFileFormat = omega arith
+number-small refusal.InvalidMap = omega arith
+number-small refusal.InvalidField = omega arith
+number-small refusal.DuplicateTag = omega arith
+number-small refusal.InvalidNumber = omega arith
+number-small refusal.InvalidType = omega arith
+number-small refusal.InvalidInteger = omega arith
+number-small refusal.MissingId = omega arith
+number-small refusal.MissingNumber = omega arith
+number-small refusal.MissingType = omega arith
+number-small refusal.MissingDescription = omega arith
+number-small refusal.DefinitionMismatch = omega arith
+number-small refusal.DuplicateId = omega arith
+number-small refusal.MixedValues = omega arith
+number-small refusal.DuplicateOtherId = omega arith
+number-small refusal.InvalidHeader = omega arith
+number-small refusal.DuplicateSampleName = omega arith
+number-small refusal.TableFull = omega arith
+number-small refusal.Empty = omega arith
+number-small refusal.MissingHeader = omega arith
+number-small refusal.HeaderTooLong = omega arith
+number-small refusal.FormTooLong = omega arith
+number-small refusal.InvalidEntry = omega arith
+
+-- the outcome of a number that is none of them
+abbrev plain : ℕ → RegisterOutcome
+plain n = elim (eqb n 0) [
+  | true ↦ Whole
+  | false ↦ elim (eqb n 37) [ true ↦ EarlyVersion | false ↦ elim (eqb n 38) [ true ↦ UnknownCell | false ↦ elim (eqb n 39) [ true ↦ MissingWell | false ↦ InvalidConstant ] ] ]
+]
+
+data Sort (x : RegisterOutcome) : Type 0 where
+  unread-one : (r : Refusal) → x ≡ Unread r → Sort x
+  own : plain (outcomeNumber x) ≡ x → (1 ≤ outcomeNumber x → 37 ≤ outcomeNumber x) → Sort x
+
+sort : (x : RegisterOutcome) → Sort x
+sort Whole = own refl (λ l. absurd (omega arith))
+sort (Unread r) = unread-one r refl
+sort EarlyVersion = own refl (λ l. omega arith)
+sort UnknownCell = own refl (λ l. omega arith)
+sort MissingWell = own refl (λ l. omega arith)
+sort InvalidConstant = own refl (λ l. omega arith)
+
+apart : {A : Type 0} (x : RegisterOutcome) (r : Refusal) → (1 ≤ outcomeNumber x → 37 ≤ outcomeNumber x) → outcomeNumber x ≡ number r → A
+apart x r b e = let n = number-small r in absurd (omega (arith, n .0, n .1, b (omega (arith, n .0, e)), e))
+
+outcome-one : (x y : RegisterOutcome) → outcomeNumber x ≡ outcomeNumber y → x ≡ y
+outcome-one x y e = elim (sort x) [
+  | own p b ↦ elim (sort y) [ own q c ↦ sym p ∙ ap plain e ∙ q | unread-one r i ↦ apart x r b (e ∙ ap outcomeNumber i) ]
+  | unread-one r i ↦ elim (sort y) [
+    | own q c ↦ apart y r c (sym e ∙ ap outcomeNumber i)
+    | unread-one s j ↦ i ∙ ap Unread (number-injective r s (sym (ap outcomeNumber i) ∙ e ∙ ap outcomeNumber j)) ∙ sym j
+  ]
+]
+
+-- two answers that tell the same are the same, so what `register` promises is one answer
+pub told-register-injective : (a b : RegisterRead) → toldRegister a ≡ toldRegister b → a ≡ b
+told-register-injective a b e =
+    let o = outcome-one (a .outcome) (b .outcome) (ap (λ (x : ToldRegister). x .number) e) in
+    let l = ap (λ (x : ToldRegister). x .line) e in
+    let s = ap (λ (x : ToldRegister). x .start) e in
+    let n = ap (λ (x : ToldRegister). x .entries) e in
+    let k = ap (λ (x : ToldRegister). x .constants) e in
+    rw (o, l, s, n, k)

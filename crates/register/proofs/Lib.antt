@@ -1,0 +1,9 @@
+pub mod Spelling
+pub mod Raw
+pub mod Taken
+pub mod Listed
+pub mod Walk
+pub mod Bridge
+pub mod Answers
+pub mod Differ
+pub mod Calibration

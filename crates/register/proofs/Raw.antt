@@ -1,0 +1,116 @@
+-- A well's ID and a constant are spelled without escapes, so that a text between quotes may be looked at as it stands. Assumes nothing.
+use Prim.Native.Nat.{ℕ, _≤_}
+use native.Mathlib.Omega.{arith}
+use mathlib.Core.Path.{_≡_, refl, sym, ap, _∙_}
+use mathlib.Core.Bool.{Bool, true, false}
+use mathlib.Core.List.{[], _∷_}
+use lib.Dec.{eqb}
+use lib.ListN.{length}
+use borrow.Author.Tests.{eqb-true, ne-eqb}
+use Rattle.values.specs.Bytes.{Bytes, is, any, same}
+use Rattle.values.specs.Value.{isEscapable, unescaped, meaning}
+use Rattle.values.proofs.Tests.{pass, fail, test, and-l, and-r, or-l, or-r, both}
+use Rattle.values.proofs.Sames.{same-sound, same-self}
+use Rattle.register.specs.Cells.{byteAt, isDigit, spellsWell, wellOf, spellsConstant, hundredths}
+use Rattle.register.proofs.Spelling.{three, between, spelled, no-well-of, constant-no}
+
+-- no byte that a backslash may stand before
+abbrev pub Plain : Bytes → Type 0
+Plain t = any isEscapable t ≡ false
+
+-- beside a plain text, an escapable byte differs at once
+escapable-differs : (b : ℕ) (t x : Bytes) → isEscapable b ≡ true → Plain x → same (b ∷ t) x ≡ false
+unfolding same any
+escapable-differs b t [] e p = refl
+escapable-differs b t (c ∷ x) e p = elim (test (eqb b c)) [
+  | pass q ↦ both (rw (← eqb-true b c q) e) (or-l (isEscapable c) (any isEscapable x) p)
+  | fail q ↦ rw (q, same)
+]
+
+backslash : (b : ℕ) → is 92 b ≡ true → isEscapable b ≡ true
+backslash b e = rw (eqb-true b 92 e)
+
+after-backslash : (t x : Bytes) → Plain x → same (unescaped true t) x ≡ false
+unfolding unescaped
+after-backslash [] x p = escapable-differs 92 [] x refl p
+after-backslash (b ∷ t) x p = elim (test (isEscapable b)) [
+  | pass e ↦ rw (unescaped, e) (escapable-differs b (unescaped false t) x e p)
+  | fail e ↦ rw (unescaped, e) (escapable-differs 92 (b ∷ unescaped false t) x refl p)
+]
+
+-- a text and its meaning are alike beside a plain text
+same-raw : (t x : Bytes) → Plain x → same (unescaped false t) x ≡ same t x
+unfolding unescaped same any
+same-raw [] x p = refl
+same-raw (b ∷ t) [] p = elim (test (is 92 b)) [
+  | pass e ↦ rw (unescaped, e) (after-backslash t [] p)
+  | fail e ↦ rw (unescaped, e)
+]
+same-raw (b ∷ t) (c ∷ x) p = elim (test (is 92 b)) [
+  | pass e ↦ rw (unescaped, e) (after-backslash t (c ∷ x) p ∙ sym (escapable-differs b t (c ∷ x) (backslash b e) p))
+  | fail e ↦ elim (test (eqb b c)) [
+    | pass q ↦ rw (unescaped, e, same, q) (same-raw t x (or-r (isEscapable c) (any isEscapable x) p))
+    | fail q ↦ rw (unescaped, e, same, q)
+  ]
+]
+
+-- a test that plain texts alone pass: a text that passes is its own meaning, and so is one whose meaning passes
+module _ {A : Type 0} (f : Bytes → A) (p : Bytes → Bool) (clean : (t : Bytes) → p t ≡ true → Plain t) (off : (s t : Bytes) → p s ≡ false → p t ≡ false → f s ≡ f t) where
+  pub raw : (q : Bool) (t : Bytes) → f (meaning q t) ≡ f t
+  raw false t = refl
+  raw true t = elim (test (p t)) [
+    | pass e ↦ ap f (same-sound (unescaped false t) t (same-raw t t (clean t e) ∙ same-self t))
+    | fail e ↦ elim (test (p (unescaped false t))) [
+      | pass g ↦ let m = unescaped false t in both (rw (same-sound t m (sym (same-raw t m (clean m g)) ∙ same-self m)) g) e
+      | fail g ↦ off (unescaped false t) t g e
+    ]
+  ]
+
+-- bytes from `.` to `W` are plain
+plain-byte : (b : ℕ) → 46 ≤ b → b ≤ 87 → isEscapable b ≡ false
+plain-byte b l m = rw (ne-eqb b 34 (λ e. omega arith), ne-eqb b 92 (λ e. omega arith))
+
+well-plain : (t : Bytes) → spellsWell t ≡ true → Plain t
+unfolding any
+well-plain t e =
+    let s = spelled t e in
+    rw (three t (s .long))
+    (rw (
+      plain-byte (byteAt t 0) (omega (arith, s .first)) (omega (arith, s .first)),
+      plain-byte (byteAt t 1) (omega (arith, s .tens .0)) (omega (arith, s .tens .1)),
+      plain-byte (byteAt t 2) (omega (arith, s .ones .0)) (omega (arith, s .ones .1)),
+    ))
+
+-- a well's ID by its meaning and as it stands
+pub well-raw : (q : Bool) (t : Bytes) → wellOf (meaning q t) ≡ wellOf t
+well-raw q t = raw wellOf spellsWell well-plain (λ s t a b. no-well-of s a ∙ sym (no-well-of t b)) q t
+
+four : (t : Bytes) → length t ≡ 4 → t ≡ byteAt t 0 ∷ byteAt t 1 ∷ byteAt t 2 ∷ byteAt t 3 ∷ []
+four [] e = absurd (omega arith)
+four (a ∷ []) e = absurd (omega arith)
+four (a ∷ b ∷ []) e = absurd (omega arith)
+four (a ∷ b ∷ c ∷ []) e = absurd (omega arith)
+four (a ∷ b ∷ c ∷ d ∷ []) e = refl
+four (a ∷ b ∷ c ∷ d ∷ x ∷ t) e = absurd (omega arith)
+
+constant-plain : (t : Bytes) → spellsConstant t ≡ true → Plain t
+unfolding any spellsConstant
+constant-plain t e =
+    let p = and-r (eqb (length t) 4) _ e in
+    let d = and-r (eqb (byteAt t 1) 46) _ p in
+    let g = and-r (isDigit (byteAt t 0)) _ d in
+    let point = eqb-true (byteAt t 1) 46 (and-l (eqb (byteAt t 1) 46) _ p) in
+    let x = between 48 57 (byteAt t 0) (and-l (isDigit (byteAt t 0)) _ d) in
+    let y = between 48 57 (byteAt t 2) (and-l (isDigit (byteAt t 2)) _ g) in
+    let z = between 48 57 (byteAt t 3) (and-r (isDigit (byteAt t 2)) _ g) in
+    rw (four t (eqb-true (length t) 4 (and-l (eqb (length t) 4) _ e)))
+    (rw (
+      plain-byte (byteAt t 0) (omega (arith, x .0)) (omega (arith, x .1)),
+      plain-byte (byteAt t 1) (omega (arith, point)) (omega (arith, point)),
+      plain-byte (byteAt t 2) (omega (arith, y .0)) (omega (arith, y .1)),
+      plain-byte (byteAt t 3) (omega (arith, z .0)) (omega (arith, z .1)),
+    ))
+
+-- a constant likewise
+pub constant-raw : (q : Bool) (t : Bytes) → hundredths (meaning q t) ≡ hundredths t
+constant-raw q t = raw hundredths spellsConstant constant-plain (λ s t a b. constant-no s a ∙ sym (constant-no t b)) q t

@@ -1,0 +1,117 @@
+// The cell register of a header: forty constants, or why there is none.
+use crate::cells;
+use entries::table;
+use header::file_format_option::FileFormatOption;
+use header::parser;
+use header::parser::Outcome;
+use header::parser::ReadAnswer;
+use records::file_format::FileFormat;
+use records::refusal::Refusal;
+ghost use mathlib.Core.Path.{_≡_};
+ghost use Rattle.rules.specs.Sizes.{limits};
+ghost use Rattle.header.specs.Verdicts.{imposedOf};
+ghost use Rattle.register.specs.Wells.{tableCells};
+ghost use Rattle.register.specs.Answers.{outcomeNumber, refusedAs, AnswersKnown, AnswersRegister, RegisterCall};
+
+// What a header's register is found to be. Unread: the header itself is refused.
+pub enum RegisterOutcome {
+    Accepted,
+    Unread(Refusal),
+    EarlyVersion,
+    UnknownCell,
+    MissingWell,
+    InvalidConstant,
+}
+
+impl RegisterOutcome {
+    pub fn number(self) -> u64
+        ensures { λ r. ⌜ r ≡ outcomeNumber self ⌝ }
+    {
+        match self {
+            RegisterOutcome::Accepted => 0,
+            RegisterOutcome::Unread(x) => x.number(),
+            RegisterOutcome::EarlyVersion => 37,
+            RegisterOutcome::UnknownCell => 38,
+            RegisterOutcome::MissingWell => 39,
+            RegisterOutcome::InvalidConstant => 40,
+        }
+    }
+}
+
+// The outcome, the line and its start, how many entries the table keeps, and the constants of W01 to W40 in whole hundredths, all 0 if
+// the register is refused.
+pub struct RegisterRead {
+    pub outcome: RegisterOutcome,
+    pub line: usize,
+    pub start: usize,
+    pub entries: usize,
+    pub constants: [u64; 40],
+}
+
+fn refuse(outcome: RegisterOutcome, line: usize, start: usize, entries: usize) -> RegisterRead
+    ensures { λ r. ⌜ r ≡ refusedAs outcome line start entries ⌝ }
+{
+    RegisterRead {
+        outcome,
+        line,
+        start,
+        entries,
+        constants: [0; 40],
+    }
+}
+
+// The register of cells whose IDs are all wells'; `lines` are those of the wells.
+fn answer_known(h: &[u8], kept: &[u64], read: ReadAnswer, lines: &[usize; 41]) -> RegisterRead
+    ensures { λ r. ⌜ AnswersKnown read (now (h .entry)) (now (kept .entry)) (now (lines .entry)) r ⌝ }
+{
+    let entries = read.entries;
+    if cells::is_missing(lines) {
+        return refuse(RegisterOutcome::MissingWell, 0, 0, entries);
+    }
+    let plate = cells::constants(h, kept, lines);
+    let fault = plate.fault;
+    if 0 < fault {
+        let start = cells::start_of(kept, fault);
+        return refuse(RegisterOutcome::InvalidConstant, fault, start, entries);
+    }
+    let constants = plate.constants;
+    RegisterRead {
+        outcome: RegisterOutcome::Accepted,
+        line: read.line,
+        start: read.start,
+        entries,
+        constants,
+    }
+}
+
+// The register of a header that was read and accepted; `kept` are its entries.
+fn answer_accepted(h: &[u8], kept: &[u64], read: ReadAnswer, version: FileFormat) -> RegisterRead
+    ensures { λ r. ⌜ AnswersRegister read version (tableCells (now (h .entry)) (now (kept .entry))) r ⌝ }
+{
+    let entries = read.entries;
+    if version.lt(FileFormat::V4_3) {
+        return refuse(RegisterOutcome::EarlyVersion, 0, 0, entries);
+    }
+    let lines = cells::cell_lines(h, kept);
+    let unknown = lines[0];
+    if 0 < unknown {
+        let start = cells::start_of(kept, unknown);
+        return refuse(RegisterOutcome::UnknownCell, unknown, start, entries);
+    }
+    answer_known(h, kept, read, &lines)
+}
+
+// Reads a header into the table, as `read` does, and its register.
+pub fn register(header: &[u8], imposed: FileFormatOption, table: &mut [u64]) -> RegisterRead
+    ensures { λ r. ⌜ RegisterCall limits (imposedOf imposed) (now (header .entry)) (now (table .entry)) r (now (table .exit)) ⌝ }
+{
+    let read = parser::read(header, imposed, table);
+    let entries = read.entries;
+    let outcome = read.outcome;
+    match outcome {
+        Outcome::Refused(x) => refuse(RegisterOutcome::Unread(x), read.line, read.start, entries),
+        Outcome::Accepted(version, _) => {
+            answer_accepted(header, table::kept(table, entries), read, version)
+        }
+    }
+}

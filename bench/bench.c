@@ -1,4 +1,5 @@
-/* Reads one header over and over, by htslib or by vcfh, or writes its house form: bench hts|read|house FILE TIMES.
+/* Reads one header over and over, by htslib or by vcfh, or writes its house form or its dictionaries:
+   bench hts|read|house|dictionaries FILE TIMES.
    Prints the best round's nanoseconds for one header. */
 #include <stdio.h>
 #include <stdlib.h>
@@ -14,6 +15,7 @@ static char header[SIZE + 1];
 static size_t length;
 static uint64_t table[WORDS];
 static uint8_t form[SIZE];
+static uint64_t strings[SIZE / 8], contigs[SIZE / 8];
 
 static int hts(void) {
 #ifdef HTS
@@ -34,6 +36,10 @@ static int house(void) {
     return vcfh_house((const uint8_t *)header, length, 0, 0, 0, table, WORDS, form, SIZE).number == 0;
 }
 
+static int dictionaries(void) {
+    return vcfh_dictionaries((const uint8_t *)header, length, 0, 0, 0, table, WORDS, strings, SIZE / 8, contigs, SIZE / 8).number == 0;
+}
+
 static double now(void) {
     struct timespec t;
     clock_gettime(CLOCK_MONOTONIC, &t);
@@ -45,7 +51,8 @@ int main(int count, char **words) {
     FILE *file = fopen(words[2], "rb");
     if (!file) return 2;
     length = fread(header, 1, SIZE, file);
-    int (*call)(void) = strcmp(words[1], "hts") == 0 ? hts : strcmp(words[1], "house") == 0 ? house : read_header;
+    int (*call)(void) = strcmp(words[1], "hts") == 0 ? hts : strcmp(words[1], "house") == 0 ? house
+                        : strcmp(words[1], "dictionaries") == 0 ? dictionaries : read_header;
     long times = atol(words[3]);
     double best = 1e300;
     for (int round = 0; round < (times ? ROUNDS : 0); round++) {

@@ -22,6 +22,9 @@ typedef struct { uint64_t number, line, start, entries, constants[40]; } vcfh_ce
 /* How many wells differ; then, lowest first, each well's number, 1 to 40, what it had and what it has; 0 past these. */
 typedef struct { uint64_t count, wells[40], before[40], after[40]; } vcfh_differences;
 
+/* The same, and how many pairs were written of strings and of contigs, 0 if refused. */
+typedef struct { uint64_t number, line, start, entries, strings, contigs; } vcfh_numbers;
+
 /* number: 0, or 29 where there is nothing to show. start and length: a part of the header, in bytes. */
 typedef struct { uint64_t number, start, length; } vcfh_part;
 
@@ -44,6 +47,13 @@ vcfh_cells vcfh_register(const uint8_t *header, size_t length, uint64_t imposed,
 
 /* The wells in which the constants of two registers differ. */
 vcfh_differences vcfh_compare(vcfh_cells old_ones, vcfh_cells new_ones);
+
+/* Reads a header so and writes the two dictionaries of BCF: FILTER, INFO and FORMAT IDs, and contigs. A pair is the number of the
+   entry at which an ID first stands, and the ID's number; PASS is 0 and, where it is not written, not listed. Nothing is written to
+   strings and contigs if it is refused. Two words for each line are never too few. */
+vcfh_numbers vcfh_dictionaries(const uint8_t *header, size_t length, uint64_t imposed, uint32_t major, uint32_t minor,
+                               uint64_t *table, size_t words, uint64_t *strings, size_t string_words,
+                               uint64_t *contigs, size_t contig_words);
 
 /* The line of an entry, from 0, or a sample's name; its ID, without quotes. */
 vcfh_part vcfh_entry(const uint8_t *header, size_t length, const uint64_t *table, size_t words, uint64_t entry);

@@ -58,6 +58,13 @@ class Reading(unittest.TestCase):
         with self.assertRaises(vcfh.Refused):
             vcfh.house_form(b"")
 
+    def test_dictionaries_number_strings_and_contigs(self):
+        lines = b"##FILTER=<ID=q,Description=x>\n##contig=<ID=c>\n##FORMAT=<ID=q,Number=1,Type=String,Description=x>\n##FILTER=<ID=PASS,Description=x>\n"
+        self.assertEqual(vcfh.dictionaries(b"##fileformat=VCFv4.3\n" + lines + COLUMNS), ([(1, 1), (4, 0)], [(2, 0)]))
+        with self.assertRaises(vcfh.Refused) as caught:
+            vcfh.dictionaries(b"##fileformat=VCFv4.3\n##contig=<ID=a,IDX=1>\n##contig=<ID=b>\n" + COLUMNS)
+        self.assertEqual((caught.exception.number, caught.exception.line), (34, 0))
+
     def test_samples_follow_the_column_line(self):
         header = vcfh.Header(b"##fileformat=VCFv4.3\n" + COLUMNS + b"\tFORMAT\tNA1\t\tNA2")
         self.assertEqual([entry.line for entry in header if entry.kind == "sample"], [b"NA1", b"", b"NA2"])
@@ -92,7 +99,7 @@ class Reading(unittest.TestCase):
         self.assertEqual([entry.fields for entry in header], [[], [], [b"K=1", b'L="2,3"', b'ID="W07"'], []])
 
     def test_every_number_has_its_own_words(self):
-        self.assertEqual(sorted(vcfh.WORDS), [*range(1, 30), *range(37, 41)])
+        self.assertEqual(sorted(vcfh.WORDS), [*range(1, 30), *range(34, 41)])
         self.assertEqual(len(set(vcfh.WORDS.values())), len(vcfh.WORDS))
 
     def test_utf8_is_told_from_other_bytes(self):

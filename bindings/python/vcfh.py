@@ -34,6 +34,10 @@ class _Differences(ctypes.Structure):
     _fields_ = [("count", ctypes.c_uint64)] + [(name, ctypes.c_uint64 * 40) for name in ("wells", "old", "new")]
 
 
+class _Dictionaries(ctypes.Structure):
+    _fields_ = _Answer._fields_ + [("strings", ctypes.c_uint64), ("contigs", ctypes.c_uint64)]
+
+
 class _Part(ctypes.Structure):
     _fields_ = [(name, ctypes.c_uint64) for name in ("number", "start", "length")]
 
@@ -52,6 +56,7 @@ def _library():
         ("vcfh_house", _Form, _BYTES + _NUMBER + _VERSION + _TABLE + [ctypes.c_char_p, ctypes.c_size_t]),
         ("vcfh_register", _Register, _BYTES + _NUMBER + _VERSION + _TABLE),
         ("vcfh_compare", _Differences, [_Register, _Register]),
+        ("vcfh_dictionaries", _Dictionaries, _BYTES + _NUMBER + _VERSION + _TABLE + _TABLE + _TABLE),
         ("vcfh_entry", _Part, _BYTES + _TABLE + _NUMBER),
         ("vcfh_id", _Part, _BYTES + _TABLE + _NUMBER),
         ("vcfh_field", _Part, _BYTES + _TABLE + _NUMBER + _VERSION + _NUMBER),
@@ -146,6 +151,15 @@ class Register:
         """The wells in which another register differs, lowest first: (well, this one's number, the other's)."""
         found = _vcfh.vcfh_compare(self._answer, new._answer)
         return [(found.wells[i], found.old[i], found.new[i]) for i in range(found.count)]
+
+
+def dictionaries(data, version=None):
+    """The two dictionaries of BCF, strings and contigs: each a list of (entry number, ID number), for each ID at its first line."""
+    data = bytes(data)
+    words = 2 * (data.count(b"\n") + 1)
+    slices = [(ctypes.c_uint64 * words)() for _ in range(2)]
+    answer, _, _ = _called(_vcfh.vcfh_dictionaries, data, version, slices[0], words, slices[1], words)
+    return tuple([(pairs[2 * n], pairs[2 * n + 1]) for n in range(count)] for pairs, count in zip(slices, (answer.strings, answer.contigs)))
 
 
 def is_utf8(data):

@@ -20,6 +20,16 @@ pub struct Form {
 }
 
 #[repr(C)]
+pub struct Numbers {
+    pub number: u64,
+    pub line: u64,
+    pub start: u64,
+    pub entries: u64,
+    pub strings: u64,
+    pub contigs: u64,
+}
+
+#[repr(C)]
 #[derive(Clone, Copy)]
 pub struct Cells {
     pub number: u64,
@@ -58,6 +68,19 @@ extern "C" {
         out: *mut u8,
         space: usize,
     ) -> Form;
+    fn vcfh_dictionaries(
+        header: *const u8,
+        length: usize,
+        imposed: u64,
+        major: u32,
+        minor: u32,
+        table: *mut u64,
+        words: usize,
+        strings: *mut u64,
+        string_words: usize,
+        contigs: *mut u64,
+        contig_words: usize,
+    ) -> Numbers;
     fn vcfh_register(header: *const u8, length: usize, imposed: u64, major: u32, minor: u32, table: *mut u64, words: usize) -> Cells;
     fn vcfh_compare(old: Cells, new: Cells) -> Differences;
     fn vcfh_entry(header: *const u8, length: usize, table: *const u64, words: usize, entry: u64) -> Part;
@@ -105,4 +128,23 @@ pub fn id(header: &[u8], table: &[u64], entry: u64) -> Part {
 
 pub fn field(header: &[u8], table: &[u64], entry: u64, version: Version, field: u64) -> Part {
     unsafe { vcfh_field(header.as_ptr(), header.len(), table.as_ptr(), table.len(), entry, version.major, version.minor, field) }
+}
+
+pub fn dictionaries(header: &[u8], imposed: Option<Version>, table: &mut [u64], strings: &mut [u64], contigs: &mut [u64]) -> Numbers {
+    let (imposed, major, minor) = imposing(imposed);
+    unsafe {
+        vcfh_dictionaries(
+            header.as_ptr(),
+            header.len(),
+            imposed,
+            major,
+            minor,
+            table.as_mut_ptr(),
+            table.len(),
+            strings.as_mut_ptr(),
+            strings.len(),
+            contigs.as_mut_ptr(),
+            contigs.len(),
+        )
+    }
 }

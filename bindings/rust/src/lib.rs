@@ -92,6 +92,26 @@ pub fn house_form(bytes: &[u8], imposed: Option<Version>) -> Result<Vec<u8>, Ref
     Ok(form)
 }
 
+/// The two dictionaries of BCF: the entry at which an ID first stands, and the ID's number.
+#[derive(Clone, Debug, Eq, PartialEq)]
+pub struct Dictionaries {
+    /// FILTER, INFO and FORMAT IDs; PASS is 0 and, where it is not written, not listed.
+    pub strings: Vec<(u64, u64)>,
+    pub contigs: Vec<(u64, u64)>,
+}
+
+/// The dictionaries of a header.
+pub fn dictionaries(bytes: &[u8], imposed: Option<Version>) -> Result<Dictionaries, Refused> {
+    let words = table_words(bytes);
+    let (mut strings, mut contigs) = (vec![0; words], vec![0; words]);
+    let answer = ffi::dictionaries(bytes, imposed, &mut vec![0; words], &mut strings, &mut contigs);
+    if answer.number != 0 {
+        return Err(Refused { number: answer.number, line: answer.line, start: answer.start });
+    }
+    let pairs = |words: &[u64], count: u64| words.chunks(2).take(count as usize).map(|pair| (pair[0], pair[1])).collect();
+    Ok(Dictionaries { strings: pairs(&strings, answer.strings), contigs: pairs(&contigs, answer.contigs) })
+}
+
 /// The cell register of a probe header: the constants of W01 to W40 in whole hundredths, in well order.
 #[derive(Clone, Copy, Debug, Eq, PartialEq)]
 pub struct Register {

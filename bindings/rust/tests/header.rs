@@ -39,6 +39,15 @@ fn headers_of_one_meaning_have_one_house_form() {
 }
 
 #[test]
+fn dictionaries_number_strings_and_contigs() {
+    let filters = "##FILTER=<ID=q,Description=x>\n##contig=<ID=c>\n##FILTER=<ID=PASS,Description=x>\n";
+    let found = vcfh::dictionaries(format!("##fileformat=VCFv4.3\n{filters}{COLUMNS}").as_bytes(), None).unwrap();
+    assert_eq!((found.strings, found.contigs), (vec![(1, 1), (3, 0)], vec![(2, 0)]));
+    let mixed = format!("##fileformat=VCFv4.3\n##contig=<ID=a,IDX=1>\n##contig=<ID=b>\n{COLUMNS}");
+    assert_eq!(vcfh::dictionaries(mixed.as_bytes(), None).unwrap_err(), Refused { number: 34, line: 0, start: 0 });
+}
+
+#[test]
 fn samples_follow_the_column_line() {
     let bytes = format!("##fileformat=VCFv4.3\n{COLUMNS}\tFORMAT\tNA1\t\tNA2");
     let header = Header::read(bytes.as_bytes(), None).unwrap();
@@ -94,12 +103,12 @@ fn entry_and_field_are_told_apart() {
 
 #[test]
 fn every_number_has_its_own_words() {
-    let mut words: Vec<&str> = (1..=29).chain(37..=40).map(|number| Refused { number, line: 0, start: 0 }.words()).collect();
+    let mut words: Vec<&str> = (1..=29).chain(34..=40).map(|number| Refused { number, line: 0, start: 0 }.words()).collect();
     let none = Refused { number: 30, line: 0, start: 0 }.words();
     assert!(!words.contains(&none));
     words.sort();
     words.dedup();
-    assert_eq!(words.len(), 33);
+    assert_eq!(words.len(), 36);
 }
 
 #[test]

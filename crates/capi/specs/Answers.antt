@@ -1,13 +1,17 @@
 -- The rules' answers as structs of numbers. Assumes nothing.
-use Prim.Native.Nat.{ℕ, _-_, _≤_}
+use Prim.Native.Nat.{ℕ, _-_, _/_, _≤_}
 use mathlib.Core.Bool.{Bool, true, false}
+use mathlib.Core.List.{List}
 use mathlib.Core.Option.{Option, none, some}
 use lib.Dec.{eqb}
 use lib.ListN.{length}
+use Rattle.values.specs.Bytes.{Bytes}
+use Rattle.rules.specs.Sizes.{limits}
 use Rattle.rules.specs.Version.{Version, version}
 use Rattle.rules.specs.Reading.{Reading}
 use Rattle.rules.specs.House.{HouseReading}
 use Rattle.rules.specs.Shown.{Part}
+use Rattle.entries.specs.Tables.{room}
 use Rattle.entries.specs.declared.shown.Shown.{Shown}
 use Rattle.entries.specs.declared.shown.Shown.the-variants as shown
 use mathlib.Core.List.{List, map}
@@ -16,6 +20,8 @@ use Rattle.register.specs.Compare.{Difference}
 use Rattle.register.specs.Wells.{filled}
 use Rattle.capi.specs.declared.VcfhAnswer.{VcfhAnswer}
 use Rattle.capi.specs.declared.VcfhForm.{VcfhForm}
+use Rattle.capi.specs.declared.VcfhDictionaries.{VcfhDictionaries}
+use Rattle.dictionary.specs.Dictionary.{Dictionaries, dictionaries}
 use Rattle.capi.specs.declared.VcfhPart.{VcfhPart}
 use Rattle.capi.specs.declared.VcfhRegister.{VcfhRegister}
 use Rattle.capi.specs.declared.VcfhDifferences.{VcfhDifferences}
@@ -34,6 +40,20 @@ answerInC r = record { number = r .number; line = r .line; start = r .start; ent
 -- of a reading, and of the form of what was read
 abbrev pub formInC : Reading → HouseReading → VcfhForm
 formInC r f = record { number = f .number; line = f .line; start = f .start; entries = length (r .entries); length = length (f .form) }
+
+-- the dictionaries of a header that is read into a table, with slices for strings and contigs
+abbrev pub dictionariesIn : Option Version → Bytes → List ℕ → List ℕ → List ℕ → Dictionaries
+dictionariesIn imposed h t s c = dictionaries limits imposed (room t) (length s) (length c) h
+
+abbrev pub dictionariesOf : Reading → Dictionaries → VcfhDictionaries
+dictionariesOf r d = record {
+  number = d .number;
+  line = d .line;
+  start = d .start;
+  entries = length (r .entries);
+  strings = length (d .strings) / 2;
+  contigs = length (d .contigs) / 2;
+}
 
 -- nothing to show is refusal 29
 abbrev pub partOf : Option Part → VcfhPart

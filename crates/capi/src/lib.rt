@@ -18,7 +18,7 @@ ghost use Rattle.header.specs.Verdicts.{imposedOf};
 ghost use Rattle.header.specs.Parsers.{outcomeNumber, readInto};
 ghost use Rattle.register.specs.Register.{registerOf};
 ghost use Rattle.register.specs.Compare.{differing};
-ghost use Rattle.capi.specs.Answers.{flag, imposedBy, answerInC, formInC, partOf, partAs, Ordered, registerAs, differencesAs};
+ghost use Rattle.capi.specs.Answers.{flag, imposedBy, answerInC, formInC, dictionariesIn, dictionariesOf, partOf, partAs, Ordered, registerAs, differencesAs};
 
 // Document 01's number, 0 if accepted; the line and its start; how many entries the table keeps.
 #[repr(C)]
@@ -37,6 +37,17 @@ pub struct VcfhForm {
     pub start: u64,
     pub entries: u64,
     pub length: u64,
+}
+
+// The same, and how many pairs were written of strings and of contigs, 0 if refused.
+#[repr(C)]
+pub struct VcfhDictionaries {
+    pub number: u64,
+    pub line: u64,
+    pub start: u64,
+    pub entries: u64,
+    pub strings: u64,
+    pub contigs: u64,
 }
 
 // Number 0 and a part of the header, or number 29 and no part.
@@ -169,6 +180,40 @@ pub extern "C" fn vcfh_house(
         start: answer.start as u64,
         entries: answer.entries as u64,
         length: answer.length as u64,
+    }
+}
+
+// Reads a header into the table and writes both dictionaries of BCF, pairs of an entry's number and its ID's number.
+#[no_mangle]
+pub extern "C" fn vcfh_dictionaries(
+    header: &[u8],
+    imposed: u64,
+    major: u32,
+    minor: u32,
+    table: &mut [u64],
+    strings: &mut [u64],
+    contigs: &mut [u64],
+) -> VcfhDictionaries
+    ensures answer { λ r. ⌜ r ≡ dictionariesOf (readInto limits (imposedBy imposed major minor) (now (table .entry)) (now (header .entry)))
+        (dictionariesIn (imposedBy imposed major minor) (now (header .entry)) (now (table .entry)) (now (strings .entry)) (now (contigs .entry))) ⌝ }
+    ensures table { λ _. ⌜ now (table .exit) ≡ stored (now (table .entry)) 0
+        (readInto limits (imposedBy imposed major minor) (now (table .entry)) (now (header .entry)) .entries) ⌝ }
+    ensures strings { λ _. ⌜ now (strings .exit) ≡ sets (now (strings .entry)) 0
+        (dictionariesIn (imposedBy imposed major minor) (now (header .entry)) (now (table .entry)) (now (strings .entry)) (now (contigs .entry)) .strings) ⌝ }
+    ensures contigs { λ _. ⌜ now (contigs .exit) ≡ sets (now (contigs .entry)) 0
+        (dictionariesIn (imposedBy imposed major minor) (now (header .entry)) (now (table .entry)) (now (strings .entry)) (now (contigs .entry)) .contigs) ⌝ }
+{
+    let version = imposed_by(imposed, major, minor);
+    let answer = dictionary::string_maps::dictionaries(header, version, table, strings, contigs);
+    let outcome = answer.outcome;
+    let number = outcome.number();
+    VcfhDictionaries {
+        number,
+        line: answer.line as u64,
+        start: answer.start as u64,
+        entries: answer.entries as u64,
+        strings: answer.strings as u64,
+        contigs: answer.contigs as u64,
     }
 }
 

@@ -1,6 +1,7 @@
 // Replays recorded cases. Each argument names a file of them, a line a case: its name, what is asked, the input and what must
 // come, parted by tabs and escaped. A case that comes out otherwise is named, with what came; each file's cases are counted.
 mod calls;
+mod dictionaries;
 mod forms;
 mod library;
 mod reads;
@@ -40,6 +41,9 @@ fn answer(asked: &[u8], input: &[u8], form: &mut [u8], out: &mut [u8]) -> usize 
     }
     if bytes::same(what, b"show") {
         return calls::put(out, input, asked);
+    }
+    if bytes::same(what, b"dictionaries") {
+        return dictionaries::put(out, input, asked);
     }
     if bytes::same(what, b"register") {
         return registers::put(out, input, asked);

@@ -62,7 +62,7 @@ fn put_answer(out: &mut [u8], answer: ReadAnswer) -> usize {
 }
 
 // The words from `start` to `end`, in hex.
-fn put_words(out: &mut [u8], at: usize, table: &[u64], start: usize, end: usize) -> usize {
+pub fn put_words(out: &mut [u8], at: usize, table: &[u64], start: usize, end: usize) -> usize {
     let mut next = at;
     let mut i = start;
     while i < end {

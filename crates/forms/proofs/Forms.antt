@@ -54,7 +54,7 @@ name-same v k field name i p = elim (test (same (nameOf v k field) name)) [
   ]
 ]
 
-named-keyed : (v : Version) (k name : Bytes) (fs : List Field) → same name (ascii "ID") ≡ false → same name (ascii "Child") || same name (ascii "Derived") ≡ false
+pub named-keyed : (v : Version) (k name : Bytes) (fs : List Field) → same name (ascii "ID") ≡ false → same name (ascii "Child") || same name (ascii "Derived") ≡ false
     → fieldNamed v k name fs ≡ fieldKeyed name fs
 unfolding fieldNamed fieldKeyed
 named-keyed v k name [] i p = refl

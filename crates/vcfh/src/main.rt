@@ -3,6 +3,7 @@
 // A refusal always says on standard error why, and nothing else is written there: bin/vcfh goes by that.
 mod cells;
 mod listing;
+mod numbers;
 mod say;
 mod why;
 
@@ -66,6 +67,13 @@ fn entries(header: &[u8], table: &mut [u64]) {
     }
 }
 
+// A header that is not read is refused as the listing of its entries is.
+fn dictionary(header: &[u8], table: &mut [u64]) {
+    if !numbers::say_numbers(header, table) {
+        entries(header, table);
+    }
+}
+
 fn house(header: &[u8], table: &mut [u64], form: &mut [u8]) {
     let answer = house::form::house_form(header, FileFormatOption::None, table, form);
     let outcome = answer.outcome;
@@ -83,6 +91,8 @@ fn run(command: &[u8], header: &[u8], table: &mut [u64], form: &mut [u8]) {
         check(header, table);
     } else if bytes::same(command, b"entries") {
         entries(header, table);
+    } else if bytes::same(command, b"dictionary") {
+        dictionary(header, table);
     } else if bytes::same(command, b"house") {
         house(header, table, form);
     } else if bytes::same(command, b"cells") {

@@ -1,0 +1,14 @@
+pub mod Firsts
+pub mod Theorems
+pub mod Lines
+pub mod Meets
+pub mod Left
+pub mod Places
+pub mod Going
+pub mod Verdicts
+pub mod Pairs
+pub mod Judging
+pub mod Rows
+pub mod Answers
+pub mod Determined
+pub mod Demands

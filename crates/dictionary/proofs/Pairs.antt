@@ -1,0 +1,359 @@
+-- The loops over a dictionary's entries, a turn of each on plain values. Assumes nothing.
+use Prim.Native.Nat.{ℕ, suc, _+_, _*_, _/_, _^_, _<_, _≤_}
+use native.Mathlib.Omega.{arith}
+use native.Mathlib.Numerals.{add-one}
+use mathlib.Core.Path.{_≡_, refl, sym, ap, subst, _∙_}
+use mathlib.Core.Bool.{Bool, true, false, _||_, true≢false, or-false}
+use mathlib.Core.List.{List, [], _∷_, _++_, append-nil}
+use lib.Dec.{ltb}
+use lib.ListN.{length, take, drop, set, length-set, take-append-drop}
+use lib.Seq.{sets, length-sets, take-add, length-take-le}
+use borrow.Author.Tests.{lt-ltb, le-ltb}
+use Rattle.values.specs.Bytes.{Bytes}
+use Rattle.values.proofs.Tests.{pass, fail, test, both}
+use Rattle.rules.specs.Known.{isIn}
+use Rattle.rules.specs.Entry.{Entry}
+use Rattle.entries.specs.declared.entry.Entry.{Entry as CodeEntry}
+use Rattle.entries.specs.Values.{entryOf}
+use Rattle.entries.specs.Tables.{room, firstEntries, entriesIn, entryIn}
+use Rattle.entries.proofs.Stored.{entries-here, entries-count, first-entries}
+use Rattle.dictionary.specs.Dictionary.{Line, lineIf, anyOf, carries, lacks, firstLines, numberOf, words, pairs}
+use Rattle.dictionary.specs.Lines.{holds, idxMeant, entryLine, entryLines, tableLines, idAt, idxAt}
+use Rattle.dictionary.specs.Places.{idxNamed, markTwice, isTaken, metBy, placeBy, placeAt}
+use Rattle.dictionary.specs.Pairs.{carriedBy, putPair, firstNumber, Counts, turnOf, turnOut, Uniform, numberingOf, NumbersLines}
+use Rattle.dictionary.specs.declared.line.Dictionary.{Dictionary}
+use Rattle.dictionary.specs.declared.line.Dictionary.the-variants.{Strings, Contigs}
+use Rattle.dictionary.specs.declared.line.IdxRead.{IdxRead}
+use Rattle.dictionary.specs.declared.line.IdxRead.the-variants as idx
+use Rattle.dictionary.specs.declared.place.Placed.{Placed}
+use Rattle.dictionary.specs.declared.place.Placed.the-variants.{Numbered as Given, Due, Again, Clash}
+use Rattle.dictionary.specs.declared.numbering.Carried.{Carried}
+use Rattle.dictionary.specs.declared.numbering.Count.{Count}
+use Rattle.dictionary.specs.declared.numbering.Turn.{Turn}
+use Rattle.dictionary.specs.declared.numbering.Turn.the-variants as turn
+use Rattle.dictionary.specs.declared.numbering.Numbering.the-variants as numbering
+use Rattle.dictionary.proofs.Firsts.{ids, first-new, first-old, onto, in-onto, onto-append}
+use Rattle.dictionary.proofs.Left.{left, left-end, left-skip, left-take}
+use Rattle.dictionary.proofs.Going.{AllMarked, found-named, marked-more}
+use Rattle.dictionary.proofs.Verdicts.{Mode, VerdictIs, verdict, mode-start, mode-end}
+
+-- Whether lines carry IDX: what was seen before entry k, and what is left
+
+pub record Carrying (d : Dictionary) (h : Bytes) (t : List ℕ) (given missing : Bool) (k : ℕ) : Type 0 where
+  pub with-idx : anyOf carries (tableLines d h t) ≡ given || anyOf carries (left d h t k)
+  pub without : anyOf lacks (tableLines d h t) ≡ missing || anyOf lacks (left d h t k)
+
+pub carry-start : {d : Dictionary} {h : Bytes} {t : List ℕ} → Carrying d h t false false 0
+carry-start = record { with-idx = refl; without = refl }
+
+on : (a b : Bool) → (a || (true || b)) ≡ (true || b)
+on true b = refl
+on false b = refl
+
+module _ {d : Dictionary} {h : Bytes} {t : List ℕ} {given missing : Bool} {k : ℕ} (g : Carrying d h t given missing k) {n : ℕ} (en : n ≡ room t) where
+  pub carry-end : n ≤ k → _≡_ {A = Carried} (record { given = given; missing = missing }) (carriedBy (tableLines d h t))
+  unfolding anyOf
+  carry-end l =
+      let e = left-end d h t k en l in
+      rw (g .with-idx, g .without, e, or-false given, or-false missing)
+
+  module _ (l : k < n) {e : CodeEntry} (ee : entryOf e ≡ entryIn t k) {q : Bool} (eq : q ≡ holds d (e .kind)) where
+    pub carry-skip : q ≡ false → Carrying d h t given missing (k + 1)
+    carry-skip f = let s = left-skip d h t k en l ee eq f in record { with-idx = g .with-idx ∙ rw s; without = g .without ∙ rw s }
+
+    module _ (f : q ≡ true) {r : IdxRead} (er : idxMeant r ≡ idxAt h e) where
+      pub carry-given : {m : ℕ} → r ≡ idx.Idx m → Carrying d h t true missing (k + 1)
+      unfolding anyOf
+      carry-given {m} i = let s = left-take d h t k en l ee eq f in record {
+        with-idx = g .with-idx ∙ rw (s, ← er, i) (on given (anyOf carries (left d h t (k + 1))));
+        without = g .without ∙ rw (s, ← er, i);
+      }
+
+      pub carry-missing : r ≡ idx.Missing → Carrying d h t given true (k + 1)
+      unfolding anyOf
+      carry-missing i = let s = left-take d h t k en l ee eq f in record {
+        with-idx = g .with-idx ∙ rw (s, ← er, i);
+        without = g .without ∙ rw (s, ← er, i) (on missing (anyOf lacks (left d h t (k + 1))));
+      }
+
+pub ruleset carried = (carry-start, carry-end, carry-skip, carry-given, carry-missing)
+
+-- what answers the needs of `put_pair`
+module _ (out : List ℕ) (pair entry number : ℕ) where
+  pub pair-lost : length out / 2 ≤ pair → out ≡ putPair out pair entry number
+  unfolding putPair
+  pair-lost h = rw (putPair, le-ltb pair (length out / 2) h)
+
+  pub pair-put : pair < length out / 2 → set (set out (2 * pair) entry) (2 * pair + 1) number ≡ putPair out pair entry number
+  unfolding putPair
+  pair-put h = rw (putPair, lt-ltb pair (length out / 2) h, add-one)
+
+pub second-inside : (out : List ℕ) (pair entry : ℕ) → pair < length out / 2 → 2 * pair + 1 < length (set out (2 * pair) entry)
+second-inside out pair entry h = rw (length-set out (2 * pair) entry) (omega arith)
+
+pub ruleset putting = (pair-lost, pair-put, second-inside)
+
+put-length : (out : List ℕ) (pair entry number : ℕ) → length (putPair out pair entry number) ≡ length out
+unfolding putPair
+put-length out pair entry number = elim (test (ltb pair (length out / 2))) [
+  | pass e ↦ rw (putPair, e) (length-sets out (2 * pair) (entry ∷ number ∷ []))
+  | fail e ↦ rw (putPair, e)
+]
+
+-- What is numbered of the lines before, and what is left to do
+
+pub record Going (d : Dictionary) (indexed : Bool) (ls before left : List Line) (out₀ out : List ℕ) (ms ns : Bytes) (n next : ℕ) : Type 0 where
+  pub marked : AllMarked ms before
+  pub counted : length (firstLines [] ls) ≡ n + length (firstLines (onto before []) left)
+  pub written : length (pairs d ls) ≤ length out₀ → sets out₀ 0 (pairs d ls) ≡ sets out (2 * n) (words (numberOf d ls) (firstLines (onto before []) left))
+  pub mode : Mode indexed d ls before left ns next
+
+pub words-length : (f : Line → ℕ) (ls : List Line) → length (words f ls) ≡ 2 * length ls
+unfolding words
+words-length f [] = refl
+words-length f (l ∷ ls) = let ih = words-length f ls in omega arith
+
+module _ {d : Dictionary} {indexed : Bool} {ls before : List Line} (l : Line) {left : List Line} {out₀ out : List ℕ} {ms ns : Bytes} {n next : ℕ}
+    (g : Going d indexed ls before (l ∷ left) out₀ out ms ns n next) (ns′ : Bytes) (next′ : ℕ) (mode′ : Mode indexed d ls (before ++ l ∷ []) left ns′ next′) where
+  onto-more : onto (before ++ l ∷ []) [] ≡ l .id ∷ onto before []
+  onto-more = onto-append before (l ∷ []) []
+
+  in-before : isIn (l .id) (onto before []) ≡ isIn (l .id) (ids before)
+  unfolding isIn
+  in-before = in-onto (l .id) before [] ∙ or-false (isIn (l .id) (ids before))
+
+  going-again : isIn (l .id) (ids before) ≡ true → Going d indexed ls (before ++ l ∷ []) left out₀ out (markTwice ms (l .id)) ns′ n next′
+  going-again i =
+      let f : firstLines (onto before []) (l ∷ left) ≡ firstLines (onto (before ++ l ∷ []) []) left = first-old (onto before []) l left (in-before ∙ i) ∙ rw onto-more in
+      record {
+        marked = marked-more ms before l (g .marked);
+        counted = g .counted ∙ rw f;
+        written = λ r. g .written r ∙ rw f;
+        mode = mode′;
+      }
+
+  going-first : isIn (l .id) (ids before) ≡ false → {number : ℕ} → number ≡ numberOf d ls l → length out ≡ length out₀
+      → Going d indexed ls (before ++ l ∷ []) left out₀ (putPair out n (l .entry) number) (markTwice ms (l .id)) ns′ (n + 1) next′
+  unfolding words pairs putPair
+  going-first i {number} e size =
+      let rest = firstLines (onto (before ++ l ∷ []) []) left in
+      let f : firstLines (onto before []) (l ∷ left) ≡ l ∷ rest = first-new (onto before []) l left (in-before ∙ i) ∙ rw onto-more in
+      let c : length (firstLines [] ls) ≡ n + suc (length rest) = g .counted ∙ rw f in
+      record {
+        marked = marked-more ms before l (g .marked);
+        counted = omega arith;
+        written = λ r.
+            let fits : n < length out / 2 = omega (arith, words-length (numberOf d ls) (firstLines [] ls)) in
+            let two : 2 * (n + 1) ≡ suc (suc (2 * n)) = omega arith in
+            g .written r ∙ rw (f, two, putPair, lt-ltb n (length out / 2) fits, e);
+        mode = mode′;
+      }
+
+-- The lines before entry k
+
+abbrev pub before : Dictionary → Bytes → List ℕ → ℕ → List Line
+before d h t k = entryLines d h 0 (take k (entriesIn t))
+
+lines-append : (d : Dictionary) (h : Bytes) (n : ℕ) (xs ys : List Entry) → entryLines d h n (xs ++ ys) ≡ entryLines d h n xs ++ entryLines d h (n + length xs) ys
+unfolding entryLines
+lines-append d h n [] ys = let e : n + 0 ≡ n = omega arith in rw e
+lines-append d h n (x ∷ xs) ys =
+    let e : n + 1 + length xs ≡ n + suc (length xs) = omega arith in
+    go (holds d (x .kind)) (lines-append d h (n + 1) xs ys ∙ rw e)
+  where
+    go : (q : Bool) → entryLines d h (n + 1) (xs ++ ys) ≡ entryLines d h (n + 1) xs ++ entryLines d h (n + suc (length xs)) ys
+        → lineIf q (entryLine h n x) (entryLines d h (n + 1) (xs ++ ys)) ≡ lineIf q (entryLine h n x) (entryLines d h (n + 1) xs) ++ entryLines d h (n + suc (length xs)) ys
+    go true e = ap (entryLine h n x ∷_) e
+    go false e = e
+
+module _ (d : Dictionary) (h : Bytes) (t : List ℕ) (k : ℕ) where
+  taken : k ≤ room t → length (take k (entriesIn t)) ≡ k
+  taken l = length-take-le k (entriesIn t) (rw (entries-count t) l)
+
+  split-at : k ≤ room t → tableLines d h t ≡ before d h t k ++ left d h t k
+  split-at l =
+      let e : 0 + length (take k (entriesIn t)) ≡ k = omega (arith, taken l) in
+      ap (entryLines d h 0) (sym (take-append-drop k (entriesIn t))) ∙ lines-append d h 0 (take k (entriesIn t)) (drop k (entriesIn t)) ∙ rw e
+
+  module _ {n : ℕ} (en : n ≡ room t) (l : k < n) {e : CodeEntry} (ee : entryOf e ≡ entryIn t k) {q : Bool} (eq : q ≡ holds d (e .kind)) where
+    before-turn : before d h t (k + 1) ≡ before d h t k ++ lineIf q (entryLine h k (entryOf e)) []
+    unfolding entryLines
+    before-turn =
+        let here : drop k (entriesIn t) ≡ entryOf e ∷ drop (k + 1) (entriesIn t) = entries-here t k (rw (← en) l) ∙ ap (_∷ drop (k + 1) (entriesIn t)) (sym ee) in
+        let more : take (k + 1) (entriesIn t) ≡ take k (entriesIn t) ++ entryOf e ∷ [] = take-add k 1 (entriesIn t) ∙ rw here in
+        let c : 0 + length (take k (entriesIn t)) ≡ k = omega (arith, taken (rw (← en) (omega arith))) in
+        ap (entryLines d h 0) more ∙ lines-append d h 0 (take k (entriesIn t)) (entryOf e ∷ []) ∙ rw (c, eq)
+
+-- what answers the needs of `number_line`
+module _ (c : Count) (out : List ℕ) (entry : ℕ) {p r : Placed} (er : r ≡ p) where
+  pub turn-given : {x : ℕ} → r ≡ Given x → turn.Next (record { pairs = c .pairs + 1; next = c .next }) ≡ turnOf c p
+  turn-given i = rw (← er, i)
+
+  pub turn-due : r ≡ Due → turn.Next (record { pairs = c .pairs + 1; next = c .next + 1 }) ≡ turnOf c p
+  turn-due i = rw (← er, i)
+
+  pub turn-again : r ≡ Again → turn.Next (record { pairs = c .pairs; next = c .next }) ≡ turnOf c p
+  turn-again i = rw (← er, i)
+
+  pub turn-clash : r ≡ Clash → turn.Clash ≡ turnOf c p
+  turn-clash i = rw (← er, i)
+
+  pub out-given : {x : ℕ} → r ≡ Given x → {o : List ℕ} → o ≡ putPair out (c .pairs) entry x → o ≡ turnOut out entry c p
+  out-given i eo = eo ∙ rw (← er, i)
+
+  pub out-due : r ≡ Due → {o : List ℕ} → o ≡ putPair out (c .pairs) entry (c .next) → o ≡ turnOut out entry c p
+  out-due i eo = eo ∙ rw (← er, i)
+
+  pub out-again : r ≡ Again → out ≡ turnOut out entry c p
+  out-again i = rw (← er, i)
+
+  pub out-clash : r ≡ Clash → out ≡ turnOut out entry c p
+  out-clash i = rw (← er, i)
+
+pub ruleset turns = (turn-given, turn-due, turn-again, turn-clash, out-given, out-due, out-again, out-clash)
+
+-- The loop: the lines before entry k are numbered
+
+pub record Progress (d : Dictionary) (indexed : Bool) (h : Bytes) (t out₀ out : List ℕ) (ms₀ ms ns₀ ns : Bytes) (c : Count) (k : ℕ) : Type 0 where
+  pub size : length out ≡ length out₀
+  pub ids-size : length ms ≡ length ms₀
+  pub numbers-size : length ns ≡ length ns₀
+  pub few : c .pairs ≤ k
+  pub due : c .next ≤ k + 1
+  pub is : Uniform indexed (tableLines d h t) → Going d indexed (tableLines d h t) (before d h t k) (left d h t k) out₀ out ms ns (c .pairs) (c .next)
+
+first-small : (d : Dictionary) → firstNumber d ≤ 1
+first-small Strings = omega arith
+first-small Contigs = omega arith
+
+pub progress-start : (d : Dictionary) (indexed : Bool) (h : Bytes) (t out : List ℕ) (ms ns : Bytes) {next : ℕ} → next ≡ firstNumber d
+    → Progress d indexed h t out out ms ms ns ns (record { pairs = 0; next = next }) 0
+unfolding entryLines isIn pairs
+progress-start d indexed h t out ms ns e = record {
+  size = refl;
+  ids-size = refl;
+  numbers-size = refl;
+  few = omega arith;
+  due = omega (arith, first-small d);
+  is = λ u. record {
+    marked = λ x i. both i refl;
+    counted = omega arith;
+    written = λ r. refl;
+    mode = rw e (mode-start indexed d (tableLines d h t) ns);
+  };
+}
+
+module _ {d : Dictionary} {indexed : Bool} {h : Bytes} {t out₀ out : List ℕ} {ms₀ ms ns₀ ns : Bytes} {c : Count} {k : ℕ} (g : Progress d indexed h t out₀ out ms₀ ms ns₀ ns c k)
+    {n : ℕ} (en : n ≡ room t) where
+  abbrev ls : List Line
+  ls = tableLines d h t
+
+  abbrev Goes : List Line → List Line → List ℕ → Bytes → Bytes → ℕ → ℕ → Type 0
+  Goes bs rs o ms′ ns′ m′ next′ = Going d indexed ls bs rs out₀ o ms′ ns′ m′ next′
+
+  pub progress-end : n ≤ k → NumbersLines d indexed ls out₀ (numbering.Pairs (c .pairs)) out
+  unfolding numberingOf firstLines words
+  progress-end l =
+      let e = left-end d h t k en l in
+      record {
+        is = λ u.
+            let x = subst (λ (rs : List Line). Goes (before d h t k) rs out ms ns (c .pairs) (c .next)) e (g .is u) in
+            let m : length (firstLines [] ls) ≡ c .pairs = omega (arith, x .counted) in
+            rw (mode-end indexed d ls (before d h t k) ns (c .next) u (x .mode), m);
+        output = λ u f r. sym (subst (λ (rs : List Line). Goes (before d h t k) rs out ms ns (c .pairs) (c .next)) e (g .is u) .written r);
+      }
+
+  module _ (l : k < n) where
+    pub counts-few : length t < 2 ^ 64 → Counts c
+    unfolding room
+    counts-few small = record { pairs-small = omega (arith, g .few, en); next-small = omega (arith, g .due, en) }
+
+    module _ {e : CodeEntry} (ee : entryOf e ≡ entryIn t k) {q : Bool} (eq : q ≡ holds d (e .kind)) where
+      pub progress-skip : q ≡ false → Progress d indexed h t out₀ out ms₀ ms ns₀ ns c (k + 1)
+      progress-skip f =
+          let b : before d h t (k + 1) ≡ before d h t k = before-turn d h t k en l ee eq ∙ rw f (append-nil (before d h t k)) in
+          record {
+            size = g .size;
+            ids-size = g .ids-size;
+            numbers-size = g .numbers-size;
+            few = omega (arith, g .few);
+            due = omega (arith, g .due);
+            is = λ u. rw (b, ← left-skip d h t k en l ee eq f) (g .is u);
+          }
+
+      module _ (f : q ≡ true) {ahead : List ℕ} (ea : ahead ≡ firstEntries t k) where
+        abbrev line : Line
+        line = entryLine h k (entryOf e)
+
+        abbrev placed : Placed
+        placed = placeAt indexed d h ahead ms ns e
+
+        before-more : before d h t (k + 1) ≡ before d h t k ++ line ∷ []
+        before-more = before-turn d h t k en l ee eq ∙ rw f
+
+        left-is : left d h t k ≡ line ∷ left d h t (k + 1)
+        left-is = left-take d h t k en l ee eq f
+
+        module _ (u : Uniform indexed ls) where
+          going : Goes (before d h t k) (line ∷ left d h t (k + 1)) out ms ns (c .pairs) (c .next)
+          going = subst (λ (rs : List Line). Goes (before d h t k) rs out ms ns (c .pairs) (c .next)) left-is (g .is u)
+
+          ahead-is : tableLines d h ahead ≡ before d h t k
+          ahead-is = ap (entryLines d h 0) (ap entriesIn ea ∙ first-entries t k)
+
+          split : ls ≡ before d h t k ++ line ∷ left d h t (k + 1)
+          split = split-at d h t k (rw (← en) (omega arith)) ∙ rw left-is
+
+          told : VerdictIs indexed d ls (before d h t k) line (left d h t (k + 1)) (metBy indexed ns (idxAt h e)) (c .next) placed
+          told =
+              let p : placed ≡ placeBy indexed d (idAt h e) (idxAt h e) (idxNamed (idAt h e) (before d h t k)) (isTaken ns (before d h t k))
+              = rw (ahead-is, found-named ms (idAt h e) (before d h t k) (going .marked)) in
+              rw p (verdict d ls (before d h t k) line (left d h t (k + 1)) indexed u split ns (c .next) (going .mode))
+
+        -- what the turn leaves, by the line's place
+        abbrev Leaves : Placed → Turn → List ℕ → Type 0
+        Leaves p (turn.Next c′) o = Progress d indexed h t out₀ o ms₀ (markTwice ms (idAt h e)) ns₀ (metBy indexed ns (idxAt h e)) c′ (k + 1)
+        Leaves p turn.Clash o = NumbersLines d indexed ls out₀ numbering.Clash o
+
+        module _ (ids-kept : length (markTwice ms (idAt h e)) ≡ length ms) (numbers-kept : length (metBy indexed ns (idxAt h e)) ≡ length ns) where
+          leaves : (p : Placed) → placed ≡ p → Leaves p (turnOf c p) (turnOut out k c p)
+          unfolding numberingOf
+          leaves (Given x) i = record {
+            size = put-length out (c .pairs) k x ∙ g .size;
+            ids-size = ids-kept ∙ g .ids-size;
+            numbers-size = numbers-kept ∙ g .numbers-size;
+            few = omega (arith, g .few);
+            due = omega (arith, g .due);
+            is = λ w. let v = rw i at (told w) in rw before-more (going-first line (going w) (metBy indexed ns (idxAt h e)) (c .next) (v .2) (v .0) (v .1) (g .size));
+          }
+          leaves Due i = record {
+            size = put-length out (c .pairs) k (c .next) ∙ g .size;
+            ids-size = ids-kept ∙ g .ids-size;
+            numbers-size = numbers-kept ∙ g .numbers-size;
+            few = omega (arith, g .few);
+            due = omega (arith, g .due);
+            is = λ w. let v = rw i at (told w) in rw before-more (going-first line (going w) (metBy indexed ns (idxAt h e)) (c .next + 1) (v .2) (v .0) (v .1) (g .size));
+          }
+          leaves Again i = record {
+            size = g .size;
+            ids-size = ids-kept ∙ g .ids-size;
+            numbers-size = numbers-kept ∙ g .numbers-size;
+            few = omega (arith, g .few);
+            due = omega (arith, g .due);
+            is = λ w. let v = rw i at (told w) in rw before-more (going-again line (going w) (metBy indexed ns (idxAt h e)) (c .next) (v .1) (v .0));
+          }
+          leaves Clash i = record { is = λ w. let v = rw i at (told w) in rw v; output = λ w z. let v = rw i at (told w) in absurd (true≢false (sym v ∙ z)) }
+
+        -- r, o, ms′ and ns′ are what the code was left with
+        module _ {r : Turn} (er : r ≡ turnOf c placed) {o : List ℕ} (eo : o ≡ turnOut out k c placed) {ms′ : Bytes} (em : ms′ ≡ markTwice ms (idAt h e)) (lm : length ms′ ≡ length ms)
+            {ns′ : Bytes} (es : ns′ ≡ metBy indexed ns (idxAt h e)) (ln : length ns′ ≡ length ns) where
+          left-with : Leaves placed r o
+          left-with = rw (er, eo) (leaves (rw em at lm) (rw es at ln) placed refl)
+
+          pub progress-clash : r ≡ turn.Clash → NumbersLines d indexed ls out₀ numbering.Clash o
+          progress-clash i = rw i at left-with
+
+          pub progress-next : {c′ : Count} → r ≡ turn.Next c′ → Progress d indexed h t out₀ o ms₀ ms′ ns₀ ns′ c′ (k + 1)
+          progress-next i = rw (em, es) (rw i at left-with)
+
+pub ruleset progresses = (progress-start, progress-end, counts-few, progress-skip, progress-clash, progress-next)

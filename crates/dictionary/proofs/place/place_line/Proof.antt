@@ -1,0 +1,54 @@
+use Rattle.dictionary.proofs.Places.{lines}
+use borrow.Author.Needs.{needs}
+use Rattle.dictionary.proofs.place.place_line.Statement.{statement}
+use Rattle.dictionary.proofs.place.place_line.Tie as tie
+use Rattle.dictionary.proofs.place.place_line.Reads as reads
+use Rattle.dictionary.proofs.place.place_line.Lts as lts
+use Rattle.dictionary.proofs.place.find_earlier.Reads as find-earlier-reads
+use Rattle.dictionary.proofs.place.place_counted.Reads as place-counted-reads
+use Rattle.dictionary.proofs.place.place_indexed.Reads as place-indexed-reads
+
+-- src/place.rt:197:9
+find-earlier-requires : tie.Need-find-earlier-requires
+find-earlier-requires c κs = search (lines, needs)
+
+-- src/place.rt:199:9
+place-indexed-requires : tie.Need-place-indexed-requires
+place-indexed-requires c κs = search (lines, needs)
+
+-- src/place.rt:199:9
+same-length : tie.Need-same-length
+same-length c = search (lines, needs)
+
+-- src/place.rt:199:9
+same-length-2 : tie.Need-same-length-2
+same-length-2 c = search (lines, needs)
+
+-- src/place.rt:199:9
+returns : tie.Need-returns
+returns c = (search (lines, needs), (search (lines, needs), search (lines, needs)))
+
+-- src/place.rt:201:5
+place-counted-requires : tie.Need-place-counted-requires
+place-counted-requires c κs = search (lines, needs)
+
+-- src/place.rt:183:1
+same-length-3 : tie.Need-same-length-3
+same-length-3 c = search (lines, needs)
+
+-- src/place.rt:183:1
+returns-2 : tie.Need-returns-2
+returns-2 c = (search (lines, needs), (search (lines, needs), search (lines, needs)))
+
+pub place-line-spec : {M : Type 1} → statement M
+place-line-spec =
+    tie.close
+    (tie.spec
+    find-earlier-requires
+    place-indexed-requires
+    same-length
+    same-length-2
+    returns
+    place-counted-requires
+    same-length-3
+    returns-2)

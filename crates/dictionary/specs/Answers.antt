@@ -1,0 +1,137 @@
+-- What a dictionary call answers. Assumes nothing.
+use Prim.Native.Nat.{ℕ, _/_}
+use mathlib.Core.Path.{_≡_}
+use mathlib.Core.Bool.{Bool, true, false, _||_, _&&_}
+use mathlib.Core.List.{List, []}
+use mathlib.Core.Option.{Option, none, some}
+use lib.Dec.{leb}
+use lib.ListN.{length}
+use lib.Seq.{sets}
+use Rattle.values.specs.Bytes.{Bytes}
+use Rattle.rules.specs.Sizes.{Limits}
+use Rattle.rules.specs.Version.{Version}
+use Rattle.rules.specs.Reading.{Reading}
+use Rattle.records.specs.Formats.{versionOf}
+use Rattle.records.specs.Refusals.{number}
+use Rattle.records.specs.declared.file_format.FileFormat.{FileFormat}
+use Rattle.entries.specs.Tables.{room, stored}
+use Rattle.header.specs.declared.parser.ReadAnswer.{ReadAnswer}
+use Rattle.header.specs.Parsers.{acceptedIn, readInto}
+use Rattle.dictionary.specs.Dictionary.{Line, mixed, firstLines, clash, pairs, Dictionaries, dictionaries}
+use Rattle.dictionary.specs.Lines.{stringLines, contigLines}
+use Rattle.dictionary.specs.Pairs.{carriedBy, Uniform, numberingOf}
+use Rattle.dictionary.specs.declared.line.Dictionary.{Dictionary}
+use Rattle.dictionary.specs.declared.line.Dictionary.the-variants.{Strings, Contigs}
+use Rattle.dictionary.specs.declared.numbering.Carried.{Carried}
+use Rattle.dictionary.specs.declared.numbering.Numbering.{Numbering}
+use Rattle.dictionary.specs.declared.string_maps.Judged.{Judged}
+use Rattle.dictionary.specs.declared.string_maps.Judged.the-variants as judged
+use Rattle.dictionary.specs.declared.string_maps.DictionaryOutcome.{DictionaryOutcome}
+use Rattle.dictionary.specs.declared.string_maps.DictionaryOutcome.the-variants as outcome
+use Rattle.dictionary.specs.declared.string_maps.DictionaryAnswer.{DictionaryAnswer}
+use Rattle.rules.specs.Claims.{Sized}
+
+-- document 02's number of an outcome, and of an accepted header the version in force and the number of samples
+abbrev pub outcomeNumber : DictionaryOutcome → ℕ
+outcomeNumber (outcome.Accepted f n) = 0
+outcomeNumber (outcome.Refused x) = number x
+outcomeNumber outcome.PartlyIndexed = 34
+outcomeNumber outcome.NumberClash = 35
+outcomeNumber outcome.SliceTooSmall = 36
+
+abbrev pub outcomeSays : DictionaryOutcome → Option (Version × ℕ)
+outcomeSays (outcome.Accepted f n) = some (versionOf f, n)
+outcomeSays (outcome.Refused x) = none
+outcomeSays outcome.PartlyIndexed = none
+outcomeSays outcome.NumberClash = none
+outcomeSays outcome.SliceTooSmall = none
+
+-- the number, the place, the number of entries, the pairs of strings and of contigs
+pub record ToldDictionaries : Type 0 where
+  pub number : ℕ
+  pub line : ℕ
+  pub start : ℕ
+  pub entries : ℕ
+  pub strings : ℕ
+  pub contigs : ℕ
+  pub accepted : Option (Version × ℕ)
+
+abbrev pub toldOf : DictionaryAnswer → ToldDictionaries
+toldOf a = record {
+  number = outcomeNumber (a .outcome);
+  line = a .line;
+  start = a .start;
+  entries = a .entries;
+  strings = a .strings;
+  contigs = a .contigs;
+  accepted = outcomeSays (a .outcome);
+}
+
+-- the same of a reading and the dictionaries of what was read
+abbrev pub tellsOf : Reading → Dictionaries → ToldDictionaries
+tellsOf r d = record {
+  number = d .number;
+  line = d .line;
+  start = d .start;
+  entries = length (r .entries);
+  strings = length (d .strings) / 2;
+  contigs = length (d .contigs) / 2;
+  accepted = acceptedIn (d .number) (r .state);
+}
+
+-- what `dictionaries` promises of a call: the version imposed, the header, the table and the slices for strings and contigs; the answer, and what was lent after it
+pub record DictionaryCall (lim : Limits) (imposed : Option Version) (h : Bytes) (t s c : List ℕ) (r : DictionaryAnswer) (t′ s′ c′ : List ℕ) : Type 0 where
+  pub answer : toldOf r ≡ tellsOf (readInto lim imposed t h) (dictionaries lim imposed (room t) (length s) (length c) h)
+  pub table : t′ ≡ stored t 0 (readInto lim imposed t h .entries)
+  pub strings : s′ ≡ sets s 0 (dictionaries lim imposed (room t) (length s) (length c) h .strings)
+  pub contigs : c′ ≡ sets c 0 (dictionaries lim imposed (room t) (length s) (length c) h .contigs)
+
+-- How the code comes to it
+
+-- what becomes of both dictionaries, with slices of so many words
+unfoldable pub judgedOf : ℕ → ℕ → List Line → List Line → Judged
+judgedOf s c strings contigs = elim (mixed strings || mixed contigs) [
+  | true ↦ judged.PartlyIndexed
+  | false ↦ elim (clash Strings strings || clash Contigs contigs) [
+    | true ↦ judged.NumberClash
+    | false ↦ elim (leb (length (pairs Strings strings)) s && leb (length (pairs Contigs contigs)) c) [
+      | true ↦ judged.Whole (length (firstLines [] strings)) (length (firstLines [] contigs))
+      | false ↦ judged.SliceTooSmall
+    ]
+  ]
+]
+
+-- the words that are written
+abbrev pub writtenOf : Judged → List ℕ → List ℕ
+writtenOf (judged.Whole n m) ws = ws
+writtenOf judged.PartlyIndexed ws = []
+writtenOf judged.NumberClash ws = []
+writtenOf judged.SliceTooSmall ws = []
+
+pub record CountsPairs (d : Dictionary) (indexed : Bool) (ls : List Line) (r : Numbering) : Type 0 where
+  pub is : Uniform indexed ls → r ≡ numberingOf d ls
+
+-- x and y tell which lines carry IDX
+pub record Judges (x y : Carried) (h : Bytes) (t : List ℕ) (s c : ℕ) (r : Judged) : Type 0 where
+  pub is : x ≡ carriedBy (stringLines h t) → y ≡ carriedBy (contigLines h t) → r ≡ judgedOf s c (stringLines h t) (contigLines h t)
+
+pub record NumbersBoth (h : Bytes) (t s c : List ℕ) (r : Judged) (s′ c′ : List ℕ) : Type 0 where
+  pub is : r ≡ judgedOf (length s) (length c) (stringLines h t) (contigLines h t)
+  pub strings-are : s′ ≡ sets s 0 (writtenOf r (pairs Strings (stringLines h t)))
+  pub contigs-are : c′ ≡ sets c 0 (writtenOf r (pairs Contigs (contigLines h t)))
+
+abbrev pub refusedAs : DictionaryOutcome → ℕ → ℕ → ℕ → DictionaryAnswer
+refusedAs x line start entries = record { outcome = x; line = line; start = start; entries = entries; strings = 0; contigs = 0 }
+
+-- after an accepted reading, with the version in force and the number of samples
+abbrev pub answerOf : ReadAnswer → FileFormat → ℕ → Judged → DictionaryAnswer
+answerOf a f k (judged.Whole n m) = record { outcome = outcome.Accepted f k; line = a .line; start = a .start; entries = a .entries; strings = n; contigs = m }
+answerOf a f k judged.PartlyIndexed = refusedAs outcome.PartlyIndexed 0 0 (a .entries)
+answerOf a f k judged.NumberClash = refusedAs outcome.NumberClash 0 0 (a .entries)
+answerOf a f k judged.SliceTooSmall = refusedAs outcome.SliceTooSmall 0 0 (a .entries)
+
+pub record AnswersBoth (a : ReadAnswer) (f : FileFormat) (k : ℕ) (h : Bytes) (t s c : List ℕ) (r : DictionaryAnswer) (s′ c′ : List ℕ) : Type 0 where
+  pub judgement : Judged
+  pub numbers : NumbersBoth h t s c judgement s′ c′
+  pub answers : r ≡ answerOf a f k judgement
+  pub sized : Sized (versionOf f)

@@ -1,0 +1,183 @@
+// The pairs of a dictionary: each ID at its first line.
+use crate::line;
+use crate::line::Dictionary;
+use crate::line::IdxRead;
+use crate::place;
+use crate::place::Placed;
+use entries::entry::Entry;
+use entries::table;
+ghost use mathlib.Core.Path.{_≡_};
+ghost use Rattle.dictionary.specs.Lines.{tableLines, idAt, idxAt};
+ghost use Rattle.dictionary.specs.Places.{markTwice, metBy, placeAt};
+ghost use Rattle.dictionary.specs.Pairs.{carriedBy, putPair, firstNumber, Counts, turnOf, turnOut, NumbersLines};
+
+// Whether some lines carry IDX, and whether some don't.
+pub struct Carried {
+    pub given: bool,
+    pub missing: bool,
+}
+
+// How many pairs there are so far, and the number that the next ID is due.
+pub struct Count {
+    pub pairs: usize,
+    pub next: u64,
+}
+
+// One line further, or a clash.
+pub enum Turn {
+    Next(Count),
+    Clash,
+}
+
+// How many pairs a dictionary has, or a clash.
+pub enum Numbering {
+    Pairs(usize),
+    Clash,
+}
+
+pub fn carried_in(h: &[u8], kept: &[u64], dictionary: Dictionary) -> Carried
+    ensures { λ r. ⌜ r ≡ carriedBy (tableLines dictionary (now (h .entry)) (now (kept .entry))) ⌝ }
+{
+    let mut given = false;
+    let mut missing = false;
+    let mut k = 0;
+    while k < table::count(kept) {
+        let e = table::get(kept, k);
+        k += 1;
+        if line::has_kind(dictionary, e.kind) {
+            match line::line_idx(h, e) {
+                IdxRead::Idx(_) => given = true,
+                IdxRead::Missing => missing = true,
+            }
+        }
+    }
+    Carried { given, missing }
+}
+
+// The pair of this number, if there is room for it.
+fn put_pair(out: &mut [u64], pair: usize, entry: u64, number: u64)
+    ensures { λ _. ⌜ now (out .exit) ≡ putPair (now (out .entry)) pair entry number ⌝ }
+{
+    if out.len() / 2 <= pair {
+        return;
+    }
+    let at = 2 * pair;
+    out[at] = entry;
+    out[at + 1] = number;
+}
+
+fn first_number(dictionary: Dictionary) -> u64
+    ensures { λ r. ⌜ r ≡ firstNumber dictionary ⌝ }
+{
+    match dictionary {
+        Dictionary::Strings => 1,
+        Dictionary::Contigs => 0,
+    }
+}
+
+// The line of an entry, numbered beside those before it; its pair is written if it is the first of its ID.
+fn number_line(
+    h: &[u8],
+    ahead: &[u64],
+    dictionary: Dictionary,
+    indexed: bool,
+    e: Entry,
+    count: Count,
+    entry: u64,
+    out: &mut [u64],
+    marks: &mut [u8],
+    numbers: &mut [u8],
+) -> Turn
+    requires { ⌜ Counts count ⌝ }
+    ensures turn { λ r.
+        ⌜ r ≡ turnOf count (placeAt indexed dictionary (now (h .entry)) (now (ahead .entry)) (now (marks .entry)) (now (numbers .entry)) e) ⌝ }
+    ensures out { λ _.
+        ⌜ now (out .exit) ≡ turnOut (now (out .entry)) entry count
+        (placeAt indexed dictionary (now (h .entry)) (now (ahead .entry)) (now (marks .entry)) (now (numbers .entry)) e) ⌝ }
+    ensures marks { λ _. ⌜ now (marks .exit) ≡ markTwice (now (marks .entry)) (idAt (now (h .entry)) e) ⌝ }
+    ensures numbers { λ _. ⌜ now (numbers .exit) ≡ metBy indexed (now (numbers .entry)) (idxAt (now (h .entry)) e) ⌝ }
+{
+    let pairs = count.pairs;
+    let next = count.next;
+    match place::place_line(h, ahead, dictionary, indexed, e, marks, numbers) {
+        Placed::Numbered(n) => {
+            put_pair(out, pairs, entry, n);
+            Turn::Next(Count {
+                pairs: pairs + 1,
+                next,
+            })
+        }
+        Placed::Due => {
+            put_pair(out, pairs, entry, next);
+            Turn::Next(Count {
+                pairs: pairs + 1,
+                next: next + 1,
+            })
+        }
+        Placed::Again => Turn::Next(Count { pairs, next }),
+        Placed::Clash => Turn::Clash,
+    }
+}
+
+// `indexed`: the lines carry IDX. What stands in the marks before is no matter.
+fn number_lines(
+    h: &[u8],
+    kept: &[u64],
+    dictionary: Dictionary,
+    indexed: bool,
+    out: &mut [u64],
+    marks: &mut [u8],
+    numbers: &mut [u8],
+) -> Numbering
+    ensures { λ r. ⌜ NumbersLines dictionary indexed (tableLines dictionary (now (h .entry)) (now (kept .entry))) (now (out .entry)) r (now (out .exit)) ⌝ }
+{
+    let mut count = Count {
+        pairs: 0,
+        next: first_number(dictionary),
+    };
+    let mut k = 0;
+    while k < table::count(kept) {
+        let e = table::get(kept, k);
+        let ahead = table::kept(kept, k);
+        let entry = k as u64;
+        k += 1;
+        if line::has_kind(dictionary, e.kind) {
+            match number_line(
+                h,
+                ahead,
+                dictionary,
+                indexed,
+                e,
+                count,
+                entry,
+                out,
+                marks,
+                numbers,
+            ) {
+                Turn::Next(c) => count = c,
+                Turn::Clash => return Numbering::Clash,
+            }
+        }
+    }
+    Numbering::Pairs(count.pairs)
+}
+
+pub fn number_dictionary(
+    h: &[u8],
+    kept: &[u64],
+    dictionary: Dictionary,
+    indexed: bool,
+    out: &mut [u64],
+) -> Numbering
+    ensures { λ r. ⌜ NumbersLines dictionary indexed (tableLines dictionary (now (h .entry)) (now (kept .entry))) (now (out .entry)) r (now (out .exit)) ⌝ }
+{
+    // A short header has few lines, and clearing more marks than they need costs more than it spares.
+    if h.len() < 65536 {
+        let mut marks = [0u8; 4096];
+        let mut numbers = [0u8; 4096];
+        return number_lines(h, kept, dictionary, indexed, out, &mut marks, &mut numbers);
+    }
+    let mut marks = [0u8; 65536];
+    let mut numbers = [0u8; 65536];
+    number_lines(h, kept, dictionary, indexed, out, &mut marks, &mut numbers)
+}

@@ -29,9 +29,9 @@ use Rattle.header.specs.declared.parser.ReadAnswer.{ReadAnswer}
 use Rattle.house.specs.Answers.{FormMeaning, formAnswerMeans, houseMeans}
 use Rattle.house.specs.declared.form.HouseAnswer.{HouseAnswer}
 use Rattle.register.specs.Register.{registerOf}
-use Rattle.register.specs.Compare.{Difference, differing}
-use Rattle.register.specs.Compared.{listed}
-use Rattle.register.specs.Answers.{outcomeNumber as registerNumber, ToldRegister, toldRegister, tellsRegister}
+use Rattle.register.specs.Compare.{differing}
+use Rattle.register.specs.Compared.{listedInArrays}
+use Rattle.register.specs.Answers.{registerNumber, RegisterMeaning, registerAnswerMeans, registerMeans}
 use Rattle.register.specs.declared.probe.RegisterRead.{RegisterRead}
 use Rattle.register.specs.declared.compare.Differences.{Differences}
 use Rattle.capi.specs.Answers.{flag, imposedBy, answerInC, formInC, partOf, partAs, Ordered, registerAs, differencesAs}
@@ -39,7 +39,6 @@ use Rattle.capi.specs.declared.VcfhAnswer.{VcfhAnswer}
 use Rattle.capi.specs.declared.VcfhForm.{VcfhForm}
 use Rattle.capi.specs.declared.VcfhPart.{VcfhPart}
 use Rattle.capi.specs.declared.VcfhRegister.{VcfhRegister}
-use Rattle.capi.specs.declared.VcfhDifferences.{VcfhDifferences}
 
 -- Parts
 
@@ -108,18 +107,18 @@ pub ruleset readings = (answers, form-answers, stored, written, refused-number)
 
 -- Registers
 
-abbrev register-numbers : ToldRegister → VcfhRegister
+abbrev register-numbers : RegisterMeaning → VcfhRegister
 register-numbers t = record { number = t .number; line = t .line; start = t .start; entries = t .entries; constants = t .constants }
 
 module _ {imposed wanted : Option Version} (e : imposed ≡ wanted) (h : List ℕ) (a : RegisterRead) {n : ℕ} (room : ℕ) where
-  pub register-answers : n ≡ registerNumber (a .outcome) → toldRegister a ≡ tellsRegister (registerOf limits imposed room h)
+  pub register-answers : n ≡ registerNumber (a .outcome) → registerAnswerMeans a ≡ registerMeans (registerOf limits imposed room h)
       → record { number = n; line = a .line; start = a .start; entries = a .entries; constants = a .constants } ≡ registerAs (registerOf limits wanted room h)
   register-answers c d =
       ap (λ k. record { number = k; line = a .line; start = a .start; entries = a .entries; constants = a .constants }) c
       ∙ ap register-numbers d
       ∙ ap (λ i. registerAs (registerOf limits i room h)) e
 
-pub compared : (old new : List ℕ) {d : Differences} → d ≡ listed (differing 1 old new) → record { count = d .count; wells = d .wells; old = d .old; new = d .new } ≡ differencesAs (differing 1 old new)
+pub compared : (old new : List ℕ) {d : Differences} → d ≡ listedInArrays (differing 1 old new) → record { count = d .count; wells = d .wells; old = d .old; new = d .new } ≡ differencesAs (differing 1 old new)
 compared old new e = ap (λ (x : Differences). record { count = x .count; wells = x .wells; old = x .old; new = x .new }) e
 
 module _ (imposed major minor : ℕ) where

@@ -45,8 +45,8 @@ formInC r f = record { number = f .number; line = f .line; start = f .start; ent
 abbrev pub dictionariesIn : Option Version → Bytes → List ℕ → List ℕ → List ℕ → Dictionaries
 dictionariesIn imposed h t s c = dictionaries limits imposed (room t) (length s) (length c) h
 
-abbrev pub dictionariesOf : Reading → Dictionaries → VcfhDictionaries
-dictionariesOf r d = record {
+abbrev pub dictionariesInC : Reading → Dictionaries → VcfhDictionaries
+dictionariesInC r d = record {
   number = d .number;
   line = d .line;
   start = d .start;

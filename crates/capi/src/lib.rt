@@ -18,7 +18,7 @@ ghost use Rattle.header.specs.Verdicts.{imposedOf};
 ghost use Rattle.header.specs.Parsers.{outcomeNumber, readInto};
 ghost use Rattle.register.specs.Register.{registerOf};
 ghost use Rattle.register.specs.Compare.{differing};
-ghost use Rattle.capi.specs.Answers.{flag, imposedBy, answerInC, formInC, dictionariesIn, dictionariesOf, partOf, partAs, Ordered, registerAs, differencesAs};
+ghost use Rattle.capi.specs.Answers.{flag, imposedBy, answerInC, formInC, dictionariesIn, dictionariesInC, partOf, partAs, Ordered, registerAs, differencesAs};
 
 // Document 01's number, 0 if accepted; the line and its start; how many entries the table keeps.
 #[repr(C)]
@@ -194,7 +194,7 @@ pub extern "C" fn vcfh_dictionaries(
     strings: &mut [u64],
     contigs: &mut [u64],
 ) -> VcfhDictionaries
-    ensures answer { λ r. ⌜ r ≡ dictionariesOf (readInto limits (imposedBy imposed major minor) (now (table .entry)) (now (header .entry)))
+    ensures answer { λ r. ⌜ r ≡ dictionariesInC (readInto limits (imposedBy imposed major minor) (now (table .entry)) (now (header .entry)))
         (dictionariesIn (imposedBy imposed major minor) (now (header .entry)) (now (table .entry)) (now (strings .entry)) (now (contigs .entry))) ⌝ }
     ensures table { λ _. ⌜ now (table .exit) ≡ stored (now (table .entry)) 0
         (readInto limits (imposedBy imposed major minor) (now (table .entry)) (now (header .entry)) .entries) ⌝ }

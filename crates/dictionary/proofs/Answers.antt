@@ -29,7 +29,7 @@ use Rattle.header.specs.declared.parser.ReadAnswer.{ReadAnswer}
 use Rattle.header.specs.Parsers.{AnswerMeaning, outcomeNumber as readNumber, outcomeSays as readSays, answerMeans, acceptedIn, readingMeans, readInto, ReadCall}
 use Rattle.dictionary.specs.Dictionary.{Line, firstLines, pairs, refusal, linesOf, Dictionaries, refusedBy, numbering, dictionariesOf, dictionaries}
 use Rattle.dictionary.specs.Lines.{entryLines, tableLines, stringLines, contigLines}
-use Rattle.dictionary.specs.Answers.{outcomeNumber, toldOf, tellsOf, DictionaryCall, judgedOf, writtenOf, NumbersBoth, refusedAs, answerOf, AnswersBoth}
+use Rattle.dictionary.specs.Answers.{dictionaryNumber, dictionaryAnswerMeans, dictionariesMean, DictionaryCall, judgedOf, pairsWritten, NumbersBoth, dictionaryRefusedAs, answerOf, AnswersBoth}
 use Rattle.dictionary.specs.declared.line.Dictionary.{Dictionary}
 use Rattle.dictionary.specs.declared.line.Dictionary.the-variants.{Strings, Contigs}
 use Rattle.dictionary.specs.declared.string_maps.Judged.{Judged}
@@ -43,19 +43,19 @@ use Rattle.rules.specs.Claims.{Sized, SizedOption, Accepted}
 
 -- what answers the needs of `number`
 module _ (o : DictionaryOutcome) where
-  pub number-accepted : {f : FileFormat} {k : ℕ} → o ≡ outcome.Accepted f k → 0 ≡ outcomeNumber o
+  pub number-accepted : {f : FileFormat} {k : ℕ} → o ≡ outcome.Accepted f k → 0 ≡ dictionaryNumber o
   number-accepted e = rw e
 
-  pub number-refused : {x : Refusal} → o ≡ outcome.Refused x → {n : ℕ} → n ≡ number x → n ≡ outcomeNumber o
+  pub number-refused : {x : Refusal} → o ≡ outcome.Refused x → {n : ℕ} → n ≡ number x → n ≡ dictionaryNumber o
   number-refused e q = q ∙ rw e
 
-  pub number-partly : o ≡ outcome.PartlyIndexed → 34 ≡ outcomeNumber o
+  pub number-partly : o ≡ outcome.PartlyIndexed → 34 ≡ dictionaryNumber o
   number-partly e = rw e
 
-  pub number-clash : o ≡ outcome.NumberClash → 35 ≡ outcomeNumber o
+  pub number-clash : o ≡ outcome.NumberClash → 35 ≡ dictionaryNumber o
   number-clash e = rw e
 
-  pub number-slice : o ≡ outcome.SliceTooSmall → 36 ≡ outcomeNumber o
+  pub number-slice : o ≡ outcome.SliceTooSmall → 36 ≡ dictionaryNumber o
   number-slice e = rw e
 
 pub ruleset outcomes = (number-accepted, number-refused, number-partly, number-clash, number-slice)
@@ -66,13 +66,13 @@ module _ (a : ReadAnswer) (f : FileFormat) (k : ℕ) (j : Judged) where
       → _≡_ {A = DictionaryAnswer} (record { outcome = outcome.Accepted f k; line = a .line; start = a .start; entries = a .entries; strings = n; contigs = m }) (answerOf a f k j)
   answer-whole e = rw e
 
-  pub answer-partly : j ≡ PartlyIndexed → {r : DictionaryAnswer} → r ≡ refusedAs outcome.PartlyIndexed 0 0 (a .entries) → r ≡ answerOf a f k j
+  pub answer-partly : j ≡ PartlyIndexed → {r : DictionaryAnswer} → r ≡ dictionaryRefusedAs outcome.PartlyIndexed 0 0 (a .entries) → r ≡ answerOf a f k j
   answer-partly e q = q ∙ rw e
 
-  pub answer-clash : j ≡ NumberClash → {r : DictionaryAnswer} → r ≡ refusedAs outcome.NumberClash 0 0 (a .entries) → r ≡ answerOf a f k j
+  pub answer-clash : j ≡ NumberClash → {r : DictionaryAnswer} → r ≡ dictionaryRefusedAs outcome.NumberClash 0 0 (a .entries) → r ≡ answerOf a f k j
   answer-clash e q = q ∙ rw e
 
-  pub answer-small : j ≡ SliceTooSmall → {r : DictionaryAnswer} → r ≡ refusedAs outcome.SliceTooSmall 0 0 (a .entries) → r ≡ answerOf a f k j
+  pub answer-small : j ≡ SliceTooSmall → {r : DictionaryAnswer} → r ≡ dictionaryRefusedAs outcome.SliceTooSmall 0 0 (a .entries) → r ≡ answerOf a f k j
   answer-small e q = q ∙ rw e
 
 pub ruleset answers = (answer-whole, answer-partly, answer-clash, answer-small)
@@ -107,9 +107,9 @@ sized-imposed (some w) own e s = rw e at s
 -- What becomes of both, and what the rules answer
 
 record Answers (a : ReadAnswer) (f : FileFormat) (k : ℕ) (r : Reading) (ss cs : List Line) (j : Judged) (x : Dictionaries) : Type 0 where
-  tells-it : toldOf (answerOf a f k j) ≡ tellsOf r x
-  strings-it : writtenOf j (pairs Strings ss) ≡ x .strings
-  contigs-it : writtenOf j (pairs Contigs cs) ≡ x .contigs
+  tells-it : dictionaryAnswerMeans (answerOf a f k j) ≡ dictionariesMean r x
+  strings-it : pairsWritten j (pairs Strings ss) ≡ x .strings
+  contigs-it : pairsWritten j (pairs Contigs cs) ≡ x .contigs
 
 module _ (a : ReadAnswer) (f : FileFormat) (k : ℕ) (r : Reading) (e : answerMeans a ≡ readingMeans r) (o : a .outcome ≡ read-outcome.Accepted f k) (z : r .number ≡ 0) (s c : ℕ) (ss cs : List Line) where
   counted : a .entries ≡ length (r .entries)
@@ -162,12 +162,12 @@ module _ (imposed : Option Version) (h : Bytes) (t₀ : List ℕ) (a : ReadAnswe
     unfolding dictionaries
     refused-is s c = let n = number-suc x in dictionaries-refused s c read (number-is ∙ n .1)
 
-    refused-told : (s c : ℕ) {r : DictionaryAnswer} → r ≡ refusedAs (outcome.Refused x) (a .line) (a .start) (a .entries) → toldOf r ≡ tellsOf read (given s c)
+    refused-told : (s c : ℕ) {r : DictionaryAnswer} → r ≡ dictionaryRefusedAs (outcome.Refused x) (a .line) (a .start) (a .entries) → dictionaryAnswerMeans r ≡ dictionariesMean read (given s c)
     refused-told s c q =
         let n = number-suc x in
-        ap toldOf q ∙ rw (refused-is s c, number-is, ap (λ (y : AnswerMeaning). y .line) e, ap (λ (y : AnswerMeaning). y .start) e, entries-are) (rw (n .1))
+        ap dictionaryAnswerMeans q ∙ rw (refused-is s c, number-is, ap (λ (y : AnswerMeaning). y .line) e, ap (λ (y : AnswerMeaning). y .start) e, entries-are) (rw (n .1))
 
-    pub refused-call : (s c : List ℕ) {r : DictionaryAnswer} → r ≡ refusedAs (outcome.Refused x) (a .line) (a .start) (a .entries) → DictionaryCall limits imposed h t₀ s c r t s c
+    pub refused-call : (s c : List ℕ) {r : DictionaryAnswer} → r ≡ dictionaryRefusedAs (outcome.Refused x) (a .line) (a .start) (a .entries) → DictionaryCall limits imposed h t₀ s c r t s c
     refused-call s c q = record {
       answer = refused-told (length s) (length c) q;
       table = call .table;
@@ -211,7 +211,7 @@ module _ (imposed : Option Version) (h : Bytes) (t₀ : List ℕ) (a : ReadAnswe
 
     pub accepted-call : DictionaryCall limits imposed h t₀ s c r t s′ c′
     accepted-call = record {
-      answer = ap toldOf (w .answers) ∙ answers-it .tells-it;
+      answer = ap dictionaryAnswerMeans (w .answers) ∙ answers-it .tells-it;
       table = call .table;
       strings = w .numbers .strings-are ∙ ap (sets s 0) (answers-it .strings-it);
       contigs = w .numbers .contigs-are ∙ ap (sets c 0) (answers-it .contigs-it);

@@ -9,7 +9,7 @@ use Rattle.records.specs.Refusals.{number}
 use Rattle.records.specs.declared.refusal.Refusal.{Refusal}
 use Rattle.records.specs.declared.refusal.Refusal.the-variants.{ExpectedEof, LineTooLong, InvalidUtf8, MissingFileFormat, UnexpectedFileFormat, InvalidRecord, InvalidFileFormat, InvalidMap, InvalidField, DuplicateTag, InvalidNumber, InvalidType, InvalidInteger, MissingId, MissingNumber, MissingType, MissingDescription, DefinitionMismatch, DuplicateId, MixedValues, DuplicateOtherId, InvalidHeader, DuplicateSampleName, TableFull, Empty, MissingHeader, HeaderTooLong, FormTooLong, InvalidEntry}
 use Rattle.records.proofs.Refusals.{number-injective}
-use Rattle.dictionary.specs.Answers.{outcomeNumber, outcomeSays, ToldDictionaries, toldOf}
+use Rattle.dictionary.specs.Answers.{dictionaryNumber, dictionarySays, DictionariesMeaning, dictionaryAnswerMeans}
 use Rattle.dictionary.specs.declared.string_maps.DictionaryOutcome.{DictionaryOutcome}
 use Rattle.dictionary.specs.declared.string_maps.DictionaryOutcome.the-variants as outcome
 use Rattle.dictionary.specs.declared.string_maps.DictionaryAnswer.{DictionaryAnswer}
@@ -46,7 +46,7 @@ number-small HeaderTooLong = omega arith
 number-small FormTooLong = omega arith
 number-small InvalidEntry = omega arith
 
-outcome-is : (x y : DictionaryOutcome) → outcomeNumber x ≡ outcomeNumber y → outcomeSays x ≡ outcomeSays y → x ≡ y
+outcome-is : (x y : DictionaryOutcome) → dictionaryNumber x ≡ dictionaryNumber y → dictionarySays x ≡ dictionarySays y → x ≡ y
 outcome-is (outcome.Accepted f m) (outcome.Accepted g n) e s =
     let p = some-is s in
     ap₂ outcome.Accepted (ap (λ (q : Version × ℕ). formatOf (q .0)) p) (ap (λ (q : Version × ℕ). q .1) p)
@@ -76,12 +76,12 @@ outcome-is outcome.SliceTooSmall outcome.NumberClash e s = absurd (omega arith)
 outcome-is outcome.SliceTooSmall outcome.SliceTooSmall e s = refl
 
 -- two answers that tell the same are the same, so what `dictionaries` promises is one answer
-pub told-injective : (a b : DictionaryAnswer) → toldOf a ≡ toldOf b → a ≡ b
+pub told-injective : (a b : DictionaryAnswer) → dictionaryAnswerMeans a ≡ dictionaryAnswerMeans b → a ≡ b
 told-injective a b e =
-    let o = outcome-is (a .outcome) (b .outcome) (ap (λ (t : ToldDictionaries). t .number) e) (ap (λ (t : ToldDictionaries). t .accepted) e) in
-    let l = ap (λ (t : ToldDictionaries). t .line) e in
-    let s = ap (λ (t : ToldDictionaries). t .start) e in
-    let n = ap (λ (t : ToldDictionaries). t .entries) e in
-    let x = ap (λ (t : ToldDictionaries). t .strings) e in
-    let y = ap (λ (t : ToldDictionaries). t .contigs) e in
+    let o = outcome-is (a .outcome) (b .outcome) (ap (λ (t : DictionariesMeaning). t .number) e) (ap (λ (t : DictionariesMeaning). t .accepted) e) in
+    let l = ap (λ (t : DictionariesMeaning). t .line) e in
+    let s = ap (λ (t : DictionariesMeaning). t .start) e in
+    let n = ap (λ (t : DictionariesMeaning). t .entries) e in
+    let x = ap (λ (t : DictionariesMeaning). t .strings) e in
+    let y = ap (λ (t : DictionariesMeaning). t .contigs) e in
     rw (o, l, s, n, x, y)

@@ -15,7 +15,7 @@ use Rattle.values.proofs.Markings.{mark-own, mark-kept}
 use Rattle.rules.specs.Known.{isIn}
 use Rattle.rules.specs.Map.{isSome}
 use Rattle.rules.proofs.Alls.{in-append}
-use Rattle.dictionary.specs.Dictionary.{Line, carries, anyOf, numberOf, Numbered, clashes, numbered}
+use Rattle.dictionary.specs.Dictionary.{Line, carries, anyOf, idNumber, Numbered, clashes, numberedLines}
 use Rattle.dictionary.specs.Places.{idxNamed, isIdx, numberSeen, markTwice, idxFound}
 use Rattle.dictionary.specs.declared.line.Dictionary.{Dictionary}
 use Rattle.dictionary.proofs.Firsts.{ids, in-other, clash-equal, clash-other, clash-sym}
@@ -113,10 +113,10 @@ free-has p (q ∷ ps) f m = elim (test (isPair p q)) [
 
 module _ (d : Dictionary) (ls : List Line) where
   abbrev pub num : Line → ℕ
-  num l = numberOf d ls l
+  num l = idNumber d ls l
 
-  pub idx-number : (l : Line) {n : ℕ} → l .idx ≡ some n → numberOf d ls l ≡ n
-  unfolding numberOf
+  pub idx-number : (l : Line) {n : ℕ} → l .idx ≡ some n → idNumber d ls l ≡ n
+  unfolding idNumber
   idx-number l e = rw e
 
   is-number : (l : Line) (n : ℕ) → carries l ≡ true → eqb n (num l) ≡ isIdx n (l .idx)
@@ -132,7 +132,7 @@ module _ (d : Dictionary) (ls : List Line) where
   abbrev pub Carrying : List Line → Type 0
   Carrying ms = All (λ (l : Line). carries l ≡ true) ms
 
-  pub clashes-new : (x : Bytes) (n : ℕ) (ms : List Line) → Carrying ms → isIn x (ids ms) ≡ false → anyOf (clashes (x, n)) (numbered d ls ms) ≡ numberSeen n ms
+  pub clashes-new : (x : Bytes) (n : ℕ) (ms : List Line) → Carrying ms → isIn x (ids ms) ≡ false → anyOf (clashes (x, n)) (numberedLines d ls ms) ≡ numberSeen n ms
   unfolding anyOf isIn
   clashes-new x n [] a i = refl
   clashes-new x n (l ∷ ms) a i =
@@ -140,7 +140,7 @@ module _ (d : Dictionary) (ls : List Line) where
       rw (clash-other (x, n) (l .id, num l) s, is-number l n (a .0), clashes-new x n ms (a .1) (or-r (same (l .id) x) (isIn x (ids ms)) i))
 
   module _ (x : Bytes) (n : ℕ) where
-    pub named-pair : (ms : List Line) {m : Option ℕ} → Carrying ms → idxNamed x ms ≡ some m → isIdx n m ≡ true → anyOf (isPair (x, n)) (numbered d ls ms) ≡ true
+    pub named-pair : (ms : List Line) {m : Option ℕ} → Carrying ms → idxNamed x ms ≡ some m → isIdx n m ≡ true → anyOf (isPair (x, n)) (numberedLines d ls ms) ≡ true
     unfolding anyOf idxNamed
     named-pair [] a e i = none-not e
     named-pair (l ∷ ms) a e i = elim (test (same (l .id) x)) [
@@ -150,7 +150,7 @@ module _ (d : Dictionary) (ls : List Line) where
       | fail s ↦ or-on (isPair (x, n) (l .id, num l)) (named-pair ms (a .1) (sym (named-later x l ms s) ∙ e) i)
     ]
 
-    pub named-clash : (ms : List Line) {m : Option ℕ} → Carrying ms → idxNamed x ms ≡ some m → isIdx n m ≡ false → anyOf (clashes (x, n)) (numbered d ls ms) ≡ true
+    pub named-clash : (ms : List Line) {m : Option ℕ} → Carrying ms → idxNamed x ms ≡ some m → isIdx n m ≡ false → anyOf (clashes (x, n)) (numberedLines d ls ms) ≡ true
     unfolding anyOf idxNamed
     named-clash [] a e i = none-not e
     named-clash (l ∷ ms) a e i = elim (test (same (l .id) x)) [

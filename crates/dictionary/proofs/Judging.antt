@@ -9,9 +9,9 @@ use lib.ListN.{length}
 use borrow.Author.Tests.{leb-true, le-leb, lt-leb}
 use Rattle.values.specs.Bytes.{Bytes}
 use Rattle.values.proofs.Tests.{pass, fail, test, or-l, or-r, or-on, and-l, and-r, and-off, never}
-use Rattle.dictionary.specs.Dictionary.{Line, mixed, firstLines, numberOf, clash, pairs}
+use Rattle.dictionary.specs.Dictionary.{Line, mixedIdx, firstLines, idNumber, dictionaryClash, pairs}
 use Rattle.dictionary.specs.Lines.{stringLines, contigLines}
-use Rattle.dictionary.specs.Pairs.{carriedBy, Uniform, countOr, numberingOf, NumbersLines}
+use Rattle.dictionary.specs.Pairs.{carriedBy, Uniform, countOrNone, numberingOf, NumbersLines}
 use Rattle.dictionary.specs.Answers.{judgedOf, CountsPairs, Judges, NumbersBoth}
 use Rattle.dictionary.specs.declared.line.Dictionary.{Dictionary}
 use Rattle.dictionary.specs.declared.line.Dictionary.the-variants.{Strings, Contigs}
@@ -41,22 +41,22 @@ pub ruleset counted = (pairs-counted)
 
 pub pairs-length : (d : Dictionary) (ls : List Line) → length (pairs d ls) ≡ 2 * length (firstLines [] ls)
 unfolding pairs
-pairs-length d ls = words-length (numberOf d ls) (firstLines [] ls)
+pairs-length d ls = words-length (idNumber d ls) (firstLines [] ls)
 
 module _ (s c : ℕ) (ss cs : List Line) where
   abbrev fit : Bool
   fit = leb (length (pairs Strings ss)) s && leb (length (pairs Contigs cs)) c
 
-  judged-mixed : mixed ss || mixed cs ≡ true → judgedOf s c ss cs ≡ PartlyIndexed
+  judged-mixed : mixedIdx ss || mixedIdx cs ≡ true → judgedOf s c ss cs ≡ PartlyIndexed
   unfolding judgedOf
   judged-mixed e = rw (judgedOf, e)
 
-  module _ (e : mixed ss || mixed cs ≡ false) where
-    judged-clash : clash Strings ss || clash Contigs cs ≡ true → judgedOf s c ss cs ≡ NumberClash
+  module _ (e : mixedIdx ss || mixedIdx cs ≡ false) where
+    judged-clash : dictionaryClash Strings ss || dictionaryClash Contigs cs ≡ true → judgedOf s c ss cs ≡ NumberClash
     unfolding judgedOf
     judged-clash f = rw (judgedOf, e, f)
 
-    module _ (f : clash Strings ss || clash Contigs cs ≡ false) where
+    module _ (f : dictionaryClash Strings ss || dictionaryClash Contigs cs ≡ false) where
       judged-small : fit ≡ false → judgedOf s c ss cs ≡ SliceTooSmall
       unfolding judgedOf
       judged-small g = rw (judgedOf, e, f, g)
@@ -67,16 +67,16 @@ module _ (s c : ℕ) (ss cs : List Line) where
 
   -- which of them it is
   pub data Judgement : Type 0 where
-    partly : mixed ss || mixed cs ≡ true → judgedOf s c ss cs ≡ PartlyIndexed → Judgement
-    clashing : mixed ss || mixed cs ≡ false → clash Strings ss || clash Contigs cs ≡ true → judgedOf s c ss cs ≡ NumberClash → Judgement
-    small : mixed ss || mixed cs ≡ false → clash Strings ss || clash Contigs cs ≡ false → fit ≡ false → judgedOf s c ss cs ≡ SliceTooSmall → Judgement
-    whole : mixed ss || mixed cs ≡ false → clash Strings ss || clash Contigs cs ≡ false → fit ≡ true
+    partly : mixedIdx ss || mixedIdx cs ≡ true → judgedOf s c ss cs ≡ PartlyIndexed → Judgement
+    clashing : mixedIdx ss || mixedIdx cs ≡ false → dictionaryClash Strings ss || dictionaryClash Contigs cs ≡ true → judgedOf s c ss cs ≡ NumberClash → Judgement
+    small : mixedIdx ss || mixedIdx cs ≡ false → dictionaryClash Strings ss || dictionaryClash Contigs cs ≡ false → fit ≡ false → judgedOf s c ss cs ≡ SliceTooSmall → Judgement
+    whole : mixedIdx ss || mixedIdx cs ≡ false → dictionaryClash Strings ss || dictionaryClash Contigs cs ≡ false → fit ≡ true
         → judgedOf s c ss cs ≡ Whole (length (firstLines [] ss)) (length (firstLines [] cs)) → Judgement
 
   pub judgement : Judgement
-  judgement = elim (test (mixed ss || mixed cs)) [
+  judgement = elim (test (mixedIdx ss || mixedIdx cs)) [
     | pass e ↦ partly e (judged-mixed e)
-    | fail e ↦ elim (test (clash Strings ss || clash Contigs cs)) [
+    | fail e ↦ elim (test (dictionaryClash Strings ss || dictionaryClash Contigs cs)) [
       | pass f ↦ clashing e f (judged-clash e f)
       | fail f ↦ elim (test fit) [
         | pass g ↦ whole e f g (judged-whole e f g)
@@ -93,11 +93,11 @@ uniform x ls e m = go (x .given) refl
     go true g = sym (ap (λ (y : Carried). y .missing) e) ∙ (rw g at m)
     go false g = sym (ap (λ (y : Carried). y .given) e) ∙ g
 
-counts : (b : Bool) (k : ℕ) {n : ℕ} → countOr b k ≡ numbering.Pairs n → (b ≡ false) × (k ≡ n)
+counts : (b : Bool) (k : ℕ) {n : ℕ} → countOrNone b k ≡ numbering.Pairs n → (b ≡ false) × (k ≡ n)
 counts true k e = never cc
 counts false k e = (refl, cc)
 
-counts-not : (b : Bool) (k : ℕ) → countOr b k ≡ numbering.Clash → b ≡ true
+counts-not : (b : Bool) (k : ℕ) → countOrNone b k ≡ numbering.Clash → b ≡ true
 counts-not true k e = refl
 counts-not false k e = never cc
 
@@ -114,40 +114,40 @@ module _ (x y : Carried) (h : Bytes) (t : List ℕ) (s c : ℕ) {p : Bool} (ep :
 
   module _ (fp : p ≡ false) {q : Bool} (eq : q ≡ y .given && y .missing) where
     pub judge-contigs : q ≡ true → Judges x y h t s c PartlyIndexed
-    judge-contigs e = record { is = λ ex ey. sym (judged-mixed s c ss cs (or-on (mixed ss) (sym (ap (λ (z : Carried). z .given && z .missing) ey) ∙ sym eq ∙ e))) }
+    judge-contigs e = record { is = λ ex ey. sym (judged-mixed s c ss cs (or-on (mixedIdx ss) (sym (ap (λ (z : Carried). z .given && z .missing) ey) ∙ sym eq ∙ e))) }
 
     module _ (fq : q ≡ false) where
-      unmixed : x ≡ carriedBy ss → y ≡ carriedBy cs → mixed ss || mixed cs ≡ false
+      unmixed : x ≡ carriedBy ss → y ≡ carriedBy cs → mixedIdx ss || mixedIdx cs ≡ false
       unmixed ex ey = rw (sym (ap (λ (z : Carried). z .given && z .missing) ex) ∙ sym ep ∙ fp, sym (ap (λ (z : Carried). z .given && z .missing) ey) ∙ sym eq ∙ fq)
 
       module _ {m : Numbering} (w : CountsPairs Strings (x .given) ss m) where
-        strings-are : x ≡ carriedBy ss → countOr (clash Strings ss) (length (firstLines [] ss)) ≡ m
+        strings-are : x ≡ carriedBy ss → countOrNone (dictionaryClash Strings ss) (length (firstLines [] ss)) ≡ m
         unfolding numberingOf
         strings-are ex = sym (w .is (uniform x ss ex (sym ep ∙ fp)))
 
         pub judge-strings-clash : m ≡ numbering.Clash → Judges x y h t s c NumberClash
         judge-strings-clash e = record {
-          is = λ ex ey. sym (judged-clash s c ss cs (unmixed ex ey) (rw (counts-not (clash Strings ss) (length (firstLines [] ss)) (strings-are ex ∙ e))));
+          is = λ ex ey. sym (judged-clash s c ss cs (unmixed ex ey) (rw (counts-not (dictionaryClash Strings ss) (length (firstLines [] ss)) (strings-are ex ∙ e))));
         }
 
         module _ {n₁ : ℕ} (em : m ≡ numbering.Pairs n₁) {m′ : Numbering} (w′ : CountsPairs Contigs (y .given) cs m′) where
-          string-counts : x ≡ carriedBy ss → (clash Strings ss ≡ false) × (length (firstLines [] ss) ≡ n₁)
-          string-counts ex = counts (clash Strings ss) (length (firstLines [] ss)) (strings-are ex ∙ em)
+          string-counts : x ≡ carriedBy ss → (dictionaryClash Strings ss ≡ false) × (length (firstLines [] ss) ≡ n₁)
+          string-counts ex = counts (dictionaryClash Strings ss) (length (firstLines [] ss)) (strings-are ex ∙ em)
 
-          contigs-are : y ≡ carriedBy cs → countOr (clash Contigs cs) (length (firstLines [] cs)) ≡ m′
+          contigs-are : y ≡ carriedBy cs → countOrNone (dictionaryClash Contigs cs) (length (firstLines [] cs)) ≡ m′
           unfolding numberingOf
           contigs-are ey = sym (w′ .is (uniform y cs ey (sym eq ∙ fq)))
 
           pub judge-contigs-clash : m′ ≡ numbering.Clash → Judges x y h t s c NumberClash
           judge-contigs-clash e = record {
-            is = λ ex ey. sym (judged-clash s c ss cs (unmixed ex ey) (or-on (clash Strings ss) (counts-not (clash Contigs cs) (length (firstLines [] cs)) (contigs-are ey ∙ e))));
+            is = λ ex ey. sym (judged-clash s c ss cs (unmixed ex ey) (or-on (dictionaryClash Strings ss) (counts-not (dictionaryClash Contigs cs) (length (firstLines [] cs)) (contigs-are ey ∙ e))));
           }
 
           module _ {n₂ : ℕ} (em′ : m′ ≡ numbering.Pairs n₂) where
-            contig-counts : y ≡ carriedBy cs → (clash Contigs cs ≡ false) × (length (firstLines [] cs) ≡ n₂)
-            contig-counts ey = counts (clash Contigs cs) (length (firstLines [] cs)) (contigs-are ey ∙ em′)
+            contig-counts : y ≡ carriedBy cs → (dictionaryClash Contigs cs ≡ false) × (length (firstLines [] cs) ≡ n₂)
+            contig-counts ey = counts (dictionaryClash Contigs cs) (length (firstLines [] cs)) (contigs-are ey ∙ em′)
 
-            free : x ≡ carriedBy ss → y ≡ carriedBy cs → clash Strings ss || clash Contigs cs ≡ false
+            free : x ≡ carriedBy ss → y ≡ carriedBy cs → dictionaryClash Strings ss || dictionaryClash Contigs cs ≡ false
             free ex ey = rw (string-counts ex .0, contig-counts ey .0)
 
             pub judge-strings-small : s / 2 < n₁ → Judges x y h t s c SliceTooSmall
@@ -200,10 +200,10 @@ module _ (h : Bytes) (t s c : List ℕ) {x : Carried} (ex : x ≡ carriedBy (str
 
   -- where both fit, nothing is mixed and nothing clashes
   record Fits : Type 0 where
-    unmixed-strings : mixed strings ≡ false
-    unmixed-contigs : mixed contigs ≡ false
-    free-strings : clash Strings strings ≡ false
-    free-contigs : clash Contigs contigs ≡ false
+    unmixed-strings : mixedIdx strings ≡ false
+    unmixed-contigs : mixedIdx contigs ≡ false
+    free-strings : dictionaryClash Strings strings ≡ false
+    free-contigs : dictionaryClash Contigs contigs ≡ false
     strings-fit : length (pairs Strings strings) ≤ length s
     contigs-fit : length (pairs Contigs contigs) ≤ length c
 
@@ -218,10 +218,10 @@ module _ (h : Bytes) (t s c : List ℕ) {x : Carried} (ex : x ≡ carriedBy (str
           let p = leb (length (pairs Strings strings)) (length s) in
           let q = leb (length (pairs Contigs contigs)) (length c) in
           record {
-            unmixed-strings = or-l (mixed strings) (mixed contigs) a;
-            unmixed-contigs = or-r (mixed strings) (mixed contigs) a;
-            free-strings = or-l (clash Strings strings) (clash Contigs contigs) b;
-            free-contigs = or-r (clash Strings strings) (clash Contigs contigs) b;
+            unmixed-strings = or-l (mixedIdx strings) (mixedIdx contigs) a;
+            unmixed-contigs = or-r (mixedIdx strings) (mixedIdx contigs) a;
+            free-strings = or-l (dictionaryClash Strings strings) (dictionaryClash Contigs contigs) b;
+            free-contigs = or-r (dictionaryClash Strings strings) (dictionaryClash Contigs contigs) b;
             strings-fit = leb-true (length (pairs Strings strings)) (length s) (and-l p q f);
             contigs-fit = leb-true (length (pairs Contigs contigs)) (length c) (and-r p q f);
           }

@@ -10,7 +10,7 @@ use Rattle.entries.specs.Values.{entryOf}
 use Rattle.entries.specs.Tables.{room, entriesIn, entryIn}
 use Rattle.entries.proofs.Stored.{entries-here, entries-past}
 use Rattle.dictionary.specs.Dictionary.{Line, lineIf}
-use Rattle.dictionary.specs.Lines.{holds, entryLine, entryLines}
+use Rattle.dictionary.specs.Lines.{holds, lineOfEntry, entryLines}
 use Rattle.dictionary.specs.declared.line.Dictionary.{Dictionary}
 
 -- those from entry k on
@@ -24,12 +24,12 @@ module _ (d : Dictionary) (h : Bytes) (t : List ℕ) (k : ℕ) {n : ℕ} (en : n
 
   -- e is the entry that the code got
   module _ (l : k < n) {e : CodeEntry} (ee : entryOf e ≡ entryIn t k) {q : Bool} (eq : q ≡ holds d (e .kind)) where
-    left-turn : left d h t k ≡ lineIf q (entryLine h k (entryOf e)) (left d h t (k + 1))
+    left-turn : left d h t k ≡ lineIf q (lineOfEntry h k (entryOf e)) (left d h t (k + 1))
     unfolding entryLines
     left-turn = rw (entries-here t k (rw (← en) l), ← ee, eq)
 
     pub left-skip : q ≡ false → left d h t k ≡ left d h t (k + 1)
     left-skip f = left-turn ∙ rw f
 
-    pub left-take : q ≡ true → left d h t k ≡ entryLine h k (entryOf e) ∷ left d h t (k + 1)
+    pub left-take : q ≡ true → left d h t k ≡ lineOfEntry h k (entryOf e) ∷ left d h t (k + 1)
     left-take f = left-turn ∙ rw f

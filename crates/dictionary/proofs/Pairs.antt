@@ -17,8 +17,8 @@ use Rattle.entries.specs.declared.entry.Entry.{Entry as CodeEntry}
 use Rattle.entries.specs.Values.{entryOf}
 use Rattle.entries.specs.Tables.{room, firstEntries, entriesIn, entryIn}
 use Rattle.entries.proofs.Stored.{entries-here, entries-count, first-entries}
-use Rattle.dictionary.specs.Dictionary.{Line, lineIf, anyOf, carries, lacks, firstLines, numberOf, words, pairs}
-use Rattle.dictionary.specs.Lines.{holds, idxMeant, entryLine, entryLines, tableLines, idAt, idxAt}
+use Rattle.dictionary.specs.Dictionary.{Line, lineIf, anyOf, carries, lacks, firstLines, idNumber, pairWords, pairs}
+use Rattle.dictionary.specs.Lines.{holds, idxMeant, lineOfEntry, entryLines, tableLines, idAt, idxAt}
 use Rattle.dictionary.specs.Places.{idxNamed, markTwice, isTaken, metBy, placeBy, placeAt}
 use Rattle.dictionary.specs.Pairs.{carriedBy, putPair, firstNumber, Counts, turnOf, turnOut, Uniform, numberingOf, NumbersLines}
 use Rattle.dictionary.specs.declared.line.Dictionary.{Dictionary}
@@ -105,11 +105,11 @@ put-length out pair entry number = elim (test (ltb pair (length out / 2))) [
 pub record Going (d : Dictionary) (indexed : Bool) (ls before left : List Line) (out₀ out : List ℕ) (ms ns : Bytes) (n next : ℕ) : Type 0 where
   pub marked : AllMarked ms before
   pub counted : length (firstLines [] ls) ≡ n + length (firstLines (onto before []) left)
-  pub written : length (pairs d ls) ≤ length out₀ → sets out₀ 0 (pairs d ls) ≡ sets out (2 * n) (words (numberOf d ls) (firstLines (onto before []) left))
+  pub written : length (pairs d ls) ≤ length out₀ → sets out₀ 0 (pairs d ls) ≡ sets out (2 * n) (pairWords (idNumber d ls) (firstLines (onto before []) left))
   pub mode : Mode indexed d ls before left ns next
 
-pub words-length : (f : Line → ℕ) (ls : List Line) → length (words f ls) ≡ 2 * length ls
-unfolding words
+pub words-length : (f : Line → ℕ) (ls : List Line) → length (pairWords f ls) ≡ 2 * length ls
+unfolding pairWords
 words-length f [] = refl
 words-length f (l ∷ ls) = let ih = words-length f ls in omega arith
 
@@ -132,9 +132,9 @@ module _ {d : Dictionary} {indexed : Bool} {ls before : List Line} (l : Line) {l
         mode = mode′;
       }
 
-  going-first : isIn (l .id) (ids before) ≡ false → {number : ℕ} → number ≡ numberOf d ls l → length out ≡ length out₀
+  going-first : isIn (l .id) (ids before) ≡ false → {number : ℕ} → number ≡ idNumber d ls l → length out ≡ length out₀
       → Going d indexed ls (before ++ l ∷ []) left out₀ (putPair out n (l .entry) number) (markTwice ms (l .id)) ns′ (n + 1) next′
-  unfolding words pairs putPair
+  unfolding pairWords pairs putPair
   going-first i {number} e size =
       let rest = firstLines (onto (before ++ l ∷ []) []) left in
       let f : firstLines (onto before []) (l ∷ left) ≡ l ∷ rest = first-new (onto before []) l left (in-before ∙ i) ∙ rw onto-more in
@@ -143,7 +143,7 @@ module _ {d : Dictionary} {indexed : Bool} {ls before : List Line} (l : Line) {l
         marked = marked-more ms before l (g .marked);
         counted = omega arith;
         written = λ r.
-            let fits : n < length out / 2 = omega (arith, words-length (numberOf d ls) (firstLines [] ls)) in
+            let fits : n < length out / 2 = omega (arith, words-length (idNumber d ls) (firstLines [] ls)) in
             let two : 2 * (n + 1) ≡ suc (suc (2 * n)) = omega arith in
             g .written r ∙ rw (f, two, putPair, lt-ltb n (length out / 2) fits, e);
         mode = mode′;
@@ -162,8 +162,8 @@ lines-append d h n (x ∷ xs) ys =
     go (holds d (x .kind)) (lines-append d h (n + 1) xs ys ∙ rw e)
   where
     go : (q : Bool) → entryLines d h (n + 1) (xs ++ ys) ≡ entryLines d h (n + 1) xs ++ entryLines d h (n + suc (length xs)) ys
-        → lineIf q (entryLine h n x) (entryLines d h (n + 1) (xs ++ ys)) ≡ lineIf q (entryLine h n x) (entryLines d h (n + 1) xs) ++ entryLines d h (n + suc (length xs)) ys
-    go true e = ap (entryLine h n x ∷_) e
+        → lineIf q (lineOfEntry h n x) (entryLines d h (n + 1) (xs ++ ys)) ≡ lineIf q (lineOfEntry h n x) (entryLines d h (n + 1) xs) ++ entryLines d h (n + suc (length xs)) ys
+    go true e = ap (lineOfEntry h n x ∷_) e
     go false e = e
 
 module _ (d : Dictionary) (h : Bytes) (t : List ℕ) (k : ℕ) where
@@ -176,7 +176,7 @@ module _ (d : Dictionary) (h : Bytes) (t : List ℕ) (k : ℕ) where
       ap (entryLines d h 0) (sym (take-append-drop k (entriesIn t))) ∙ lines-append d h 0 (take k (entriesIn t)) (drop k (entriesIn t)) ∙ rw e
 
   module _ {n : ℕ} (en : n ≡ room t) (l : k < n) {e : CodeEntry} (ee : entryOf e ≡ entryIn t k) {q : Bool} (eq : q ≡ holds d (e .kind)) where
-    before-turn : before d h t (k + 1) ≡ before d h t k ++ lineIf q (entryLine h k (entryOf e)) []
+    before-turn : before d h t (k + 1) ≡ before d h t k ++ lineIf q (lineOfEntry h k (entryOf e)) []
     unfolding entryLines
     before-turn =
         let here : drop k (entriesIn t) ≡ entryOf e ∷ drop (k + 1) (entriesIn t) = entries-here t k (rw (← en) l) ∙ ap (_∷ drop (k + 1) (entriesIn t)) (sym ee) in
@@ -252,7 +252,7 @@ module _ {d : Dictionary} {indexed : Bool} {h : Bytes} {t out₀ out : List ℕ}
   Goes bs rs o ms′ ns′ m′ next′ = Going d indexed ls bs rs out₀ o ms′ ns′ m′ next′
 
   pub progress-end : n ≤ k → NumbersLines d indexed ls out₀ (numbering.Pairs (c .pairs)) out
-  unfolding numberingOf firstLines words
+  unfolding numberingOf firstLines pairWords
   progress-end l =
       let e = left-end d h t k en l in
       record {
@@ -283,7 +283,7 @@ module _ {d : Dictionary} {indexed : Bool} {h : Bytes} {t out₀ out : List ℕ}
 
       module _ (f : q ≡ true) {ahead : List ℕ} (ea : ahead ≡ firstEntries t k) where
         abbrev line : Line
-        line = entryLine h k (entryOf e)
+        line = lineOfEntry h k (entryOf e)
 
         abbrev placed : Placed
         placed = placeAt indexed d h ahead ms ns e

@@ -26,7 +26,7 @@ use Rattle.rules.proofs.Shows.{shows-map}
 use Rattle.rules.proofs.Trace.{TracedHeader}
 use Rattle.forms.proofs.Forms.{named-keyed}
 use Rattle.dictionary.specs.Dictionary.{belongs, Line, idxOf, idxIn, isOf, lineIf, linesOf}
-use Rattle.dictionary.specs.Lines.{holds, fieldsPlace, entryIdx, entryLine, entryLines}
+use Rattle.dictionary.specs.Lines.{holds, fieldsPlace, entryIdx, lineOfEntry, entryLines}
 use Rattle.dictionary.specs.declared.line.Dictionary.{Dictionary}
 use Rattle.dictionary.specs.declared.line.Dictionary.the-variants.{Strings, Contigs}
 use Rattle.rules.specs.Claims.{All, Row, Rows}
@@ -107,7 +107,7 @@ module _ (lim : Limits) (h : Bytes) (v : Version) (d : Dictionary) where
   -- the line of an entry is that of its record
   record Same (n : ℕ) (e : Entry) (r : Record) : Type 0 where
     kind : holds d (e .kind) ≡ isOf d r
-    line : isOf d r ≡ true → entryLine h n e ≡ record { entry = n; id = idOf v r; idx = idxIn v r }
+    line : isOf d r ≡ true → lineOfEntry h n e ≡ record { entry = n; id = idOf v r; idx = idxIn v r }
 
   row-same : (n : ℕ) (e : Entry) (r : Record) → Row lim h v e r → Entered v r → Same n e r
   unfolding recordEntry

@@ -16,7 +16,7 @@ use Rattle.values.proofs.Sames.{same-sound, same-self}
 use Rattle.rules.specs.Known.{isIn}
 use Rattle.rules.specs.Map.{isSome}
 use Rattle.rules.proofs.Alls.{in-append}
-use Rattle.dictionary.specs.Dictionary.{Line, carries, anyOf, implied, firstLines, idsOf, place, numberOf, Numbered, impliedNumbers, clashes, clashed, numbered, clash, dictionary}
+use Rattle.dictionary.specs.Dictionary.{Line, carries, anyOf, implied, firstLines, idsOf, place, idNumber, Numbered, impliedNumbers, clashes, clashed, numberedLines, dictionaryClash, dictionary}
 use Rattle.dictionary.specs.declared.line.Dictionary.{Dictionary}
 use Rattle.dictionary.specs.declared.line.Dictionary.the-variants.{Strings, Contigs}
 use Rattle.dictionary.proofs.Firsts.{ids, first-new, first-old, in-same, in-other, first-ids, place-new, clash-equal, clash-other, clash-sym, Placed, placed-free}
@@ -98,31 +98,31 @@ same-id p q h e = elim (test (same (p .0) (q .0))) [
   | fail s ↦ absurd (eqb-false (p .1) (q .1) (sym (clash-other p q s) ∙ h) e)
 ]
 
-module _ (d : Dictionary) (ls : List Line) (free : clash d ls ≡ false) where
-  unclashed : clashed (impliedNumbers d) (numbered d ls ls) ≡ false
-  unfolding clash
+module _ (d : Dictionary) (ls : List Line) (free : dictionaryClash d ls ≡ false) where
+  unclashed : clashed (impliedNumbers d) (numberedLines d ls ls) ≡ false
+  unfolding dictionaryClash
   unclashed = free
 
   abbrev numbering : Line → Numbered
-  numbering l = (l .id, numberOf d ls l)
+  numbering l = (l .id, idNumber d ls l)
 
   -- a number of the dictionary is PASS's, or a line's
   data Source (p : Numbered) : Type 0 where
     unwritten : Member p (impliedNumbers d) → Source p
-    written : Member p (numbered d ls ls) → Source p
+    written : Member p (numberedLines d ls ls) → Source p
 
-  numbered-first : (p : Numbered) (seen : List Bytes) (ms : List Line) → Member p (numbered d ls (firstLines seen ms)) → Member p (numbered d ls ms)
+  numbered-first : (p : Numbered) (seen : List Bytes) (ms : List Line) → Member p (numberedLines d ls (firstLines seen ms)) → Member p (numberedLines d ls ms)
   unfolding firstLines
   numbered-first p seen (m ∷ ms) h = elim (test (isIn (m .id) seen)) [
-    | pass e ↦ inr (numbered-first p (m .id ∷ seen) ms (subst (λ (x : List Line). Member p (numbered d ls x)) (first-old seen m ms e) h))
-    | fail e ↦ elim (subst (λ (x : List Line). Member p (numbered d ls x)) (first-new seen m ms e) h) [
+    | pass e ↦ inr (numbered-first p (m .id ∷ seen) ms (subst (λ (x : List Line). Member p (numberedLines d ls x)) (first-old seen m ms e) h))
+    | fail e ↦ elim (subst (λ (x : List Line). Member p (numberedLines d ls x)) (first-new seen m ms e) h) [
       | inl i ↦ inl i
       | inr k ↦ inr (numbered-first p (m .id ∷ seen) ms k)
     ]
   ]
 
   source : (p : Numbered) → Member p (dictionary d ls) → Source p
-  source p m = elim (member-append p (impliedNumbers d) (numbered d ls (firstLines (implied d) ls)) m) [
+  source p m = elim (member-append p (impliedNumbers d) (numberedLines d ls (firstLines (implied d) ls)) m) [
     | inl a ↦ unwritten a
     | inr b ↦ written (numbered-first p (implied d) ls b)
   ]
@@ -136,9 +136,9 @@ module _ (d : Dictionary) (ls : List Line) (free : clash d ls ≡ false) where
     where
       go : Source p → Source q → clashes p q ≡ false
       go (unwritten a) (unwritten b) = implied-apart d p q a b
-      go (unwritten a) (written b) = clash-sym p q ∙ clash-between (impliedNumbers d) (numbered d ls ls) unclashed q p b a
-      go (written a) (unwritten b) = clash-between (impliedNumbers d) (numbered d ls ls) unclashed p q a b
-      go (written a) (written b) = clash-among (impliedNumbers d) (numbered d ls ls) unclashed p q a b
+      go (unwritten a) (written b) = clash-sym p q ∙ clash-between (impliedNumbers d) (numberedLines d ls ls) unclashed q p b a
+      go (written a) (unwritten b) = clash-between (impliedNumbers d) (numberedLines d ls ls) unclashed p q a b
+      go (written a) (written b) = clash-among (impliedNumbers d) (numberedLines d ls ls) unclashed p q a b
 
   -- an ID has at most one number
   pub one-number : (x : Bytes) (m n : ℕ) → Member (x, m) (dictionary d ls) → Member (x, n) (dictionary d ls) → m ≡ n
@@ -161,18 +161,18 @@ module _ (d : Dictionary) (ls : List Line) (free : clash d ls ≡ false) where
   member-left p (x ∷ xs) ys (inr m) = inr (member-left p xs ys m)
 
   -- and each line's ID has the number of that line
-  pub has-number : (l : Line) → Member l ls → Member (l .id, numberOf d ls l) (dictionary d ls)
+  pub has-number : (l : Line) → Member l ls → Member (l .id, idNumber d ls l) (dictionary d ls)
   has-number l m = elim (test (isIn (l .id) (implied d))) [
     | pass e ↦ member-left (numbering l) (impliedNumbers d) _
-        (implied-number d (numbering l) e (λ q k. clash-between (impliedNumbers d) (numbered d ls ls) unclashed (numbering l) q (member-map numbering l ls m) k))
+        (implied-number d (numbering l) e (λ q k. clash-between (impliedNumbers d) (numberedLines d ls ls) unclashed (numbering l) q (member-map numbering l ls m) k))
     | fail e ↦
         let w = line-with (l .id) (firstLines (implied d) ls) (first-ids (l .id) (implied d) ls e ∙ id-member l ls m) in
         let f = w .line in
-        let n = same-number (numbering l) (numbering f) (clash-among (impliedNumbers d) (numbered d ls ls) unclashed (numbering l) (numbering f)
+        let n = same-number (numbering l) (numbering f) (clash-among (impliedNumbers d) (numberedLines d ls ls) unclashed (numbering l) (numbering f)
         (member-map numbering l ls m) (member-map numbering f ls (first-member f (implied d) ls (w .member)))) (sym (w .is)) in
         let i : numbering l ≡ numbering f = ap₂ (λ (x : Bytes) (k : ℕ). (x, k)) (sym (w .is)) n in
-        member-right (numbering l) (impliedNumbers d) (numbered d ls (firstLines (implied d) ls))
-        (subst (λ (p : Numbered). Member p (numbered d ls (firstLines (implied d) ls))) (sym i) (member-map numbering f (firstLines (implied d) ls) (w .member)))
+        member-right (numbering l) (impliedNumbers d) (numberedLines d ls (firstLines (implied d) ls))
+        (subst (λ (p : Numbered). Member p (numberedLines d ls (firstLines (implied d) ls))) (sym i) (member-map numbering f (firstLines (implied d) ls) (w .member)))
   ]
 
 -- PASS is 0
@@ -204,8 +204,8 @@ all-first P seen (l ∷ ls) h = elim (test (isIn (l .id) seen)) [
   | fail e ↦ subst (All P) (sym (first-new seen l ls e)) (h .0, all-first P (l .id ∷ seen) ls (h .1))
 ]
 
-pub placed-number : (d : Dictionary) (ls : List Line) (l : Line) → l .idx ≡ none → numberOf d ls l ≡ place (l .id) (idsOf d ls)
-unfolding numberOf
+pub placed-number : (d : Dictionary) (ls : List Line) (l : Line) → l .idx ≡ none → idNumber d ls l ≡ place (l .id) (idsOf d ls)
+unfolding idNumber
 placed-number d ls l e = rw e
 
 among-ids : (d : Dictionary) (ls : List Line) (x : Bytes) → isIn x (ids ls) ≡ true → isIn x (idsOf d ls) ≡ true
@@ -214,7 +214,7 @@ among-ids d ls x h = in-append x (implied d) (ids (firstLines (implied d) ls)) �
   | fail e ↦ rw (e, first-ids x (implied d) ls e) h
 ]
 
-all-placed : (d : Dictionary) (ls ms : List Line) → ((x : Bytes) → isIn x (ids ms) ≡ true → isIn x (idsOf d ls) ≡ true) → All Bare ms → All (Placed (idsOf d ls)) (numbered d ls ms)
+all-placed : (d : Dictionary) (ls ms : List Line) → ((x : Bytes) → isIn x (ids ms) ≡ true → isIn x (idsOf d ls) ≡ true) → All Bare ms → All (Placed (idsOf d ls)) (numberedLines d ls ms)
 unfolding isIn
 all-placed d ls [] f h = tt
 all-placed d ls (m ∷ ms) f h = (
@@ -228,9 +228,9 @@ implied-placed Strings xs = (record { among = refl; is = refl }, tt)
 implied-placed Contigs xs = tt
 
 -- there is no clash
-pub counted-free : (d : Dictionary) (ls : List Line) → anyOf carries ls ≡ false → clash d ls ≡ false
-unfolding clash
-counted-free d ls h = placed-free (idsOf d ls) (impliedNumbers d) (numbered d ls ls) (implied-placed d (ids (firstLines (implied d) ls))) (all-placed d ls ls (among-ids d ls) (all-bare ls h))
+pub counted-free : (d : Dictionary) (ls : List Line) → anyOf carries ls ≡ false → dictionaryClash d ls ≡ false
+unfolding dictionaryClash
+counted-free d ls h = placed-free (idsOf d ls) (impliedNumbers d) (numberedLines d ls ls) (implied-placed d (ids (firstLines (implied d) ls))) (all-placed d ls ls (among-ids d ls) (all-bare ls h))
 
 -- n numbers from a first one on
 unfoldable pub counting : ℕ → ℕ → List ℕ
@@ -267,15 +267,15 @@ places-count xs seen (l ∷ ls) r = elim (test (isIn (l .id) seen)) [
 ]
 
 module _ (d : Dictionary) (ls : List Line) where
-  numbers-of : (ms : List Line) → All Bare ms → map (λ (p : Numbered). p .1) (numbered d ls ms) ≡ map (λ (l : Line). place (l .id) (idsOf d ls)) ms
+  numbers-of : (ms : List Line) → All Bare ms → map (λ (p : Numbered). p .1) (numberedLines d ls ms) ≡ map (λ (l : Line). place (l .id) (idsOf d ls)) ms
   numbers-of [] h = refl
   numbers-of (m ∷ ms) h = ap₂ _∷_ (placed-number d ls m (h .0)) (numbers-of ms (h .1))
 
-  numbered-length : (ms : List Line) → length (numbered d ls ms) ≡ length ms
+  numbered-length : (ms : List Line) → length (numberedLines d ls ms) ≡ length ms
   numbered-length [] = refl
   numbered-length (m ∷ ms) = ap suc (numbered-length ms)
 
-  later-numbers : anyOf carries ls ≡ false → let fs = firstLines (implied d) ls in map (λ (p : Numbered). p .1) (numbered d ls fs) ≡ counting (length (implied d)) (length (numbered d ls fs))
+  later-numbers : anyOf carries ls ≡ false → let fs = firstLines (implied d) ls in map (λ (p : Numbered). p .1) (numberedLines d ls fs) ≡ counting (length (implied d)) (length (numberedLines d ls fs))
   later-numbers h =
       let fs = firstLines (implied d) ls in
       numbers-of fs (all-first Bare (implied d) ls (all-bare ls h)) ∙ places-count (implied d) (implied d) ls (λ x. refl) ∙ ap (counting (length (implied d))) (sym (numbered-length fs))

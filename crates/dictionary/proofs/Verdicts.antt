@@ -13,7 +13,7 @@ use Rattle.values.proofs.Markings.{sure}
 use Rattle.rules.specs.Known.{isIn}
 use Rattle.rules.specs.Map.{isSome}
 use Rattle.rules.proofs.Alls.{in-append}
-use Rattle.dictionary.specs.Dictionary.{Line, carries, lacks, anyOf, implied, firstLines, idsOf, place, numberOf, Numbered, impliedNumbers, clashes, clashed, numbered, clash}
+use Rattle.dictionary.specs.Dictionary.{Line, carries, lacks, anyOf, implied, firstLines, idsOf, place, idNumber, Numbered, impliedNumbers, clashes, clashed, numberedLines, dictionaryClash}
 use Rattle.dictionary.specs.Numbers.{isMet, metAlso}
 use Rattle.dictionary.specs.Places.{idxNamed, isIdx, numberSeen, isTaken, metIdx, metBy, newPlace, againPlace, placeBeside, indexedPlace, countedPlace, placeBy}
 use Rattle.dictionary.specs.Pairs.{Uniform, firstNumber}
@@ -29,10 +29,10 @@ use Rattle.dictionary.proofs.Going.{named-none, named-some, Free, isPai
 -- Where lines carry IDX: `book` are the numbers before
 pub record Indexed (d : Dictionary) (ls before left : List Line) (ns : Bytes) : Type 0 where
   pub book : List Numbered
-  pub alike : (t : Numbered → Bool) → anyOf t book ≡ anyOf t (numbered d ls before)
+  pub alike : (t : Numbered → Bool) → anyOf t book ≡ anyOf t (numberedLines d ls before)
   pub free : Free book
   pub met : (n : ℕ) → numberSeen n before ≡ true → isMet ns n ≡ true
-  pub rest : clash d ls ≡ clashed (book ++ impliedNumbers d) (numbered d ls left)
+  pub rest : dictionaryClash d ls ≡ clashed (book ++ impliedNumbers d) (numberedLines d ls left)
 
 -- where they don't, the next number is due
 abbrev pub Mode : Bool → Dictionary → List Line → List Line → List Line → Bytes → ℕ → Type 0
@@ -42,11 +42,11 @@ Mode false d ls before left ns next = next ≡ length (idsOf d before)
 -- what a place tells of the line l; the marks of numbers after it are ms
 abbrev pub VerdictIs : Bool → Dictionary → List Line → List Line → Line → List Line → Bytes → ℕ → Placed → Type 0
 VerdictIs i d ls before l left ms next (Given n) =
-    (isIn (l .id) (ids before) ≡ false) × (n ≡ numberOf d ls l) × Mode i d ls (before ++ l ∷ []) left ms next
+    (isIn (l .id) (ids before) ≡ false) × (n ≡ idNumber d ls l) × Mode i d ls (before ++ l ∷ []) left ms next
 VerdictIs i d ls before l left ms next Due =
-    (isIn (l .id) (ids before) ≡ false) × (next ≡ numberOf d ls l) × Mode i d ls (before ++ l ∷ []) left ms (next + 1)
+    (isIn (l .id) (ids before) ≡ false) × (next ≡ idNumber d ls l) × Mode i d ls (before ++ l ∷ []) left ms (next + 1)
 VerdictIs i d ls before l left ms next Again = (isIn (l .id) (ids before) ≡ true) × Mode i d ls (before ++ l ∷ []) left ms next
-VerdictIs i d ls before l left ms next Clash = clash d ls ≡ true
+VerdictIs i d ls before l left ms next Clash = dictionaryClash d ls ≡ true
 
 module _ (d : Dictionary) (ls before : List Line) (l : Line) (left : List Line) where
   -- With IDX
@@ -55,17 +55,17 @@ module _ (d : Dictionary) (ls before : List Line) (l : Line) (left : List Line) 
     abbrev p : Numbered
     p = (l .id, n)
 
-    p-is : (l .id, numberOf d ls l) ≡ p
+    p-is : (l .id, idNumber d ls l) ≡ p
     p-is = ap (λ (k : ℕ). (l .id, k)) (idx-number d ls l en)
 
-    opened : clash d ls ≡ (anyOf (clashes p) (g .book) || anyOf (clashes p) (impliedNumbers d)) || clashed (p ∷ (g .book ++ impliedNumbers d)) (numbered d ls left)
+    opened : dictionaryClash d ls ≡ (anyOf (clashes p) (g .book) || anyOf (clashes p) (impliedNumbers d)) || clashed (p ∷ (g .book ++ impliedNumbers d)) (numberedLines d ls left)
     unfolding clashed
     opened = g .rest ∙ rw (p-is, any-append (clashes p) (g .book) (impliedNumbers d))
 
-    by-implied : anyOf (clashes p) (impliedNumbers d) ≡ true → clash d ls ≡ true
+    by-implied : anyOf (clashes p) (impliedNumbers d) ≡ true → dictionaryClash d ls ≡ true
     by-implied h = opened ∙ rw (or-on (anyOf (clashes p) (g .book)) h)
 
-    by-book : anyOf (clashes p) (numbered d ls before) ≡ true → clash d ls ≡ true
+    by-book : anyOf (clashes p) (numberedLines d ls before) ≡ true → dictionaryClash d ls ≡ true
     by-book h = opened ∙ rw (g .alike (clashes p) ∙ h)
 
     onward : anyOf (clashes p) (impliedNumbers d) ≡ false → anyOf (clashes p) (g .book) ≡ false → Indexed d ls (before ++ l ∷ []) left (metIdx ns (l .idx))
@@ -73,9 +73,9 @@ module _ (d : Dictionary) (ls before : List Line) (l : Line) (left : List Line) 
     onward h k = record {
       book = p ∷ g .book;
       alike = λ t.
-          let a : anyOf t (numbered d ls (before ++ l ∷ [])) ≡ anyOf t (numbered d ls before) || t p
-          = ap (anyOf t) (map-append (λ (m : Line). (m .id, numberOf d ls m)) before (l ∷ [])) ∙ any-append t (numbered d ls before) (numbered d ls (l ∷ [])) ∙ rw (p-is, or-false (t p)) in
-          rw (g .alike t) (or-comm (t p) (anyOf t (numbered d ls before)) ∙ sym a);
+          let a : anyOf t (numberedLines d ls (before ++ l ∷ [])) ≡ anyOf t (numberedLines d ls before) || t p
+          = ap (anyOf t) (map-append (λ (m : Line). (m .id, idNumber d ls m)) before (l ∷ [])) ∙ any-append t (numberedLines d ls before) (numberedLines d ls (l ∷ [])) ∙ rw (p-is, or-false (t p)) in
+          rw (g .alike t) (or-comm (t p) (anyOf t (numberedLines d ls before)) ∙ sym a);
       free = (k, g .free);
       met = λ m s.
           let a : numberSeen m (before ++ l ∷ []) ≡ numberSeen m before || eqb n m = any-append (λ (x : Line). isIdx m (x .idx)) before (l ∷ []) ∙ rw (en, or-false (eqb n m)) in
@@ -151,7 +151,7 @@ module _ (d : Dictionary) (ls before : List Line) (l : Line) (left : List Line) 
         ap (λ (ms : List Line). implied d ++ ids ms) f ∙ ap (implied d ++_) (map-append (λ (m : Line). m .id) firsts (l ∷ rest))
         ∙ sym (append-assoc (implied d) (ids firsts) (l .id ∷ ids rest))
 
-    number-due : isIn (l .id) (ids before) ≡ false → isIn (l .id) (implied d) ≡ false → numberOf d ls l ≡ length (idsOf d before)
+    number-due : isIn (l .id) (ids before) ≡ false → isIn (l .id) (implied d) ≡ false → idNumber d ls l ≡ length (idsOf d before)
     number-due a b =
         let out : isIn (l .id) (idsOf d before) ≡ false = in-append (l .id) (implied d) (ids firsts) ∙ rw (b, first-ids (l .id) (implied d) before b, a) in
         placed-number d ls l bare ∙ ap (λ (ms : List Line). place (l .id) (idsOf d ms)) split ∙ ap (place (l .id)) (ids-more left a b)
@@ -162,7 +162,7 @@ module _ (d : Dictionary) (ls before : List Line) (l : Line) (left : List Line) 
     zero-place Strings xs h = place-same (l .id) (ascii "PASS") xs (sym (or-false (same (ascii "PASS") (l .id))) ∙ h)
     zero-place Contigs xs h = absurd (false≢true h)
 
-    number-zero : isIn (l .id) (implied d) ≡ true → numberOf d ls l ≡ 0
+    number-zero : isIn (l .id) (implied d) ≡ true → idNumber d ls l ≡ 0
     number-zero h = placed-number d ls l bare ∙ zero-place d (ids (firstLines (implied d) ls)) h
 
     module _ (ns : Bytes) {next : ℕ} (en : next ≡ length (idsOf d before)) where
@@ -216,12 +216,12 @@ first-number Strings = refl
 first-number Contigs = refl
 
 pub mode-start : (indexed : Bool) (d : Dictionary) (ls : List Line) (ns : Bytes) → Mode indexed d ls [] ls ns (firstNumber d)
-unfolding anyOf clash firstLines
+unfolding anyOf dictionaryClash firstLines
 mode-start true d ls ns = record { book = []; alike = λ t. refl; free = tt; met = λ n s. absurd (false≢true s); rest = refl }
 mode-start false d ls ns = first-number d
 
 -- where no line is left there is no clash
-pub mode-end : (indexed : Bool) (d : Dictionary) (ls before : List Line) (ns : Bytes) (next : ℕ) → Uniform indexed ls → Mode indexed d ls before [] ns next → clash d ls ≡ false
+pub mode-end : (indexed : Bool) (d : Dictionary) (ls before : List Line) (ns : Bytes) (next : ℕ) → Uniform indexed ls → Mode indexed d ls before [] ns next → dictionaryClash d ls ≡ false
 unfolding clashed
 mode-end true d ls before ns next u g = g .rest
 mode-end false d ls before ns next u g = counted-free d ls u

@@ -17,7 +17,7 @@ use Rattle.records.specs.declared.file_format.FileFormat.{FileFormat}
 use Rattle.entries.specs.Tables.{room, stored}
 use Rattle.header.specs.declared.parser.ReadAnswer.{ReadAnswer}
 use Rattle.header.specs.Parsers.{acceptedIn, readInto}
-use Rattle.dictionary.specs.Dictionary.{Line, mixed, firstLines, clash, pairs, Dictionaries, dictionaries}
+use Rattle.dictionary.specs.Dictionary.{Line, mixedIdx, firstLines, dictionaryClash, pairs, Dictionaries, dictionaries}
 use Rattle.dictionary.specs.Lines.{stringLines, contigLines}
 use Rattle.dictionary.specs.Pairs.{carriedBy, Uniform, numberingOf}
 use Rattle.dictionary.specs.declared.line.Dictionary.{Dictionary}
@@ -32,22 +32,22 @@ use Rattle.dictionary.specs.declared.string_maps.DictionaryAnswer.{Dicti
 use Rattle.rules.specs.Claims.{Sized}
 
 -- document 02's number of an outcome, and of an accepted header the version in force and the number of samples
-abbrev pub outcomeNumber : DictionaryOutcome → ℕ
-outcomeNumber (outcome.Accepted f n) = 0
-outcomeNumber (outcome.Refused x) = number x
-outcomeNumber outcome.PartlyIndexed = 34
-outcomeNumber outcome.NumberClash = 35
-outcomeNumber outcome.SliceTooSmall = 36
+abbrev pub dictionaryNumber : DictionaryOutcome → ℕ
+dictionaryNumber (outcome.Accepted f n) = 0
+dictionaryNumber (outcome.Refused x) = number x
+dictionaryNumber outcome.PartlyIndexed = 34
+dictionaryNumber outcome.NumberClash = 35
+dictionaryNumber outcome.SliceTooSmall = 36
 
-abbrev pub outcomeSays : DictionaryOutcome → Option (Version × ℕ)
-outcomeSays (outcome.Accepted f n) = some (versionOf f, n)
-outcomeSays (outcome.Refused x) = none
-outcomeSays outcome.PartlyIndexed = none
-outcomeSays outcome.NumberClash = none
-outcomeSays outcome.SliceTooSmall = none
+abbrev pub dictionarySays : DictionaryOutcome → Option (Version × ℕ)
+dictionarySays (outcome.Accepted f n) = some (versionOf f, n)
+dictionarySays (outcome.Refused x) = none
+dictionarySays outcome.PartlyIndexed = none
+dictionarySays outcome.NumberClash = none
+dictionarySays outcome.SliceTooSmall = none
 
 -- the number, the place, the number of entries, the pairs of strings and of contigs
-pub record ToldDictionaries : Type 0 where
+pub record DictionariesMeaning : Type 0 where
   pub number : ℕ
   pub line : ℕ
   pub start : ℕ
@@ -56,20 +56,20 @@ pub record ToldDictionaries : Type 0 where
   pub contigs : ℕ
   pub accepted : Option (Version × ℕ)
 
-abbrev pub toldOf : DictionaryAnswer → ToldDictionaries
-toldOf a = record {
-  number = outcomeNumber (a .outcome);
+abbrev pub dictionaryAnswerMeans : DictionaryAnswer → DictionariesMeaning
+dictionaryAnswerMeans a = record {
+  number = dictionaryNumber (a .outcome);
   line = a .line;
   start = a .start;
   entries = a .entries;
   strings = a .strings;
   contigs = a .contigs;
-  accepted = outcomeSays (a .outcome);
+  accepted = dictionarySays (a .outcome);
 }
 
 -- the same of a reading and the dictionaries of what was read
-abbrev pub tellsOf : Reading → Dictionaries → ToldDictionaries
-tellsOf r d = record {
+abbrev pub dictionariesMean : Reading → Dictionaries → DictionariesMeaning
+dictionariesMean r d = record {
   number = d .number;
   line = d .line;
   start = d .start;
@@ -81,7 +81,7 @@ tellsOf r d = record {
 
 -- what `dictionaries` promises of a call: the version imposed, the header, the table and the slices for strings and contigs; the answer, and what was lent after it
 pub record DictionaryCall (lim : Limits) (imposed : Option Version) (h : Bytes) (t s c : List ℕ) (r : DictionaryAnswer) (t′ s′ c′ : List ℕ) : Type 0 where
-  pub answer : toldOf r ≡ tellsOf (readInto lim imposed t h) (dictionaries lim imposed (room t) (length s) (length c) h)
+  pub answer : dictionaryAnswerMeans r ≡ dictionariesMean (readInto lim imposed t h) (dictionaries lim imposed (room t) (length s) (length c) h)
   pub table : t′ ≡ stored t 0 (readInto lim imposed t h .entries)
   pub strings : s′ ≡ sets s 0 (dictionaries lim imposed (room t) (length s) (length c) h .strings)
   pub contigs : c′ ≡ sets c 0 (dictionaries lim imposed (room t) (length s) (length c) h .contigs)
@@ -90,9 +90,9 @@ pub record DictionaryCall (lim : Limits) (imposed : Option Version) (h : Bytes) 
 
 -- what becomes of both dictionaries, with slices of so many words
 unfoldable pub judgedOf : ℕ → ℕ → List Line → List Line → Judged
-judgedOf s c strings contigs = elim (mixed strings || mixed contigs) [
+judgedOf s c strings contigs = elim (mixedIdx strings || mixedIdx contigs) [
   | true ↦ judged.PartlyIndexed
-  | false ↦ elim (clash Strings strings || clash Contigs contigs) [
+  | false ↦ elim (dictionaryClash Strings strings || dictionaryClash Contigs contigs) [
     | true ↦ judged.NumberClash
     | false ↦ elim (leb (length (pairs Strings strings)) s && leb (length (pairs Contigs contigs)) c) [
       | true ↦ judged.Whole (length (firstLines [] strings)) (length (firstLines [] contigs))
@@ -102,11 +102,11 @@ judgedOf s c strings contigs = elim (mixed strings || mixed contigs) [
 ]
 
 -- the words that are written
-abbrev pub writtenOf : Judged → List ℕ → List ℕ
-writtenOf (judged.Whole n m) ws = ws
-writtenOf judged.PartlyIndexed ws = []
-writtenOf judged.NumberClash ws = []
-writtenOf judged.SliceTooSmall ws = []
+abbrev pub pairsWritten : Judged → List ℕ → List ℕ
+pairsWritten (judged.Whole n m) ws = ws
+pairsWritten judged.PartlyIndexed ws = []
+pairsWritten judged.NumberClash ws = []
+pairsWritten judged.SliceTooSmall ws = []
 
 pub record CountsPairs (d : Dictionary) (indexed : Bool) (ls : List Line) (r : Numbering) : Type 0 where
   pub is : Uniform indexed ls → r ≡ numberingOf d ls
@@ -117,18 +117,18 @@ pub record Judges (x y : Carried) (h : Bytes) (t : List ℕ) (s c : ℕ) (r : Ju
 
 pub record NumbersBoth (h : Bytes) (t s c : List ℕ) (r : Judged) (s′ c′ : List ℕ) : Type 0 where
   pub is : r ≡ judgedOf (length s) (length c) (stringLines h t) (contigLines h t)
-  pub strings-are : s′ ≡ sets s 0 (writtenOf r (pairs Strings (stringLines h t)))
-  pub contigs-are : c′ ≡ sets c 0 (writtenOf r (pairs Contigs (contigLines h t)))
+  pub strings-are : s′ ≡ sets s 0 (pairsWritten r (pairs Strings (stringLines h t)))
+  pub contigs-are : c′ ≡ sets c 0 (pairsWritten r (pairs Contigs (contigLines h t)))
 
-abbrev pub refusedAs : DictionaryOutcome → ℕ → ℕ → ℕ → DictionaryAnswer
-refusedAs x line start entries = record { outcome = x; line = line; start = start; entries = entries; strings = 0; contigs = 0 }
+abbrev pub dictionaryRefusedAs : DictionaryOutcome → ℕ → ℕ → ℕ → DictionaryAnswer
+dictionaryRefusedAs x line start entries = record { outcome = x; line = line; start = start; entries = entries; strings = 0; contigs = 0 }
 
 -- after an accepted reading, with the version in force and the number of samples
 abbrev pub answerOf : ReadAnswer → FileFormat → ℕ → Judged → DictionaryAnswer
 answerOf a f k (judged.Whole n m) = record { outcome = outcome.Accepted f k; line = a .line; start = a .start; entries = a .entries; strings = n; contigs = m }
-answerOf a f k judged.PartlyIndexed = refusedAs outcome.PartlyIndexed 0 0 (a .entries)
-answerOf a f k judged.NumberClash = refusedAs outcome.NumberClash 0 0 (a .entries)
-answerOf a f k judged.SliceTooSmall = refusedAs outcome.SliceTooSmall 0 0 (a .entries)
+answerOf a f k judged.PartlyIndexed = dictionaryRefusedAs outcome.PartlyIndexed 0 0 (a .entries)
+answerOf a f k judged.NumberClash = dictionaryRefusedAs outcome.NumberClash 0 0 (a .entries)
+answerOf a f k judged.SliceTooSmall = dictionaryRefusedAs outcome.SliceTooSmall 0 0 (a .entries)
 
 pub record AnswersBoth (a : ReadAnswer) (f : FileFormat) (k : ℕ) (h : Bytes) (t s c : List ℕ) (r : DictionaryAnswer) (s′ c′ : List ℕ) : Type 0 where
   pub judgement : Judged

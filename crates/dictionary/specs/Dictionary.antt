@@ -81,8 +81,8 @@ abbrev pub lacks : Line → Bool
 lacks l = not (isSome (l .idx))
 
 -- 34: IDX on some lines only
-abbrev pub mixed : List Line → Bool
-mixed ls = anyOf carries ls && anyOf lacks ls
+abbrev pub mixedIdx : List Line → Bool
+mixedIdx ls = anyOf carries ls && anyOf lacks ls
 
 -- PASS is the first string, written or not
 abbrev pub implied : Dictionary → List Bytes
@@ -108,8 +108,8 @@ abbrev pub placedBy : ℕ → Option ℕ → ℕ
 placedBy p none = p
 placedBy p (some n) = n
 
-unfoldable pub numberOf : Dictionary → List Line → Line → ℕ
-numberOf d ls l = placedBy (place (l .id) (idsOf d ls)) (l .idx)
+unfoldable pub idNumber : Dictionary → List Line → Line → ℕ
+idNumber d ls l = placedBy (place (l .id) (idsOf d ls)) (l .idx)
 
 -- an ID and a number
 abbrev pub Numbered : Type 0
@@ -133,31 +133,31 @@ unfoldable pub clashed : List Numbered → List Numbered → Bool
 clashed seen [] = false
 clashed seen (p ∷ ps) = anyOf (clashes p) seen || clashed (p ∷ seen) ps
 
-abbrev pub numbered : Dictionary → List Line → List Line → List Numbered
-numbered d ls ms = map (λ (l : Line). (l .id, numberOf d ls l)) ms
+abbrev pub numberedLines : Dictionary → List Line → List Line → List Numbered
+numberedLines d ls ms = map (λ (l : Line). (l .id, idNumber d ls l)) ms
 
 -- 35
-unfoldable pub clash : Dictionary → List Line → Bool
-clash d ls = clashed (impliedNumbers d) (numbered d ls ls)
+unfoldable pub dictionaryClash : Dictionary → List Line → Bool
+dictionaryClash d ls = clashed (impliedNumbers d) (numberedLines d ls ls)
 
 -- entry number and ID number, one pair after the other
-unfoldable pub words : (Line → ℕ) → List Line → List ℕ
-words number [] = []
-words number (l ∷ ls) = l .entry ∷ number l ∷ words number ls
+unfoldable pub pairWords : (Line → ℕ) → List Line → List ℕ
+pairWords number [] = []
+pairWords number (l ∷ ls) = l .entry ∷ number l ∷ pairWords number ls
 
 -- the whole dictionary: each ID with its number, PASS too where it is unwritten
 abbrev pub dictionary : Dictionary → List Line → List Numbered
-dictionary d ls = impliedNumbers d ++ numbered d ls (firstLines (implied d) ls)
+dictionary d ls = impliedNumbers d ++ numberedLines d ls (firstLines (implied d) ls)
 
 -- the pairs of a dictionary: each ID at its first line, in table order
 unfoldable pub pairs : Dictionary → List Line → List ℕ
-pairs d ls = words (numberOf d ls) (firstLines [] ls)
+pairs d ls = pairWords (idNumber d ls) (firstLines [] ls)
 
 -- 34 of either dictionary, 35 of either, 36: a slice too small; `s` and `c` are the words that there are for strings and contigs
 unfoldable pub refusal : ℕ → ℕ → List Line → List Line → ℕ
 refusal s c strings contigs = first (
-    unless (not (mixed strings || mixed contigs)) 34
-    ∷ unless (not (clash Strings strings || clash Contigs contigs)) 35
+    unless (not (mixedIdx strings || mixedIdx contigs)) 34
+    ∷ unless (not (dictionaryClash Strings strings || dictionaryClash Contigs contigs)) 35
     ∷ unless (leb (length (pairs Strings strings)) s && leb (length (pairs Contigs contigs)) c) 36
     ∷ []
     )

@@ -7,7 +7,7 @@ use mathlib.Core.Option.{none}
 use Rattle.values.specs.Bytes.{Bytes, ascii}
 use Rattle.rules.specs.Sizes.{limits}
 use Rattle.rules.specs.Examples.{opened}
-use Rattle.dictionary.specs.Dictionary.{linesOf, anyOf, firstLines, place, numberOf, clashed, clash, words, pairs, refusal, numbering, dictionaries}
+use Rattle.dictionary.specs.Dictionary.{linesOf, anyOf, firstLines, place, idNumber, clashed, dictionaryClash, pairWords, pairs, refusal, numbering, dictionaries}
 
 -- Lines, by their ID and what stands after the required fields
 
@@ -43,7 +43,7 @@ answer c =
 
 -- what the definitions need to compute
 unfoldable pub numbered : Unit {0}
-unfolding opened linesOf anyOf firstLines place numberOf clashed clash words pairs refusal numbering dictionaries
+unfolding opened linesOf anyOf firstLines place idNumber clashed dictionaryClash pairWords pairs refusal numbering dictionaries
 numbered = tt
 
 abbrev pub refused : ℕ → Answer

@@ -38,13 +38,13 @@ entryIdx h e = idxOf (fieldKeyed (ascii "IDX") (fieldsAt false (lineIn h e) (fie
 unfoldable pub isImplied : Bytes → Dictionary → Entry → Bool
 isImplied h d e = isIn (idMeaning h e) (implied d)
 
-abbrev pub entryLine : Bytes → ℕ → Entry → Line
-entryLine h n e = record { entry = n; id = idMeaning h e; idx = entryIdx h e }
+abbrev pub lineOfEntry : Bytes → ℕ → Entry → Line
+lineOfEntry h n e = record { entry = n; id = idMeaning h e; idx = entryIdx h e }
 
 -- n is the first entry's number
 unfoldable pub entryLines : Dictionary → Bytes → ℕ → List Entry → List Line
 entryLines d h n [] = []
-entryLines d h n (e ∷ es) = lineIf (holds d (e .kind)) (entryLine h n e) (entryLines d h (n + 1) es)
+entryLines d h n (e ∷ es) = lineIf (holds d (e .kind)) (lineOfEntry h n e) (entryLines d h (n + 1) es)
 
 -- the lines of the entries in a table
 abbrev pub tableLines : Dictionary → Bytes → List ℕ → List Line

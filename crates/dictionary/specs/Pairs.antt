@@ -6,7 +6,7 @@ use mathlib.Core.List.{List, [], _∷_}
 use lib.Dec.{ltb}
 use lib.ListN.{length}
 use lib.Seq.{sets}
-use Rattle.dictionary.specs.Dictionary.{Line, anyOf, carries, lacks, firstLines, clash, pairs}
+use Rattle.dictionary.specs.Dictionary.{Line, anyOf, carries, lacks, firstLines, dictionaryClash, pairs}
 use Rattle.dictionary.specs.declared.line.Dictionary.{Dictionary}
 use Rattle.dictionary.specs.declared.line.Dictionary.the-variants.{Strings, Contigs}
 use Rattle.dictionary.specs.declared.place.Placed.{Placed}
@@ -53,14 +53,14 @@ abbrev pub Uniform : Bool → List Line → Type 0
 Uniform true ls = anyOf lacks ls ≡ false
 Uniform false ls = anyOf carries ls ≡ false
 
-abbrev pub countOr : Bool → ℕ → Numbering
-countOr true n = numbering.Clash
-countOr false n = numbering.Pairs n
+abbrev pub countOrNone : Bool → ℕ → Numbering
+countOrNone true n = numbering.Clash
+countOrNone false n = numbering.Pairs n
 
 unfoldable pub numberingOf : Dictionary → List Line → Numbering
-numberingOf d ls = countOr (clash d ls) (length (firstLines [] ls))
+numberingOf d ls = countOrNone (dictionaryClash d ls) (length (firstLines [] ls))
 
 -- the lines were counted, and the pairs written where they have room
 pub record NumbersLines (d : Dictionary) (indexed : Bool) (ls : List Line) (out : List ℕ) (r : Numbering) (out′ : List ℕ) : Type 0 where
   pub is : Uniform indexed ls → r ≡ numberingOf d ls
-  pub output : Uniform indexed ls → clash d ls ≡ false → length (pairs d ls) ≤ length out → out′ ≡ sets out 0 (pairs d ls)
+  pub output : Uniform indexed ls → dictionaryClash d ls ≡ false → length (pairs d ls) ≤ length out → out′ ≡ sets out 0 (pairs d ls)

@@ -15,7 +15,7 @@ ghost use mathlib.Core.Bool.{_&&_};
 ghost use Rattle.rules.specs.Sizes.{limits};
 ghost use Rattle.header.specs.Verdicts.{imposedOf};
 ghost use Rattle.dictionary.specs.Lines.{tableLines};
-ghost use Rattle.dictionary.specs.Answers.{outcomeNumber, DictionaryCall, CountsPairs, Judges, NumbersBoth, refusedAs, answerOf, AnswersBoth};
+ghost use Rattle.dictionary.specs.Answers.{dictionaryNumber, DictionaryCall, CountsPairs, Judges, NumbersBoth, dictionaryRefusedAs, answerOf, AnswersBoth};
 
 // What came of a call: the version in force and the number of samples; the reading's refusal; or IDX on some lines only, a clash of
 // numbers, a slice too small.
@@ -30,7 +30,7 @@ pub enum DictionaryOutcome {
 impl DictionaryOutcome {
     // Document 02's number, 0 if accepted.
     pub fn number(self) -> u64
-        ensures { λ r. ⌜ r ≡ outcomeNumber self ⌝ }
+        ensures { λ r. ⌜ r ≡ dictionaryNumber self ⌝ }
     {
         match self {
             DictionaryOutcome::Accepted(_, _) => 0,
@@ -123,7 +123,7 @@ fn number_both(h: &[u8], kept: &[u64], strings: &mut [u64], contigs: &mut [u64])
 }
 
 fn refuse(outcome: DictionaryOutcome, line: usize, start: usize, entries: usize) -> DictionaryAnswer
-    ensures { λ r. ⌜ r ≡ refusedAs outcome line start entries ⌝ }
+    ensures { λ r. ⌜ r ≡ dictionaryRefusedAs outcome line start entries ⌝ }
 {
     DictionaryAnswer {
         outcome,

@@ -17,12 +17,12 @@ use Rattle.rules.specs.House.{isWrittenQuoted, writeField, writeKnown, nameOfTa
 use Rattle.rules.proofs.Names.{name-plain, name-is, row-known}
 use Rattle.rules.proofs.Checks.{named-yes, named-no}
 use Rattle.rules.proofs.Tidy.{knownIn, tidy, tag, others-yes, others-no}
-use Rattle.records.specs.Keys.{bytesOf, Named, kindBy, versionIn}
+use Rattle.records.specs.Keys.{caseBytes, Named, kindBy, versionIn}
 use Rattle.records.specs.Tags.{afterId}
 use Rattle.records.specs.declared.key.MapKey.{MapKey}
 use Rattle.records.specs.declared.key.MapContext.{MapContext}
 use Rattle.records.proofs.Keys.{name-by-case, kind-by-case}
-use Rattle.forms.specs.Forms.{quotes, fieldBy, shown, knownText, listed, otherText, othersText}
+use Rattle.forms.specs.Forms.{quotes, fieldBy, shownValue, knownText, listedFields, otherText, othersText}
 use Rattle.rules.specs.Claims.{All}
 
 -- the rule of quoting asks of the map's key only whether it is META, from 4.3
@@ -63,7 +63,7 @@ named-keyed v k name (f ∷ fs) i p = elim (test (same (f .key) name)) [
   | fail e ↦ rw (fieldKeyed, e) (named-no v k name f fs (name-same v k (f .key) name i p ∙ e) ∙ named-keyed v k name fs i p)
 ]
 
-shown-as : (kind : Kind) (name t : Bytes) (number : Bool) → isIn name (numeric kind) ≡ number → writeKnown (knownValue kind name t) ≡ shown number t
+shown-as : (kind : Kind) (name t : Bytes) (number : Bool) → isIn name (numeric kind) ≡ number → writeKnown (knownValue kind name t) ≡ shownValue number t
 unfolding knownValue
 shown-as kind name t true e = rw (knownValue, e)
 shown-as kind name t false e = rw (knownValue, e)
@@ -72,19 +72,19 @@ key-as : (tag : ℕ) (name : Bytes) → same name (ascii "ID") ≡ false → key
 key-as tag name e = rw (keyWritten, e)
 
 listed-as : (v : Version) (k : Bytes) (tag : ℕ) (fs : List Field) (rs : List KnownField) → All (RowIn (kindOf k)) rs
-    → writeMore (knownFields v k tag (names rs) (map (knownIn v k fs) (names rs))) ≡ listed (isMeta v k) fs rs
-unfolding knownFields writeMore listed
+    → writeMore (knownFields v k tag (names rs) (map (knownIn v k fs) (names rs))) ≡ listedFields (isMeta v k) fs rs
+unfolding knownFields writeMore listedFields
 listed-as v k tag fs [] h = refl
 listed-as v k tag fs (r ∷ rs) h = rw (named-keyed v k (r .name) fs (h .0 .other) (h .0 .plain)) (go (fieldKeyed (r .name) fs) (listed-as v k tag fs rs (h .1)))
   where
-    go : (o : Option Field) → writeMore (knownFields v k tag (names rs) (map (knownIn v k fs) (names rs))) ≡ listed (isMeta v k) fs rs
+    go : (o : Option Field) → writeMore (knownFields v k tag (names rs) (map (knownIn v k fs) (names rs))) ≡ listedFields (isMeta v k) fs rs
         → writeMore (knownFields v k tag (r .name ∷ names rs) (knownOf (kindOf k) (r .name) o ∷ map (knownIn v k fs) (names rs)))
-        ≡ knownText (isMeta v k) (r .name) (isNumeric (r .reads)) o ++ listed (isMeta v k) fs rs
+        ≡ knownText (isMeta v k) (r .name) (isNumeric (r .reads)) o ++ listedFields (isMeta v k) fs rs
     go none ih = ih
     go (some f) ih =
         ap₂ (λ (x : Field) (t : Bytes). 44 ∷ (writtenField x ++ t))
         (ap₂ (writeField v k) (key-as tag (r .name) (h .0 .other)) (shown-as (kindOf k) (r .name) (meaningOf (f .value)) (isNumeric (r .reads)) (h .0 .number))
-        ∙ field-as v k (r .name) (shown (isNumeric (r .reads)) (meaningOf (f .value)))) ih
+        ∙ field-as v k (r .name) (shownValue (isNumeric (r .reads)) (meaningOf (f .value)))) ih
 
 -- The table
 
@@ -117,7 +117,7 @@ id-word other = refl
 -- Other fields
 
 -- the field has no row
-known-as : (v : Version) (k : Bytes) (j : MapKey) (name : Bytes) → Named k j → isIn (nameOf v k name) (known (kindOf k)) ≡ isSome (knownNamed v (bytesOf j) name)
+known-as : (v : Version) (k : Bytes) (j : MapKey) (name : Bytes) → Named k j → isIn (nameOf v k name) (known (kindOf k)) ≡ isSome (knownNamed v (caseBytes j) name)
 known-as v k j name n =
     row-known (nameOf v k name) (rows (kindOf k)) ∙ ap₂ (λ (x : Bytes) (kind : Kind). isSome (rowNamed x (rows kind))) (name-by-case v k j n name) (n .kind)
 
@@ -134,15 +134,15 @@ module _ (v : Version) (k : Bytes) (x : MapContext) (n : Named k (x .key)) (a : 
   -- The whole map: its ID, the known fields after it, and the others
   pub fields-as : (fs : List Field) {f : Field} → fieldNamed v k (ascii "ID") fs ≡ some f
       → writeFields (tidy v k fs)
-      ≡ writtenField (fieldBy (x .brackets) (nameOfTag (tagOf (f .key))) (meaningOf (f .value))) ++ (listed (x .brackets) fs (afterId (kindBy (x .key))) ++ othersText x fs)
+      ≡ writtenField (fieldBy (x .brackets) (nameOfTag (tagOf (f .key))) (meaningOf (f .value))) ++ (listedFields (x .brackets) fs (afterId (kindBy (x .key))) ++ othersText x fs)
   unfolding knownFields writeFields same
   fields-as fs {f} e =
       let all : writeFields (knownFields v k (tag v k fs) (ascii "ID" ∷ names (afterId (kindOf k))) (map (knownIn v k fs) (ascii "ID" ∷ names (afterId (kindOf k)))) ++ otherFields v k (others v k fs))
-      ≡ writtenField (fieldBy (isMeta v k) (nameOfTag (tagOf (f .key))) (meaningOf (f .value))) ++ (listed (isMeta v k) fs (afterId (kindBy (x .key))) ++ othersText x fs)
+      ≡ writtenField (fieldBy (isMeta v k) (nameOfTag (tagOf (f .key))) (meaningOf (f .value))) ++ (listedFields (isMeta v k) fs (afterId (kindBy (x .key))) ++ othersText x fs)
       = rw e (ap₂ (λ (y : Field) (t : Bytes). writtenField y ++ t) first rest) in
       ap (λ (ns : List Bytes). writeFields (knownFields v k (tag v k fs) ns (map (knownIn v k fs) ns) ++ otherFields v k (others v k fs))) (id-first (kindOf k))
       ∙ all
-      ∙ ap (λ (m : Bool). writtenField (fieldBy m (nameOfTag (tagOf (f .key))) (meaningOf (f .value))) ++ (listed m fs (afterId (kindBy (x .key))) ++ othersText x fs)) (sym b)
+      ∙ ap (λ (m : Bool). writtenField (fieldBy m (nameOfTag (tagOf (f .key))) (meaningOf (f .value))) ++ (listedFields m fs (afterId (kindBy (x .key))) ++ othersText x fs)) (sym b)
     where
       first : writeField v k (nameOfTag (tagOf (f .key))) (writeKnown (knownValue (kindOf k) (ascii "ID") (meaningOf (f .value)))) ≡ fieldBy (isMeta v k) (nameOfTag (tagOf (f .key))) (meaningOf (f .value))
       first =
@@ -150,7 +150,7 @@ module _ (v : Version) (k : Bytes) (x : MapContext) (n : Named k (x .key)) (a : 
           ∙ field-as v k (nameOfTag (tagOf (f .key))) (meaningOf (f .value))
 
       rest : writeMore (knownFields v k (tagOf (f .key)) (names (afterId (kindOf k))) (map (knownIn v k fs) (names (afterId (kindOf k)))) ++ otherFields v k (others v k fs))
-          ≡ listed (isMeta v k) fs (afterId (kindBy (x .key))) ++ othersText x fs
+          ≡ listedFields (isMeta v k) fs (afterId (kindBy (x .key))) ++ othersText x fs
       rest =
           more-append (knownFields v k (tagOf (f .key)) (names (afterId (kindOf k))) (map (knownIn v k fs) (names (afterId (kindOf k))))) (otherFields v k (others v k fs))
-          ∙ ap₂ _++_ (listed-as v k (tagOf (f .key)) fs (afterId (kindOf k)) (rows-in (kindOf k)) ∙ ap (λ (kind : Kind). listed (isMeta v k) fs (afterId kind)) (n .kind ∙ kind-by-case (x .key))) (others-as fs)
+          ∙ ap₂ _++_ (listed-as v k (tagOf (f .key)) fs (afterId (kindOf k)) (rows-in (kindOf k)) ∙ ap (λ (kind : Kind). listedFields (isMeta v k) fs (afterId kind)) (n .kind ∙ kind-by-case (x .key))) (others-as fs)

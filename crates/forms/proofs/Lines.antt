@@ -30,7 +30,7 @@ use Rattle.rules.proofs.Texts.{LineOf, record-in, Scanned, record-scanned}
 use Rattle.rules.proofs.Tidy.{tidy, tidied-fields}
 use Rattle.rules.proofs.Shows.{Both, named-text, line-fields, value-means}
 use Rattle.records.specs.Formats.{versionOf}
-use Rattle.records.specs.Keys.{bytesOf, Named, kindBy, contextOf}
+use Rattle.records.specs.Keys.{caseBytes, Named, kindBy, contextOf}
 use Rattle.records.specs.Tags.{afterId}
 use Rattle.records.specs.Fields.{meaningIn}
 use Rattle.records.specs.Maps.{slotted}
@@ -46,14 +46,14 @@ use Rattle.records.specs.declared.record.RecordRead.the-variants as read
 use Rattle.records.proofs.Determined.{filled-one}
 use Rattle.rules.proofs.Scans.{fields-read}
 use Rattle.forms.specs.declared.line.LineWritten.{LineWritten}
-use Rattle.forms.specs.Forms.{fieldsIn, fieldBy, listed, othersText}
-use Rattle.forms.specs.Lines.{fieldsText, mapText, lineOf, IsEntry, entryLine, houseLine, ending, WroteEnded}
+use Rattle.forms.specs.Forms.{fieldsIn, fieldBy, listedFields, othersText}
+use Rattle.forms.specs.Lines.{fieldsText, mapText, recordLine, IsEntry, entryLine, houseLine, ending, WroteEnded}
 use Rattle.forms.proofs.Forms.{fields-as}
 
 -- The pieces of a map's line
 
 module _ (x : MapContext) (s : Bytes) (id : Text) (tag : ℕ) {out : Bytes} {at r₁ r₂ r₃ : ℕ} {o₁ o₂ o₃ : Bytes} where
-  pub fields-put : Wrote out at (writtenField (fieldBy (x .brackets) (nameOfTag tag) (meaningIn s id))) r₁ o₁ → Wrote o₁ r₁ (listed (x .brackets) (fieldsIn x s) (afterId (kindBy (x .key)))) r₂ o₂
+  pub fields-put : Wrote out at (writtenField (fieldBy (x .brackets) (nameOfTag tag) (meaningIn s id))) r₁ o₁ → Wrote o₁ r₁ (listedFields (x .brackets) (fieldsIn x s) (afterId (kindBy (x .key)))) r₂ o₂
       → Wrote o₂ r₂ (othersText x (fieldsIn x s)) r₃ o₃ → Wrote out at (fieldsText x s id tag) r₃ o₃
   unfolding fieldsText
   fields-put w₁ w₂ w₃ = then w₁ (then w₂ w₃)
@@ -111,7 +111,7 @@ module _ (version : FileFormat) (k : Bytes) (fs : List Field) (key : MapKey) (s 
   line-is : s ≡ writeRecord (fields k fs)
   line-is = on-ok (LineOf s) (record-in (versionOf version) s) r
 
-  meta-is : isMeta (versionOf version) (bytesOf key) ≡ isMeta (versionOf version) k
+  meta-is : isMeta (versionOf version) (caseBytes key) ≡ isMeta (versionOf version) k
   meta-is = ap (λ (b : Bool). b && since v4-3 (versionOf version)) (sym (n .meta))
 
   fields-are : fieldsIn (contextOf key version start) s ≡ fs
@@ -123,7 +123,7 @@ module _ (version : FileFormat) (k : Bytes) (fs : List Field) (key : MapKey) (s 
   fields-text id f q m = rw (fields-are, m) (sym (fields-as (versionOf version) k (contextOf key version start) n refl meta-is fs q))
 
   map-text : (id : Text) (tag : ℕ) → slotted (textNamed (versionOf version) k (ascii "ID") (fieldsStart k) fs) ≡ slot.Filled id tag
-      → mapText (contextOf key version start) s id tag ≡ lineOf (versionOf version) (fields k fs)
+      → mapText (contextOf key version start) s id tag ≡ recordLine (versionOf version) (fields k fs)
   map-text id tag h =
       let i = identity (versionOf version) k fs s id tag line-is h in
       ap (mapText (contextOf key version start) s id) (i .tagged)
@@ -182,7 +182,7 @@ unfolding ends writeRecord
 map-ends c k fs = ends-more c (ascii "##" ++ k) 61 (60 ∷ (writeFields fs ++ 62 ∷ [])) ∙ ends-more c (60 ∷ writeFields fs) 62 []
 
 -- a line and what the house form writes of it end in CR both, or neither does
-pub same-ending : (v : Version) (s : Bytes) (x : Record) → readRecord v s ≡ ok x → IsEntry x → ends 13 s ≡ ends 13 (lineOf v x)
+pub same-ending : (v : Version) (s : Bytes) (x : Record) → readRecord v s ≡ ok x → IsEntry x → ends 13 s ≡ ends 13 (recordLine v x)
 unfolding saying recordOf
 same-ending v s (fileformat w) e h = absurd h
 same-ending v s (fields k fs) e h = ap (ends 13) (on-ok (LineOf s) (record-in v s) e) ∙ map-ends 13 k fs ∙ sym (map-ends 13 k (tidy v k fs)) ∙ sym (ap (λ (r : Record). ends 13 (writeRecord r)) (tidied-fields v k fs))
@@ -229,16 +229,16 @@ pub line-put : (line : Bytes) {out : Bytes} {at r : ℕ} {o : Bytes} → Wrote o
 line-put line w e w′ = record { place = w .place; text = then w (rw e at w′) }
 
 -- of a map or a text it is the house form's line, with its own ending
-pub entry-is : (v : Version) (s : Bytes) (x : Record) → readRecord v s ≡ ok x → IsEntry x → houseLine v s ≡ lineOf v x
+pub entry-is : (v : Version) (s : Bytes) (x : Record) → readRecord v s ≡ ok x → IsEntry x → houseLine v s ≡ recordLine v x
 unfolding houseLine
 entry-is v s (fileformat w) e h = absurd h
 entry-is v s (fields k fs) e h = rw (houseLine, e)
 entry-is v s (text k t) e h = rw (houseLine, e)
 
 pub entry-ended : (v : Version) (s : Bytes) (x : Record) → readRecord v s ≡ ok x → IsEntry x → {out : Bytes} {at : ℕ} {r : LineWritten} {o : Bytes}
-    → WroteEnded out at (houseLine v s) (ends 13 s) r o → (r .end ≡ onward at (length (lineOf v x))) × Wrote out at (writeLine (lineOf v x)) (r .next) o
+    → WroteEnded out at (houseLine v s) (ends 13 s) r o → (r .end ≡ onward at (length (recordLine v x))) × Wrote out at (writeLine (recordLine v x)) (r .next) o
 entry-ended v s x e h {out} {at} {r} {o} w =
     let l = entry-is v s x e h in (
       rw l at (w .place),
-      subst (λ (t : Bytes). Wrote out at t (r .next) o) (rw (l, same-ending v s x e h) (ended-line (lineOf v x))) (w .text),
+      subst (λ (t : Bytes). Wrote out at t (r .next) o) (rw (l, same-ending v s x e h) (ended-line (recordLine v x))) (w .text),
     )

@@ -20,7 +20,7 @@ use Rattle.records.specs.Fields.{FoundIs, FindsField}
 use Rattle.records.specs.declared.key.MapKey.{MapKey}
 use Rattle.records.specs.declared.field.FieldFound.{FieldFound}
 use Rattle.records.specs.declared.field.FieldFound.the-variants.{Found, Missing}
-use Rattle.forms.specs.Forms.{fieldBy, PutsNumber, knownText, listed, PutsKnown}
+use Rattle.forms.specs.Forms.{fieldBy, PutsNumber, knownText, listedFields, PutsKnown}
 
 -- A known field
 
@@ -66,29 +66,29 @@ pub ruleset knowns = (known-none, known-number, known-word)
 
 module _ {meta : Bool} {fs : List Field} {out : Bytes} {at r : ℕ} {o : Bytes} (row : KnownField) (n : isNumeric (row .reads) && same (row .name) (ascii "Description") ≡ false)
     (p : PutsKnown meta fs (row .name) (isNumeric (row .reads)) out at r o) where
-  last-known : Wrote out at (listed meta fs (row ∷ [])) r o
-  unfolding listed
+  last-known : Wrote out at (listedFields meta fs (row ∷ [])) r o
+  unfolding listedFields
   last-known = rw (append-nil (knownText meta (row .name) (isNumeric (row .reads)) (fieldKeyed (row .name) fs))) (p .is n)
 
-  more-known : (rows : List KnownField) {r′ : ℕ} {o′ : Bytes} → Wrote o r (listed meta fs rows) r′ o′ → Wrote out at (listed meta fs (row ∷ rows)) r′ o′
-  unfolding listed
+  more-known : (rows : List KnownField) {r′ : ℕ} {o′ : Bytes} → Wrote o r (listedFields meta fs rows) r′ o′ → Wrote out at (listedFields meta fs (row ∷ rows)) r′ o′
+  unfolding listedFields
   more-known rows w = then (p .is n) w
 
 module _ {meta : Bool} {fs : List Field} {out : Bytes} {at r₁ r₂ : ℕ} {o₁ o₂ : Bytes} where
-  pub filter-known : PutsKnown meta fs (ascii "Description") false out at r₁ o₁ → PutsKnown meta fs (ascii "IDX") true o₁ r₁ r₂ o₂ → Wrote out at (listed meta fs (afterId FILTER)) r₂ o₂
+  pub filter-known : PutsKnown meta fs (ascii "Description") false out at r₁ o₁ → PutsKnown meta fs (ascii "IDX") true o₁ r₁ r₂ o₂ → Wrote out at (listedFields meta fs (afterId FILTER)) r₂ o₂
   unfolding same
   filter-known p q = more-known descriptionField refl p (idxField ∷ []) (last-known idxField refl q)
 
   module _ {r₃ r₄ : ℕ} {o₃ o₄ : Bytes} where
     pub typed-known : PutsKnown meta fs (ascii "Number") true out at r₁ o₁ → PutsKnown meta fs (ascii "Type") false o₁ r₁ r₂ o₂
-        → PutsKnown meta fs (ascii "Description") false o₂ r₂ r₃ o₃ → PutsKnown meta fs (ascii "IDX") true o₃ r₃ r₄ o₄ → Wrote out at (listed meta fs (afterId INFO)) r₄ o₄
+        → PutsKnown meta fs (ascii "Description") false o₂ r₂ r₃ o₃ → PutsKnown meta fs (ascii "IDX") true o₃ r₃ r₄ o₄ → Wrote out at (listedFields meta fs (afterId INFO)) r₄ o₄
     unfolding same
     typed-known p q u v =
         more-known numberField refl p (typeField ∷ descriptionField ∷ idxField ∷ [])
         (more-known typeField refl q (descriptionField ∷ idxField ∷ []) (more-known descriptionField refl u (idxField ∷ []) (last-known idxField refl v)))
 
     pub contig-known : PutsKnown meta fs (ascii "length") true out at r₁ o₁ → PutsKnown meta fs (ascii "md5") false o₁ r₁ r₂ o₂
-        → PutsKnown meta fs (ascii "URL") false o₂ r₂ r₃ o₃ → PutsKnown meta fs (ascii "IDX") true o₃ r₃ r₄ o₄ → Wrote out at (listed meta fs (afterId contig)) r₄ o₄
+        → PutsKnown meta fs (ascii "URL") false o₂ r₂ r₃ o₃ → PutsKnown meta fs (ascii "IDX") true o₃ r₃ r₄ o₄ → Wrote out at (listedFields meta fs (afterId contig)) r₄ o₄
     unfolding same
     contig-known p q u v =
         more-known lengthField refl p (md5Field ∷ urlField ∷ idxField ∷ [])
@@ -98,14 +98,14 @@ pub ruleset rows = (filter-known, typed-known, contig-known)
 
 -- by the case of the map's key
 module _ (meta : Bool) (fs : List Field) {out : Bytes} {at : ℕ} (key : MapKey) {x : MapKey} (e : key ≡ x) where
-  pub rows-told : {r : ℕ} {o : Bytes} → Wrote out at (listed meta fs (afterId (kindBy x))) r o → Wrote out at (listed meta fs (afterId (kindBy key))) r o
+  pub rows-told : {r : ℕ} {o : Bytes} → Wrote out at (listedFields meta fs (afterId (kindBy x))) r o → Wrote out at (listedFields meta fs (afterId (kindBy key))) r o
   rows-told w = rw e w
 
-  pub row-told : afterId (kindBy x) ≡ descriptionField ∷ [] → {r : ℕ} {o : Bytes} → PutsKnown meta fs (ascii "Description") false out at r o → Wrote out at (listed meta fs (afterId (kindBy key))) r o
+  pub row-told : afterId (kindBy x) ≡ descriptionField ∷ [] → {r : ℕ} {o : Bytes} → PutsKnown meta fs (ascii "Description") false out at r o → Wrote out at (listedFields meta fs (afterId (kindBy key))) r o
   row-told f p = rw (e, f) (last-known descriptionField refl p)
 
-  pub no-rows : afterId (kindBy x) ≡ [] → at ≤ last → length out ≤ last → Wrote out at (listed meta fs (afterId (kindBy key))) at out
-  unfolding listed
+  pub no-rows : afterId (kindBy x) ≡ [] → at ≤ last → length out ≤ last → Wrote out at (listedFields meta fs (afterId (kindBy key))) at out
+  unfolding listedFields
   no-rows f h l = rw (e, f) (wrote-nothing out at h l)
 
 pub ruleset tables = (rows-told, row-told, no-rows)

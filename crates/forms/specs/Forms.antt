@@ -27,13 +27,13 @@ abbrev pub fieldBy : Bool → Bytes → Bytes → Field
 fieldBy meta key t = record { key = key; value = valueOf (quotes meta key t) t }
 
 -- an integer by its number; `number`: the value may be one
-abbrev pub shown : Bool → Bytes → Bytes
-shown true t = writeKnown (numberOrWord t (u64Read t))
-shown false t = t
+abbrev pub shownValue : Bool → Bytes → Bytes
+shownValue true t = writeKnown (numberOrWord t (u64Read t))
+shownValue false t = t
 
 -- the text s was written as the number that it spells, if its meaning spells the same
 pub record PutsNumber (meta : Bool) (key s : Bytes) (q : Bool) (old : Bytes) (at r : ℕ) (new : Bytes) : Type 0 where
-  pub is : same key (ascii "Description") ≡ false → u64Read (meaning q s) ≡ u64Read s → Wrote old at (writtenField (fieldBy meta key (shown true (meaning q s)))) r new
+  pub is : same key (ascii "Description") ≡ false → u64Read (meaning q s) ≡ u64Read s → Wrote old at (writtenField (fieldBy meta key (shownValue true (meaning q s)))) r new
 
 -- the fields of a map
 abbrev pub fieldsIn : MapContext → Bytes → List Field
@@ -42,20 +42,20 @@ fieldsIn x s = fieldsAt (x .brackets) s (x .start)
 -- a known field after a `,`, if it stands there
 abbrev pub knownText : Bool → Bytes → Bool → Option Field → Bytes
 knownText meta name number none = []
-knownText meta name number (some f) = 44 ∷ writtenField (fieldBy meta name (shown number (meaningOf (f .value))))
+knownText meta name number (some f) = 44 ∷ writtenField (fieldBy meta name (shownValue number (meaningOf (f .value))))
 
 -- the field of this name was written, if there is one; a number is never a Description
 pub record PutsKnown (meta : Bool) (fs : List Field) (name : Bytes) (number : Bool) (old : Bytes) (at r : ℕ) (new : Bytes) : Type 0 where
   pub is : number && same name (ascii "Description") ≡ false → Wrote old at (knownText meta name number (fieldKeyed name fs)) r new
 
 -- the known fields of these rows, an integer as its number
-unfoldable pub listed : Bool → List Field → List KnownField → Bytes
-listed meta fs [] = []
-listed meta fs (r ∷ rs) = knownText meta (r .name) (isNumeric (r .reads)) (fieldKeyed (r .name) fs) ++ listed meta fs rs
+unfoldable pub listedFields : Bool → List Field → List KnownField → Bytes
+listedFields meta fs [] = []
+listedFields meta fs (r ∷ rs) = knownText meta (r .name) (isNumeric (r .reads)) (fieldKeyed (r .name) fs) ++ listedFields meta fs rs
 
 -- the known fields of a map after its ID
 abbrev pub knownTexts : MapContext → Bytes → Bytes
-knownTexts x s = listed (x .brackets) (fieldsIn x s) (afterId (kindBy (x .key)))
+knownTexts x s = listedFields (x .brackets) (fieldsIn x s) (afterId (kindBy (x .key)))
 
 -- a field after a `,`, unless it is a known one
 unfoldable pub otherText : MapContext → Bytes → Bytes → Bytes

@@ -28,8 +28,8 @@ abbrev pub mapText : MapContext → Bytes → Text → ℕ → Bytes
 mapText x s id tag = take (x .start) s ++ (fieldsText x s id tag ++ 62 ∷ [])
 
 -- the house form's line of a record
-abbrev pub lineOf : Version → Record → Bytes
-lineOf v x = writeRecord (recordOf v (keyOf x) (saying v x))
+abbrev pub recordLine : Version → Record → Bytes
+recordLine v x = writeRecord (recordOf v (keyOf x) (saying v x))
 
 -- the version's line is written once, from the version in force
 abbrev pub IsEntry : Record → Type 0
@@ -39,8 +39,8 @@ IsEntry (text k t) = Unit {0}
 
 abbrev pub entryLine : Version → Record → Bytes
 entryLine v (fileformat w) = []
-entryLine v (fields k fs) = lineOf v (fields k fs)
-entryLine v (text k t) = lineOf v (text k t)
+entryLine v (fields k fs) = recordLine v (fields k fs)
+entryLine v (text k t) = recordLine v (text k t)
 
 abbrev pub lineFor : Version → Answer Record → Bytes
 lineFor v (ok x) = entryLine v x

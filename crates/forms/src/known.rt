@@ -9,7 +9,7 @@ use values::output;
 ghost use Rattle.values.specs.Written.{Wrote};
 ghost use Rattle.rules.specs.Known.{INFO, FILTER, contig};
 ghost use Rattle.records.specs.Tags.{afterId};
-ghost use Rattle.forms.specs.Forms.{fieldsIn, listed, knownTexts, PutsKnown};
+ghost use Rattle.forms.specs.Forms.{fieldsIn, listedFields, knownTexts, PutsKnown};
 
 // A `,` and the field of this name, if there is one; `number`: an integer is written as its number.
 fn put_known(
@@ -35,7 +35,7 @@ fn put_known(
 
 // INFO and FORMAT.
 fn put_typed(out: &mut [u8], at: usize, s: &[u8], map: MapContext) -> usize
-    ensures { λ r. ⌜ Wrote (now (out .entry)) at (listed (map .brackets) (fieldsIn map (now (s .entry))) (afterId INFO)) r (now (out .exit)) ⌝ }
+    ensures { λ r. ⌜ Wrote (now (out .entry)) at (listedFields (map .brackets) (fieldsIn map (now (s .entry))) (afterId INFO)) r (now (out .exit)) ⌝ }
 {
     let a = put_known(out, at, s, map, b"Number", true);
     let b = put_known(out, a, s, map, b"Type", false);
@@ -44,14 +44,14 @@ fn put_typed(out: &mut [u8], at: usize, s: &[u8], map: MapContext) -> usize
 }
 
 fn put_filter(out: &mut [u8], at: usize, s: &[u8], map: MapContext) -> usize
-    ensures { λ r. ⌜ Wrote (now (out .entry)) at (listed (map .brackets) (fieldsIn map (now (s .entry))) (afterId FILTER)) r (now (out .exit)) ⌝ }
+    ensures { λ r. ⌜ Wrote (now (out .entry)) at (listedFields (map .brackets) (fieldsIn map (now (s .entry))) (afterId FILTER)) r (now (out .exit)) ⌝ }
 {
     let next = put_known(out, at, s, map, b"Description", false);
     put_known(out, next, s, map, b"IDX", true)
 }
 
 fn put_contig(out: &mut [u8], at: usize, s: &[u8], map: MapContext) -> usize
-    ensures { λ r. ⌜ Wrote (now (out .entry)) at (listed (map .brackets) (fieldsIn map (now (s .entry))) (afterId contig)) r (now (out .exit)) ⌝ }
+    ensures { λ r. ⌜ Wrote (now (out .entry)) at (listedFields (map .brackets) (fieldsIn map (now (s .entry))) (afterId contig)) r (now (out .exit)) ⌝ }
 {
     let a = put_known(out, at, s, map, b"length", true);
     let b = put_known(out, a, s, map, b"md5", false);

@@ -25,7 +25,7 @@ use Rattle.rules.specs.Entry.{Entry as RuleEntry, mapKind, fieldsStart}
 use Rattle.rules.specs.Shown.{hasId, lineIn, nthFieldPart, recordFieldPart, entryFieldPart}
 use Rattle.rules.proofs.Firsts.{on-ok}
 use Rattle.rules.proofs.Texts.{Scanned, record-scanned}
-use Rattle.records.specs.Keys.{bytesOf, kindBy}
+use Rattle.records.specs.Keys.{caseBytes, kindBy}
 use Rattle.records.specs.Records.{keyIn, RecordIs, ParsesRecord}
 use Rattle.records.specs.declared.file_format.FileFormat.{FileFormat}
 use Rattle.records.specs.declared.record.MapRecord.{MapRecord}
@@ -90,7 +90,7 @@ module _ (v : Version) (l : Bytes) (kind i : ℕ) {u : Bool} (a : u ≡ isUtf8 l
         pub line-other-kind : (k ≡ kind → ⊥) → Refused ≡ shownAs (fieldIn v l kind i)
         line-other-kind n = sym (ap shownAs (map-as (told .3) {q = false} (rw kind-is (ne-eqb k kind n))))
 
-        pub line-field : k ≡ kind → {m : Bool} → m ≡ isMeta v (bytesOf (y .key)) → {r : Shown} → answered r ≡ orRefused (nthFieldPart (y .value + 1) (fieldsAt m l (y .value + 1)) i)
+        pub line-field : k ≡ kind → {m : Bool} → m ≡ isMeta v (caseBytes (y .key)) → {r : Shown} → answered r ≡ orRefused (nthFieldPart (y .value + 1) (fieldsAt m l (y .value + 1)) i)
             → r ≡ shownAs (fieldIn v l kind i)
         line-field q {m} d f =
             let s = on-ok (Scanned v l) (record-scanned v l) (told .3) in

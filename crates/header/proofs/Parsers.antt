@@ -43,7 +43,7 @@ use Rattle.columns.proofs.Stores.{columns-put}
 use Rattle.ids.specs.Marks.{Marked}
 use Rattle.ids.proofs.Markings.{unmarked}
 use Rattle.header.specs.Verdicts.{PhaseIs, ReadyRows, Tabled, Says, New, Ended, Begun, LineJudged}
-use Rattle.header.specs.Parsers.{answerMeans, readingMeans, readInto, refusedAs, ReadCall, Kept, LineHere, Stops, PartialIs, Bounds, Keeps, Parses, Finishes}
+use Rattle.header.specs.Parsers.{answerMeans, readingMeans, readInto, refusedAs, ReadCall, Kept, LineHere, Stops, PartialIs, Bounds, KeepsLine, Parses, Finishes}
 use Rattle.header.specs.declared.verdict.Phase.{Phase}
 use Rattle.header.specs.declared.verdict.Phase.the-variants as phase
 use Rattle.header.specs.declared.verdict.Verdict.{Verdict}
@@ -160,7 +160,7 @@ module _ (p : Parser) (h : Bytes) (end next : ℕ) (v : Verdict) (t : List ℕ) 
   abbrev l : Bytes
   l = part h (p .at) end
 
-  pub keep-refused : {x : Refusal} → v ≡ verdict.Refused x → Keeps p h end next v t (partial.Refused x) t
+  pub keep-refused : {x : Refusal} → v ≡ verdict.Refused x → KeepsLine p h end next v t (partial.Refused x) t
   keep-refused {x} e = record {
     is = λ lim pk imposed t₀ ms ms′ k here m s.
         line-stops lim imposed h t₀ ms t p l next k here x (subst (Says h ms′ (step lim imposed (p .at) (k .state) l) (p .at) (k .state) l) e s) refl;
@@ -172,13 +172,13 @@ module _ (p : Parser) (h : Bytes) (end next : ℕ) (v : Verdict) (t : List ℕ) 
         → Begun (step lim imposed (p .at) (k .state) l) (p .at) (k .state) l f
     begun {lim} {imposed} ms′ k s = subst (Says h ms′ (step lim imposed (p .at) (k .state) l) (p .at) (k .state) l) e s
 
-    pub begin-full : not q ≡ true → Keeps p h end next v t (partial.Refused TableFull) t′
+    pub begin-full : not q ≡ true → KeepsLine p h end next v t (partial.Refused TableFull) t′
     begin-full d = record {
       is = λ lim pk imposed t₀ ms ms′ k here m s.
           line-full lim imposed h t₀ ms t p l next k here (begun ms′ k s .begins) (omega (arith, no-room t (p .count) (entryOf y) a b d)) (not-put t (p .count) (entryOf y) a b d);
     }
 
-    pub begin-kept : not q ≡ false → Keeps p h end next v t (partial.Next (record { phase = phase.Ready f; line = p .line + 1; at = next; count = p .count + 1 })) t′
+    pub begin-kept : not q ≡ false → KeepsLine p h end next v t (partial.Next (record { phase = phase.Ready f; line = p .line + 1; at = next; count = p .count + 1 })) t′
     begin-kept d = record {
       is = λ lim pk imposed t₀ ms ms′ k here m s.
           let g = begun ms′ k s in
@@ -203,13 +203,13 @@ module _ (p : Parser) (h : Bytes) (end next : ℕ) (v : Verdict) (t : List ℕ) 
         → New h ms′ (step lim imposed (p .at) (k .state) l) (p .at) (k .state) l (entryOf y)
     entered {lim} {imposed} ms′ k s = subst (Says h ms′ (step lim imposed (p .at) (k .state) l) (p .at) (k .state) l) e s
 
-    pub entry-full : not q ≡ true → Keeps p h end next v t (partial.Refused TableFull) t′
+    pub entry-full : not q ≡ true → KeepsLine p h end next v t (partial.Refused TableFull) t′
     entry-full d = record {
       is = λ lim pk imposed t₀ ms ms′ k here m s.
           line-full lim imposed h t₀ ms t p l next k here (entered ms′ k s .enters) (omega (arith, no-room t (p .count) (entryOf y) a b d)) (not-put t (p .count) (entryOf y) a b d);
     }
 
-    pub entry-kept : not q ≡ false → Keeps p h end next v t (partial.Next (record { phase = p .phase; line = p .line + 1; at = next; count = p .count + 1 })) t′
+    pub entry-kept : not q ≡ false → KeepsLine p h end next v t (partial.Next (record { phase = p .phase; line = p .line + 1; at = next; count = p .count + 1 })) t′
     entry-kept d = record {
       is = λ lim pk imposed t₀ ms ms′ k here m s.
           let g = entered ms′ k s in
@@ -243,7 +243,7 @@ module _ (p : Parser) (h : Bytes) (end next : ℕ) (v : Verdict) (t : List ℕ) 
     entries-of : {a : Answer (State × List Entry)} {s : State} (g : Ended a (p .at) s l f n) → length (columnEntries (p .at) l (g .c)) ≡ 1 + n
     entries-of g = columns-room (p .at) l (g .c) ∙ ap (1 +_) (g .count)
 
-    pub columns-full : m - p .count ≤ n → p .count ≤ room t → Keeps p h end next v t (partial.Refused TableFull) t
+    pub columns-full : m - p .count ≤ n → p .count ≤ room t → KeepsLine p h end next v t (partial.Refused TableFull) t
     columns-full d bound = record {
       is = λ lim pk imposed t₀ ms ms′ k here _ s.
           let g = ended ms′ k s in
@@ -251,7 +251,7 @@ module _ (p : Parser) (h : Bytes) (end next : ℕ) (v : Verdict) (t : List ℕ) 
     }
 
     pub columns-kept : n < m - p .count → {t′ : List ℕ} → t′ ≡ columnsPut l (p .at) (p .count) t
-        → Keeps p h end next v t (partial.Next (record { phase = phase.Done f n; line = p .line + 1; at = next; count = p .count + 1 + n })) t′
+        → KeepsLine p h end next v t (partial.Next (record { phase = phase.Done f n; line = p .line + 1; at = next; count = p .count + 1 + n })) t′
     columns-kept d c = record {
       is = λ lim pk imposed t₀ ms ms′ k here _ s.
           let g = ended ms′ k s in
@@ -276,7 +276,7 @@ module _ (lim : Limits) (pk : Packed lim) (imposed : Option Version) (h t₀ ms 
   from-table (done v rs c) a = tt
 
 module _ (lim : Limits) (imposed : Option Version) (plain : Bool) (p : Parser) (h ms t : List ℕ) {line : Line} (a : LineIs h (p .at) line) {kept : List ℕ} (ek : kept ≡ firstEntries t (p .count))
-    {v : Verdict} {ms′ : Bytes} (d : LineJudged lim h (entriesIn kept) ms plain (p .at) (line .end) (p .phase) imposed v ms′) (r : Partial) (t′ : List ℕ) (e : Keeps p h (line .end) (line .next) v t r t′) where
+    {v : Verdict} {ms′ : Bytes} (d : LineJudged lim h (entriesIn kept) ms plain (p .at) (line .end) (p .phase) imposed v ms′) (r : Partial) (t′ : List ℕ) (e : KeepsLine p h (line .end) (line .next) v t r t′) where
   abbrev here-line : Bytes
   here-line = part h (p .at) (line .end)
 

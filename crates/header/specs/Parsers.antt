@@ -109,7 +109,7 @@ pub record Bounds (h t : List ℕ) (p : Parser) : Type 0 where
   pub count : p .count ≤ room t
   pub line : p .line < length h
 
-pub record Keeps (p : Parser) (h : Bytes) (end next : ℕ) (v : Verdict) (t : List ℕ) (r : Partial) (t′ : List ℕ) : Type 0 where
+pub record KeepsLine (p : Parser) (h : Bytes) (end next : ℕ) (v : Verdict) (t : List ℕ) (r : Partial) (t′ : List ℕ) : Type 0 where
   pub is : (lim : Limits) → Packed lim → (imposed : Option Version) (t₀ ms ms′ : List ℕ) (k : Kept lim imposed h t₀ ms t p)
       → LineHere h (p .at) (part h (p .at) end) next → MarksKept h ms ms′
       → Says h ms′ (step lim imposed (p .at) (k .state) (part h (p .at) end)) (p .at) (k .state) (part h (p .at) end) v → PartialIs lim imposed h t₀ p r ms′ t′

@@ -19,7 +19,7 @@ ghost use mathlib.Core.Path.{_≡_};
 ghost use Rattle.rules.specs.Sizes.{limits};
 ghost use Rattle.entries.specs.Values.{limitsOf};
 ghost use Rattle.header.specs.Verdicts.{imposedOf};
-ghost use Rattle.header.specs.Parsers.{refusedAs, Bounds, Keeps, Parses, Finishes, ReadCall};
+ghost use Rattle.header.specs.Parsers.{refusedAs, Bounds, KeepsLine, Parses, Finishes, ReadCall};
 ghost use Rattle.entries.specs.Words.{Packed};
 
 // What a header is found to be: accepted, with the version in force and the number of samples, or refused.
@@ -61,7 +61,7 @@ impl Parser {
     // room for all of them.
     fn keep(self, h: &[u8], end: usize, next: usize, verdict: Verdict, table: &mut [u64]) -> Partial
         requires { ⌜ Bounds (now h) (now table) self ⌝ }
-        ensures { λ r. ⌜ Keeps self (now (h .entry)) end next verdict (now (table .entry)) r (now (table .exit)) ⌝ }
+        ensures { λ r. ⌜ KeepsLine self (now (h .entry)) end next verdict (now (table .entry)) r (now (table .exit)) ⌝ }
     {
         let start = self.at;
         let count = self.count;

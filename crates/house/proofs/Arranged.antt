@@ -24,7 +24,7 @@ use Rattle.rules.proofs.Samples.{columns-in}
 use Rattle.rules.proofs.Tidy.{tidied}
 use Rattle.rules.proofs.Trace.{TracedHeader}
 use Rattle.ids.specs.Clashes.{prefixOf}
-use Rattle.forms.specs.Lines.{lineOf}
+use Rattle.forms.specs.Lines.{recordLine}
 use Rattle.house.specs.Keys.{isUnder, picked, AllReadable, linesUnder, prefixIn, seenUnder, isFirst, linesIf, otherLines}
 use Rattle.house.specs.Forms.{columnLine, recordLines, formLines}
 use Rattle.house.proofs.Picks.{picked-yes, picked-no}
@@ -65,16 +65,16 @@ module _ (v : Version) (h : Bytes) where
   picked-aside prefix [] a = refl
   picked-aside prefix (e ∷ es) a = picked-no v h prefix e es (not-under prefix e (a .0)) ∙ picked-aside prefix es (a .1)
 
-  picked-rows : (k : Bytes) → Plain k → (es : List Entry) (rs : List Record) (rest : List Entry) → Are v h es rs → Asides rest → picked v h (prefixOf k) (es ++ rest) ≡ map (lineOf v) (under k rs)
+  picked-rows : (k : Bytes) → Plain k → (es : List Entry) (rs : List Record) (rest : List Entry) → Are v h es rs → Asides rest → picked v h (prefixOf k) (es ++ rest) ≡ map (recordLine v) (under k rs)
   unfolding under
   picked-rows k p [] [] rest a b = picked-aside (prefixOf k) rest b
   picked-rows k p [] (r ∷ rs) rest a b = absurd a
   picked-rows k p (e ∷ es) [] rest a b = absurd a
   picked-rows k p (e ∷ es) (r ∷ rs) rest a b = elim (test (same (keyOf r) k)) [
     | pass q ↦ picked-yes v h (prefixOf k) e (es ++ rest) (a .0 .under k p ∙ q)
-        ∙ ap₂ _∷_ (a .0 .written) (picked-rows k p es rs rest (a .1) b) ∙ sym (ap (map (lineOf v)) (under-yes k r rs q))
+        ∙ ap₂ _∷_ (a .0 .written) (picked-rows k p es rs rest (a .1) b) ∙ sym (ap (map (recordLine v)) (under-yes k r rs q))
     | fail q ↦ picked-no v h (prefixOf k) e (es ++ rest) (a .0 .under k p ∙ q)
-        ∙ picked-rows k p es rs rest (a .1) b ∙ sym (ap (map (lineOf v)) (under-no k r rs q))
+        ∙ picked-rows k p es rs rest (a .1) b ∙ sym (ap (map (recordLine v)) (under-no k r rs q))
   ]
 
   seen-snoc : (prefix : Bytes) (es : List Entry) (e : Entry) → seenUnder h prefix (es ++ e ∷ []) ≡ (seenUnder h prefix es || isUnder h prefix e)
@@ -144,15 +144,15 @@ fresh-lacking ks (r ∷ rs) = elim (test (isTyped (keyOf r))) [
 typed-not : (j k : Bytes) → isTyped j ≡ true → isTyped k ≡ false → same j k ≡ false
 typed-not j k a b = elim (test (same j k)) [ pass e ↦ both (rw (same-sound j k e) at a) b | fail e ↦ e ]
 
-module _ (v : Version) (h : Bytes) (all : List Entry) (ts : List Record) (pick : (k : Bytes) → Plain k → picked v h (prefixOf k) all ≡ map (lineOf v) (under k ts)) where
+module _ (v : Version) (h : Bytes) (all : List Entry) (ts : List Record) (pick : (k : Bytes) → Plain k → picked v h (prefixOf k) all ≡ map (recordLine v) (under k ts)) where
   -- the lines of these keys, then more
-  lines-arranged : (js ks : List Bytes) {ls : List Bytes} → All Plain js → ls ≡ map (lineOf v) (arrange ks ts) → linesUnder v h all js ++ ls ≡ map (lineOf v) (arrange (js ++ ks) ts)
+  lines-arranged : (js ks : List Bytes) {ls : List Bytes} → All Plain js → ls ≡ map (recordLine v) (arrange ks ts) → linesUnder v h all js ++ ls ≡ map (recordLine v) (arrange (js ++ ks) ts)
   unfolding linesUnder arrange
   lines-arranged [] ks p e = e
   lines-arranged (j ∷ js) ks {ls} p e =
       append-assoc (picked v h (prefixOf j) all) (linesUnder v h all js) ls
       ∙ ap₂ _++_ (pick j (p .0)) (lines-arranged js ks (p .1) e)
-      ∙ sym (map-append (lineOf v) (under j ts) (arrange (js ++ ks) ts))
+      ∙ sym (map-append (recordLine v) (under j ts) (arrange (js ++ ks) ts))
 
   others-aside : (ahead : List Entry) (es : List Entry) → Asides es → otherLines v h all ahead es ≡ []
   unfolding otherLines
@@ -185,7 +185,7 @@ module _ (v : Version) (h : Bytes) (all : List Entry) (ts : List Record) (pick :
   others-turn ahead e es q = rw q
 
   others-arranged : (es : List Entry) (rs : List Record) (rest : List Entry) → Are v h es rs → Asides rest → (ahead : List Entry) (ks : List Bytes) → Seen ahead ks
-      → otherLines v h all ahead (es ++ rest) ≡ map (lineOf v) (arrange (freshKeys ks rs) ts)
+      → otherLines v h all ahead (es ++ rest) ≡ map (recordLine v) (arrange (freshKeys ks rs) ts)
   unfolding freshKeys arrange
   others-arranged [] [] rest a b ahead ks s = others-aside ahead rest b
   others-arranged [] (r ∷ rs) rest a b ahead ks s = absurd a
@@ -193,16 +193,16 @@ module _ (v : Version) (h : Bytes) (all : List Entry) (ts : List Record) (pick :
   others-arranged (e ∷ es) (r ∷ rs) rest a b ahead ks s = elim (test (isTyped (keyOf r))) [
     | pass t ↦ others-turn ahead e (es ++ rest) (typed-first ahead e r (a .0) t)
         ∙ others-arranged es rs rest (a .1) b (ahead ++ e ∷ []) ks (seen-typed ahead ks e r (a .0) t s)
-        ∙ sym (ap (λ (js : List Bytes). map (lineOf v) (arrange js ts)) (fresh-typed ks r rs t))
+        ∙ sym (ap (λ (js : List Bytes). map (recordLine v) (arrange js ts)) (fresh-typed ks r rs t))
     | fail t ↦ elim (test (isIn (keyOf r) ks)) [
       | pass f ↦ others-turn ahead e (es ++ rest) (other-first ahead ks e r (a .0) t s ∙ ap not f)
           ∙ others-arranged es rs rest (a .1) b (ahead ++ e ∷ []) (keyOf r ∷ ks) (seen-other ahead ks e r (a .0) s)
-          ∙ sym (ap (λ (js : List Bytes). map (lineOf v) (arrange js ts)) (fresh-seen ks r rs t f))
+          ∙ sym (ap (λ (js : List Bytes). map (recordLine v) (arrange js ts)) (fresh-seen ks r rs t f))
       | fail f ↦ others-turn ahead e (es ++ rest) (other-first ahead ks e r (a .0) t s ∙ ap not f)
           ∙ ap₂ _++_ (ap (λ (p : Bytes). picked v h p all) (a .0 .prefix) ∙ pick (keyOf r) (a .0 .plain))
           (others-arranged es rs rest (a .1) b (ahead ++ e ∷ []) (keyOf r ∷ ks) (seen-other ahead ks e r (a .0) s))
-          ∙ sym (map-append (lineOf v) (under (keyOf r) ts) (arrange (freshKeys (keyOf r ∷ ks) rs) ts))
-          ∙ sym (ap (λ (js : List Bytes). map (lineOf v) (arrange js ts)) (fresh-new ks r rs t f))
+          ∙ sym (map-append (recordLine v) (under (keyOf r) ts) (arrange (freshKeys (keyOf r ∷ ks) rs) ts))
+          ∙ sym (ap (λ (js : List Bytes). map (recordLine v) (arrange js ts)) (fresh-new ks r rs t f))
     ]
   ]
 
@@ -215,24 +215,24 @@ module _ (v : Version) (h : Bytes) (own : Entry) (es : List Entry) (rs : List Re
   all-readable : AllReadable v h all
   all-readable = (λ q. both q (aside .unrecorded), rows-readable v h es rs rest are asides)
 
-  pick-under : (k : Bytes) → Plain k → picked v h (prefixOf k) all ≡ map (lineOf v) (under k rs)
+  pick-under : (k : Bytes) → Plain k → picked v h (prefixOf k) all ≡ map (recordLine v) (under k rs)
   pick-under k p = picked-no v h (prefixOf k) own (es ++ rest) (not-under v h (prefixOf k) own aside) ∙ picked-rows v h k p es rs rest are asides
 
   none-seen : Seen v h all rs pick-under (own ∷ []) []
   unfolding seenUnder isIn
   none-seen k p u = rw (not-under v h (prefixOf k) own aside)
 
-  others-are : otherLines v h all [] all ≡ map (lineOf v) (arrange (otherKeys rs) rs)
+  others-are : otherLines v h all [] all ≡ map (recordLine v) (arrange (otherKeys rs) rs)
   unfolding otherLines lacking
   others-are =
       rw (not-first v h [] own aside)
-      (others-arranged v h all rs pick-under es rs rest are asides (own ∷ []) [] none-seen ∙ ap (λ (ks : List Bytes). map (lineOf v) (arrange ks rs)) (fresh-lacking [] rs))
+      (others-arranged v h all rs pick-under es rs rest are asides (own ∷ []) [] none-seen ∙ ap (λ (ks : List Bytes). map (recordLine v) (arrange ks rs)) (fresh-lacking [] rs))
 
   typed-plain : All Plain typedKeys
   unfolding any
   typed-plain = (refl, (refl, (refl, (refl, (refl, tt)))))
 
-  records-are : recordLines v h all ≡ map (lineOf v) (arrange (allKeys rs) rs)
+  records-are : recordLines v h all ≡ map (recordLine v) (arrange (allKeys rs) rs)
   unfolding recordLines
   records-are = lines-arranged v h all rs pick-under typedKeys (otherKeys rs) typed-plain others-are
 
@@ -252,7 +252,7 @@ pub record FormIs (v : Version) (h : Bytes) (rs : List Record) (c : Columns) (es
   pub readable : AllReadable v h es
   pub lines : formLines v h es ≡ houseLines (headerMeaning v rs c)
 
-form-lines : (v : Version) (rs : List Record) (c : Columns) → houseLines (headerMeaning v rs c) ≡ writeRecord (fileformat v) ∷ (map (lineOf v) (arrange (allKeys rs) rs) ++ writeColumns (c .format) (c .samples) ∷ [])
+form-lines : (v : Version) (rs : List Record) (c : Columns) → houseLines (headerMeaning v rs c) ≡ writeRecord (fileformat v) ∷ (map (recordLine v) (arrange (allKeys rs) rs) ++ writeColumns (c .format) (c .samples) ∷ [])
 form-lines v rs c = house-lines v rs c ∙ ap (λ (ls : List Bytes). writeRecord (fileformat v) ∷ (ls ++ writeColumns (c .format) (c .samples) ∷ [])) (map-map writeRecord (tidied v) (arrange (allKeys rs) rs))
 
 module _ (lim : Limits) (imposed : Option Version) (h : Bytes) (v : Version) (rs : List Record) (c : Columns) (entries : List Entry)

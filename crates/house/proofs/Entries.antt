@@ -29,7 +29,7 @@ use Rattle.rules.proofs.Texts.{LineOf, record-in}
 use Rattle.ids.specs.Clashes.{prefixOf}
 use Rattle.ids.proofs.Clashes.{prefix-starts}
 use Rattle.ids.proofs.KeyKinds.{typed-below, number-small}
-use Rattle.forms.specs.Lines.{lineOf, IsEntry, houseLine}
+use Rattle.forms.specs.Lines.{recordLine, IsEntry, houseLine}
 use Rattle.forms.proofs.Lines.{entry-is}
 use Rattle.house.specs.Writes.{Readable}
 use Rattle.house.specs.Keys.{isRecord, isUnder, prefixIn, isOtherRecord}
@@ -54,7 +54,7 @@ pub record RowIs (v : Version) (h : Bytes) (e : Entry) (r : Record) : Type 0 whe
   pub no-columns : eqb (e .kind) columnsKind ≡ false
   pub plain : any (is 61) (keyOf r) ≡ false
   pub readable : Readable v (lineIn h e)
-  pub written : houseLine v (lineIn h e) ≡ lineOf v r
+  pub written : houseLine v (lineIn h e) ≡ recordLine v r
   pub under : (k : Bytes) → any (is 61) k ≡ false → isUnder h (prefixOf k) e ≡ same (keyOf r) k
   pub prefix : prefixIn h e ≡ prefixOf (keyOf r)
 

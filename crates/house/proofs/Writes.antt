@@ -20,7 +20,7 @@ use Rattle.rules.specs.Lines.{ends, writeLine, writeLines}
 use Rattle.rules.specs.Record.{fileformat, readRecord}
 use Rattle.rules.specs.House.{writeRecord, tooLong}
 use Rattle.rules.proofs.Pieces.{no-end}
-use Rattle.forms.specs.Lines.{lineOf, houseLine, ending, WroteEnded}
+use Rattle.forms.specs.Lines.{recordLine, houseLine, ending, WroteEnded}
 use Rattle.forms.proofs.Lines.{line-ended, entry-is, entry-ended}
 use Rattle.forms.specs.declared.line.LineWritten.{LineWritten}
 use Rattle.house.specs.declared.progress.Progress.{Progress}
@@ -187,7 +187,7 @@ pub entry-line : (v : Version) (s : Progress) {p l : Bytes} → p ≡ l → {out
 entry-line v s {p} {l} e {out} {put} {o} w {r} n = record {
   is = λ x.
       let d = entry-ended v p (x .line) (ap (readRecord v) e ∙ x .read) (x .entry) w in
-      rw (entry-is v l (x .line) (x .read) (x .entry)) (one-line (lineOf v (x .line)) (d .0) (d .1) n);
+      rw (entry-is v l (x .line) (x .read) (x .entry)) (one-line (recordLine v (x .line)) (d .0) (d .1) n);
 }
 
 -- what answers the needs of `put_plain`

@@ -22,7 +22,7 @@ use Rattle.rules.specs.Known.{count, letter}
 use Rattle.rules.specs.Known.{Number as Asked}
 use Rattle.rules.specs.Reserved.{ReservedRow, infoRows, formatRows, tableOf, lookRow, reserved, isNumber, declares}
 use Rattle.rules.specs.Map.{valueNamed, misdeclared}
-use Rattle.records.specs.Keys.{bytesOf, kindBy}
+use Rattle.records.specs.Keys.{caseBytes, kindBy}
 use Rattle.records.specs.Numbers.{isInteger, isNumberOf, typeName}
 use Rattle.records.specs.Definitions.{asked, definitionMeans, outline, infoList, formatList}
 use Rattle.records.specs.Fields.{textIn}
@@ -133,10 +133,10 @@ module _ (v : Version) (key : MapKey) (s : Bytes) (id number kind : Text) {e : B
   unfolding misdeclared reserved
   reserved-asked f {n} {x} {y} i j l d m {r} z = record {
     is = λ at tag t.
-        let row : lookRow (valueNamed v (bytesOf key) (ascii "ID") (t .fs)) (tableOf (kindOf (bytesOf key))) ≡ lookRow (meaning (id .quoted) n) (tableOf (kindBy key))
+        let row : lookRow (valueNamed v (caseBytes key) (ascii "ID") (t .fs)) (tableOf (kindOf (caseBytes key))) ≡ lookRow (meaning (id .quoted) n) (tableOf (kindBy key))
         = ap₂ lookRow (t .id-is ∙ ap (meaning (id .quoted)) (sym i)) (ap tableOf (kind-by-case key)) in
         rw (misdeclared, reserved, sym a ∙ f, row) (ap (λ (b : Bool). unless b 18) (
-        declares-as v (kindOf (bytesOf key)) (valueNamed v (bytesOf key) (ascii "Number") (t .fs)) x (number .quoted) (t .number-is ∙ ap (meaning (number .quoted)) (sym j)) (t .raw ∙ ap u64Read (sym j))
+        declares-as v (kindOf (caseBytes key)) (valueNamed v (caseBytes key) (ascii "Number") (t .fs)) x (number .quoted) (t .number-is ∙ ap (meaning (number .quoted)) (sym j)) (t .raw ∙ ap u64Read (sym j))
         y (kind .quoted) (t .kind-is ∙ ap (meaning (kind .quoted)) (sym l)) d (lookRow (meaning (id .quoted) n) (tableOf (kindBy key))) m
         ∙ sym z));
   }

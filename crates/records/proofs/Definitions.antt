@@ -7,16 +7,16 @@ use Rattle.values.specs.Bytes.{Bytes}
 use Rattle.rules.specs.Known.{isIn}
 use Rattle.rules.specs.Known.{Number as Asked}
 use Rattle.rules.specs.Reserved.{ReservedRow, reservedRow, infoRows, formatRows, lookRow}
-use Rattle.records.specs.Lists.{listed}
+use Rattle.records.specs.Lists.{listedRow}
 use Rattle.records.specs.Definitions.{outline, infoList, formatList}
 
 -- q is what the code's test answered
-module _ (id names : Bytes) (n : Asked) (t : Bytes) (rs : List ReservedRow) {q : Bool} (a : q ≡ isIn id (listed names)) where
-  pub row-here : q ≡ true → some (n, t) ≡ outline (lookRow id (reservedRow (listed names) n t ∷ rs))
+module _ (id names : Bytes) (n : Asked) (t : Bytes) (rs : List ReservedRow) {q : Bool} (a : q ≡ isIn id (listedRow names)) where
+  pub row-here : q ≡ true → some (n, t) ≡ outline (lookRow id (reservedRow (listedRow names) n t ∷ rs))
   unfolding lookRow
   row-here e = rw (lookRow, sym a ∙ e)
 
-  pub row-later : q ≡ false → {d : Option (Asked × Bytes)} → d ≡ outline (lookRow id rs) → d ≡ outline (lookRow id (reservedRow (listed names) n t ∷ rs))
+  pub row-later : q ≡ false → {d : Option (Asked × Bytes)} → d ≡ outline (lookRow id rs) → d ≡ outline (lookRow id (reservedRow (listedRow names) n t ∷ rs))
   unfolding lookRow
   row-later e f = rw (lookRow, sym a ∙ e) f
 
@@ -27,9 +27,9 @@ row-none id = refl
 pub ruleset rows = (row-here, row-later, row-none)
 
 pub info-rows : infoList ≡ infoRows
-unfolding listed
+unfolding listedRow
 info-rows = refl
 
 pub format-rows : formatList ≡ formatRows
-unfolding listed
+unfolding listedRow
 format-rows = refl

@@ -12,7 +12,7 @@ use Rattle.rules.specs.Version.{Version}
 use Rattle.rules.specs.Known.{Kind, INFO, FILTER, FORMAT, ALT, contig, other, KnownField, kindOf}
 use Rattle.rules.specs.Entry.{fieldsStart, textNamed}
 use Rattle.records.specs.Formats.{versionOf, formatOf}
-use Rattle.records.specs.Keys.{bytesOf, Named}
+use Rattle.records.specs.Keys.{caseBytes, Named}
 use Rattle.records.specs.Tags.{tagRow, nameIn, tagName}
 use Rattle.records.specs.Maps.{slotted}
 use Rattle.records.specs.Records.{keyIn, RecordIs, ParsesRecord}
@@ -36,7 +36,7 @@ keyBy other true p = key.Meta
 keyBy other false true = key.Pedigree
 keyBy other false false = key.Other
 
-key-back : (j : MapKey) → keyBy (kindOf (bytesOf j)) (same (bytesOf j) (ascii "META")) (same (bytesOf j) (ascii "PEDIGREE")) ≡ j
+key-back : (j : MapKey) → keyBy (kindOf (caseBytes j)) (same (caseBytes j) (ascii "META")) (same (caseBytes j) (ascii "PEDIGREE")) ≡ j
 unfolding kindOf same
 key-back key.Info = refl
 key-back key.Filter = refl

@@ -18,7 +18,7 @@ use Rattle.rules.specs.Known.{Kind, INFO, FILTER, FORMAT, ALT, contig, other, K
 use Rattle.rules.specs.Map.{Scan, isMeta, isSome, readFields, checkFields, fieldNamed, missing, misdeclared, mapRefusal, readMap}
 use Rattle.rules.specs.Record.{looksMap, isMap}
 use Rattle.rules.specs.Entry.{mapKind, textNamed}
-use Rattle.records.specs.Keys.{bytesOf, keys, among, keyNamed, Named, kindBy, isMetaKey, isPedigreeKey, contextOf}
+use Rattle.records.specs.Keys.{caseBytes, keys, among, keyNamed, Named, kindBy, isMetaKey, isPedigreeKey, contextOf}
 use Rattle.records.specs.Formats.{versionOf}
 use Rattle.records.specs.declared.file_format.FileFormat.{FileFormat}
 use Rattle.records.specs.declared.key.MapContext.{MapContext}
@@ -26,11 +26,11 @@ use Rattle.records.specs.declared.key.MapKey.{MapKey}
 use Rattle.records.specs.declared.key.MapKey.the-variants.{Info, Filter, Format, AlternativeAllele, Contig, Meta, Pedigree, Other}
 
 -- the keys are tried one after the other; q is what the code's test answered
-pub key-here : (j : MapKey) (js : List MapKey) (k : Bytes) {q : Bool} → q ≡ same k (bytesOf j) → q ≡ true → j ≡ among (j ∷ js) k
+pub key-here : (j : MapKey) (js : List MapKey) (k : Bytes) {q : Bool} → q ≡ same k (caseBytes j) → q ≡ true → j ≡ among (j ∷ js) k
 unfolding among
 key-here j js k a e = rw (among, sym a ∙ e)
 
-pub key-later : (j : MapKey) (js : List MapKey) (k : Bytes) {q : Bool} → q ≡ same k (bytesOf j) → q ≡ false → {x : MapKey} → x ≡ among js k → x ≡ among (j ∷ js) k
+pub key-later : (j : MapKey) (js : List MapKey) (k : Bytes) {q : Bool} → q ≡ same k (caseBytes j) → q ≡ false → {x : MapKey} → x ≡ among js k → x ≡ among (j ∷ js) k
 unfolding among
 key-later j js k a e f = rw (among, sym a ∙ e) f
 
@@ -40,7 +40,7 @@ key-none k = refl
 
 pub ruleset tried = (key-here, key-later, key-none)
 
-meta-case : (key : MapKey) → isMetaKey key ≡ same (bytesOf key) (ascii "META")
+meta-case : (key : MapKey) → isMetaKey key ≡ same (caseBytes key) (ascii "META")
 unfolding same
 meta-case Info = refl
 meta-case Filter = refl
@@ -51,7 +51,7 @@ meta-case Meta = refl
 meta-case Pedigree = refl
 meta-case Other = refl
 
-pedigree-case : (key : MapKey) → isPedigreeKey key ≡ same (bytesOf key) (ascii "PEDIGREE")
+pedigree-case : (key : MapKey) → isPedigreeKey key ≡ same (caseBytes key) (ascii "PEDIGREE")
 unfolding same
 pedigree-case Info = refl
 pedigree-case Filter = refl
@@ -63,31 +63,31 @@ pedigree-case Pedigree = refl
 pedigree-case Other = refl
 
 module _ (key : MapKey) {q : Bool} (a : q ≡ isMetaKey key) where
-  is-meta : {x : Bool} → q ≡ x → same (bytesOf key) (ascii "META") ≡ x
+  is-meta : {x : Bool} → q ≡ x → same (caseBytes key) (ascii "META") ≡ x
   is-meta e = sym (meta-case key) ∙ sym a ∙ e
 
-  pub meta-always : q ≡ true → true ≡ alwaysMap (bytesOf key)
+  pub meta-always : q ≡ true → true ≡ alwaysMap (caseBytes key)
   unfolding alwaysMap
   meta-always e = rw (is-meta e)
 
-  pub pedigree-always : q ≡ false → {p : Bool} → p ≡ isPedigreeKey key → p ≡ alwaysMap (bytesOf key)
+  pub pedigree-always : q ≡ false → {p : Bool} → p ≡ isPedigreeKey key → p ≡ alwaysMap (caseBytes key)
   unfolding alwaysMap
   pedigree-always e b = rw (is-meta e) (b ∙ pedigree-case key)
 
-  pub no-brackets : (v : Version) → not q ≡ true → false ≡ isMeta v (bytesOf key)
+  pub no-brackets : (v : Version) → not q ≡ true → false ≡ isMeta v (caseBytes key)
   no-brackets v e = rw (is-meta (not-true q e))
 
-  pub meta-brackets : (v : Version) → not q ≡ false → {e : Bool} → e ≡ earlier v v4-3 → not e ≡ isMeta v (bytesOf key)
+  pub meta-brackets : (v : Version) → not q ≡ false → {e : Bool} → e ≡ earlier v v4-3 → not e ≡ isMeta v (caseBytes key)
   meta-brackets v e b = rw (is-meta (not-false q e), b)
 
 module _ (key : MapKey) (v : Version) {q : Bool} (a : q ≡ isPedigreeKey key) where
-  pub not-pedigree : not q ≡ true → false ≡ (same (bytesOf key) (ascii "PEDIGREE") && earlier v v4-3)
+  pub not-pedigree : not q ≡ true → false ≡ (same (caseBytes key) (ascii "PEDIGREE") && earlier v v4-3)
   not-pedigree e = rw (← pedigree-case key, ← a, not-true q e)
 
-  pub pedigree-lineage : not q ≡ false → {e : Bool} → e ≡ earlier v v4-3 → e ≡ (same (bytesOf key) (ascii "PEDIGREE") && earlier v v4-3)
+  pub pedigree-lineage : not q ≡ false → {e : Bool} → e ≡ earlier v v4-3 → e ≡ (same (caseBytes key) (ascii "PEDIGREE") && earlier v v4-3)
   pedigree-lineage e b = rw (← pedigree-case key, ← a, not-false q e) b
 
-pub context-of : (key : MapKey) (version : FileFormat) (start : ℕ) {b : Bool} → b ≡ isMeta (versionOf version) (bytesOf key)
+pub context-of : (key : MapKey) (version : FileFormat) (start : ℕ) {b : Bool} → b ≡ isMeta (versionOf version) (caseBytes key)
     → _≡_ {A = MapContext} (record { key = key; version = version; brackets = b; start = start }) (contextOf key version start)
 context-of key version start e = ap (λ (b : Bool). record { key = key; version = version; brackets = b; start = start }) e
 
@@ -97,7 +97,7 @@ pub ruleset brackets = (no-brackets, meta-brackets)
 
 pub ruleset lineages = (not-pedigree, pedigree-lineage)
 
-pub kind-by-case : (key : MapKey) → kindOf (bytesOf key) ≡ kindBy key
+pub kind-by-case : (key : MapKey) → kindOf (caseBytes key) ≡ kindBy key
 unfolding kindOf same
 kind-by-case Info = refl
 kind-by-case Filter = refl
@@ -108,7 +108,7 @@ kind-by-case Meta = refl
 kind-by-case Pedigree = refl
 kind-by-case Other = refl
 
-typed-kind : (key : MapKey) → not (eqb (mapKind (kindBy key)) 7) ≡ isTyped (bytesOf key)
+typed-kind : (key : MapKey) → not (eqb (mapKind (kindBy key)) 7) ≡ isTyped (caseBytes key)
 unfolding isTyped isIn same
 typed-kind Info = refl
 typed-kind Filter = refl
@@ -136,7 +136,7 @@ format-kind contig = refl
 format-kind other = refl
 
 -- the typed keys are those whose maps have a kind of their own
-pub typed-by-kind : (key : MapKey) {n : ℕ} → n ≡ mapKind (kindBy key) → not (eqb n 7) ≡ isTyped (bytesOf key)
+pub typed-by-kind : (key : MapKey) {n : ℕ} → n ≡ mapKind (kindBy key) → not (eqb n 7) ≡ isTyped (caseBytes key)
 typed-by-kind key e = rw e (typed-kind key)
 
 pub info-by-kind : (key : MapKey) {n : ℕ} → n ≡ mapKind (kindBy key) → eqb n 2 ≡ isInfo (kindBy key)
@@ -157,7 +157,7 @@ pub ruleset kinds = (info-by-kind, format-by-kind)
 pub ruleset locals = (not-format, format-since)
 
 -- a key, and its case
-unformatted : (key : MapKey) → same (bytesOf key) (ascii "fileformat") ≡ false
+unformatted : (key : MapKey) → same (caseBytes key) (ascii "fileformat") ≡ false
 unfolding same
 unformatted Info = refl
 unformatted Filter = refl
@@ -168,8 +168,8 @@ unformatted Meta = refl
 unformatted Pedigree = refl
 unformatted Other = refl
 
-known-key : (key : MapKey) (k : Bytes) → same k (bytesOf key) ≡ true → Named k key
-known-key key k e = rw (same-sound k (bytesOf key) e) (record { kind = refl; typed = refl; always = refl; meta = refl; pedigree = refl; format = unformatted key })
+known-key : (key : MapKey) (k : Bytes) → same k (caseBytes key) ≡ true → Named k key
+known-key key k e = rw (same-sound k (caseBytes key) e) (record { kind = refl; typed = refl; always = refl; meta = refl; pedigree = refl; format = unformatted key })
 
 pub record Unnamed (k : Bytes) : Type 0 where
   pub info : same k (ascii "INFO") ≡ false
@@ -201,12 +201,12 @@ named-other k u = record { kind = other-kind k u; typed = other-typed k u; alway
 -- none of these
 abbrev NoneOf : List MapKey → Bytes → Type 0
 NoneOf [] k = Unit {0}
-NoneOf (j ∷ js) k = (same k (bytesOf j) ≡ false) × NoneOf js k
+NoneOf (j ∷ js) k = (same k (caseBytes j) ≡ false) × NoneOf js k
 
 among-named : (js : List MapKey) (k : Bytes) → (NoneOf js k → Named k Other) → Named k (among js k)
 unfolding among
 among-named [] k f = f tt
-among-named (j ∷ js) k f = elim (test (same k (bytesOf j))) [
+among-named (j ∷ js) k f = elim (test (same k (caseBytes j))) [
   | pass e ↦ rw (among, e) (known-key j k e)
   | fail e ↦ rw (among, e) (among-named js k (λ a. f (e, a)))
 ]
@@ -227,22 +227,22 @@ named k e = among-named keys k (λ a. named-other k (record {
 -- What the rules read of a map goes by the case of its key
 
 module _ (v : Version) (k : Bytes) (key : MapKey) (n : Named k key) where
-  pub name-by-case : (field : Bytes) → nameOf v k field ≡ nameOf v (bytesOf key) field
+  pub name-by-case : (field : Bytes) → nameOf v k field ≡ nameOf v (caseBytes key) field
   unfolding nameOf namesId
   name-by-case field = rw (nameOf, namesId, n .pedigree)
 
-  check-by-case : (seen : List Bytes) (fs : List Field) → checkFields v k seen fs ≡ checkFields v (bytesOf key) seen fs
+  check-by-case : (seen : List Bytes) (fs : List Field) → checkFields v k seen fs ≡ checkFields v (caseBytes key) seen fs
   unfolding checkFields
   check-by-case seen [] = refl
-  check-by-case seen (f ∷ fs) = rw (name-by-case (f .key), n .kind, check-by-case (nameOf v (bytesOf key) (f .key) ∷ seen) fs)
+  check-by-case seen (f ∷ fs) = rw (name-by-case (f .key), n .kind, check-by-case (nameOf v (caseBytes key) (f .key) ∷ seen) fs)
 
-  field-by-case : (name : Bytes) (fs : List Field) → fieldNamed v k name fs ≡ fieldNamed v (bytesOf key) name fs
+  field-by-case : (name : Bytes) (fs : List Field) → fieldNamed v k name fs ≡ fieldNamed v (caseBytes key) name fs
   unfolding fieldNamed
   field-by-case name [] = refl
   field-by-case name (f ∷ fs) =
       ap₂ (λ (b : Bool) (o : Option Field). elim b [ true ↦ some f | false ↦ o ]) (ap (λ (x : Bytes). same x name) (name-by-case (f .key))) (field-by-case name fs)
 
-  pub text-by-case : (name : Bytes) (at : ℕ) (fs : List Field) → textNamed v k name at fs ≡ textNamed v (bytesOf key) name at fs
+  pub text-by-case : (name : Bytes) (at : ℕ) (fs : List Field) → textNamed v k name at fs ≡ textNamed v (caseBytes key) name at fs
   unfolding textNamed
   text-by-case name at [] = refl
   text-by-case name at (f ∷ fs) =
@@ -250,30 +250,30 @@ module _ (v : Version) (k : Bytes) (key : MapKey) (n : Named k key) where
       (ap (λ (x : Bytes). same x name) (name-by-case (f .key))) (text-by-case name (at + length (writtenField f) + 1) fs)
 
   asks-by-case : (fs : List Field) (rs : List KnownField) → map (λ (r : KnownField). unless (isSome (fieldNamed v k (r .name) fs)) (r .missing)) rs
-      ≡ map (λ (r : KnownField). unless (isSome (fieldNamed v (bytesOf key) (r .name) fs)) (r .missing)) rs
+      ≡ map (λ (r : KnownField). unless (isSome (fieldNamed v (caseBytes key) (r .name) fs)) (r .missing)) rs
   asks-by-case fs [] = refl
   asks-by-case fs (r ∷ rs) = ap₂ _∷_ (ap (λ (o : Option Field). unless (isSome o) (r .missing)) (field-by-case (r .name) fs)) (asks-by-case fs rs)
 
-  missing-by-case : (fs : List Field) → missing v k fs ≡ missing v (bytesOf key) fs
+  missing-by-case : (fs : List Field) → missing v k fs ≡ missing v (caseBytes key) fs
   unfolding missing
-  missing-by-case fs = rw (n .kind) (ap first (asks-by-case fs (required (kindOf (bytesOf key)))))
+  missing-by-case fs = rw (n .kind) (ap first (asks-by-case fs (required (kindOf (caseBytes key)))))
 
-  misdeclared-by-case : (fs : List Field) → misdeclared v k fs ≡ misdeclared v (bytesOf key) fs
+  misdeclared-by-case : (fs : List Field) → misdeclared v k fs ≡ misdeclared v (caseBytes key) fs
   unfolding misdeclared
   misdeclared-by-case fs = rw (n .kind, field-by-case (ascii "ID") fs, field-by-case (ascii "Number") fs, field-by-case (ascii "Type") fs)
 
-  refusal-by-case : (x : Scan) → mapRefusal v k x ≡ mapRefusal v (bytesOf key) x
+  refusal-by-case : (x : Scan) → mapRefusal v k x ≡ mapRefusal v (caseBytes key) x
   unfolding mapRefusal
   refusal-by-case x = rw (check-by-case [] (x .0), missing-by-case (x .0), misdeclared-by-case (x .0))
 
-  pub map-by-case : (x : Bytes) → readMap v k x ≡ readMap v (bytesOf key) x
+  pub map-by-case : (x : Bytes) → readMap v k x ≡ readMap v (caseBytes key) x
   unfolding readMap
   map-by-case x = elim (test (begins 60 x)) [
     | pass e ↦ rw (readMap, e, n .meta, n .always) (
-        let s = readFields (isMeta v (bytesOf key)) (alwaysMap (bytesOf key)) (tail x) in
+        let s = readFields (isMeta v (caseBytes key)) (alwaysMap (caseBytes key)) (tail x) in
         ap (λ (m : ℕ). judged m (s .0)) (refusal-by-case s))
     | fail e ↦ rw (readMap, e)
   ]
 
-  pub looks-by-case : (x : Bytes) → isMap v k x ≡ isMap v (bytesOf key) x
+  pub looks-by-case : (x : Bytes) → isMap v k x ≡ isMap v (caseBytes key) x
   looks-by-case x = ap₂ (λ (t a : Bool). t || (a || looksMap v x)) (n .typed) (n .always)

@@ -11,25 +11,25 @@ use Rattle.values.proofs.Tests.{pass, fail, test}
 use Rattle.values.proofs.Lists.{here, from-at}
 use Rattle.values.proofs.Fields.{before-part}
 use Rattle.rules.specs.Known.{isIn}
-use Rattle.records.specs.Lists.{listed}
+use Rattle.records.specs.Lists.{listedRow}
 
 -- the first name, and those after it
 abbrev following : Bytes → List Bytes
 following [] = []
-following (b ∷ bs) = listed bs
+following (b ∷ bs) = listedRow bs
 
-listed-first : (bs : Bytes) → listed bs ≡ before (is 44) bs ∷ following (from (is 44) bs)
-unfolding listed before from
+listed-first : (bs : Bytes) → listedRow bs ≡ before (is 44) bs ∷ following (from (is 44) bs)
+unfolding listedRow before from
 listed-first [] = refl
 listed-first (b ∷ bs) = elim (test (is 44 b)) [
-  | pass e ↦ rw (listed, before, from, e)
-  | fail e ↦ rw (listed, before, from, e, listed-first bs)
+  | pass e ↦ rw (listedRow, before, from, e)
+  | fail e ↦ rw (listedRow, before, from, e, listed-first bs)
 ]
 
 -- the names before `start` are others
 pub record Listing (list : Bytes) (s : Bytes) (quoted : Bool) (start : ℕ) : Type 0 where
   pub inside : start ≤ length list
-  pub still : isIn (meaning quoted s) (listed list) ≡ isIn (meaning quoted s) (listed (drop start list))
+  pub still : isIn (meaning quoted s) (listedRow list) ≡ isIn (meaning quoted s) (listedRow (drop start list))
 
 pub list-all : (list s : Bytes) (quoted : Bool) → Listing list s quoted 0
 list-all list s quoted = record { inside = omega arith; still = refl }
@@ -42,14 +42,14 @@ module _ {list s : Bytes} {quoted : Bool} {start : ℕ} (g : Listing list s quot
   rest-is : from (is 44) (drop start list) ≡ drop end list
   rest-is = from-at (is 44) list start ∙ ap (λ (i : ℕ). drop i list) (sym a)
 
-  opened : isIn (meaning quoted s) (listed list) ≡ (q || isIn (meaning quoted s) (following (drop end list)))
+  opened : isIn (meaning quoted s) (listedRow list) ≡ (q || isIn (meaning quoted s) (following (drop end list)))
   unfolding isIn
   opened = g .still ∙ rw (listed-first (drop start list), rest-is, c, name-is)
 
-  pub name-found : q ≡ true → true ≡ isIn (meaning quoted s) (listed list)
+  pub name-found : q ≡ true → true ≡ isIn (meaning quoted s) (listedRow list)
   name-found e = sym (opened ∙ rw e)
 
-  pub list-ended : q ≡ false → length list ≤ end → false ≡ isIn (meaning quoted s) (listed list)
+  pub list-ended : q ≡ false → length list ≤ end → false ≡ isIn (meaning quoted s) (listedRow list)
   unfolding isIn
   list-ended e h = sym (opened ∙ rw (e, drop-of-length-le list h))
 

@@ -18,8 +18,8 @@ use Rattle.rules.specs.Known.{alwaysMap}
 use Rattle.rules.specs.Map.{done, wrong, after, closingRefusal, Scan, scan, readFields, checkFields}
 use Rattle.rules.specs.Entry.{textNamed}
 use Rattle.records.specs.Formats.{versionOf}
-use Rattle.records.specs.Keys.{bytesOf, contextOf, versionIn, keyBytes}
-use Rattle.records.specs.Maps.{get, noSlots, closes, closesAt, bareAt, Held, Walk, scannedFrom, StepIs, StepMoves, ReadsField, WalksFields, fieldsAfter, ReadsFields}
+use Rattle.records.specs.Keys.{caseBytes, contextOf, versionIn, keyBytes}
+use Rattle.records.specs.Maps.{get, noSlots, closesAsMap, closesAt, bareAt, Held, Walk, scannedFrom, StepIs, StepMoves, ReadsField, WalksFields, fieldsAfter, ReadsFields}
 use Rattle.records.specs.declared.file_format.FileFormat.{FileFormat}
 use Rattle.records.specs.declared.key.MapKey.{MapKey}
 use Rattle.records.specs.declared.key.MapContext.{MapContext}
@@ -89,14 +89,14 @@ pub ruleset walks = (walk-start, walk-next, walk-less, walk-refused, walk-last)
 
 -- No field at all
 
-module _ (s : Bytes) (c : Cursor) (key : MapKey) {q : Bool} (a : q ≡ alwaysMap (bytesOf key)) where
-  pub bare-never : q ≡ true → false ≡ bareAt s (c .at) (alwaysMap (bytesOf key))
+module _ (s : Bytes) (c : Cursor) (key : MapKey) {q : Bool} (a : q ≡ alwaysMap (caseBytes key)) where
+  pub bare-never : q ≡ true → false ≡ bareAt s (c .at) (alwaysMap (caseBytes key))
   bare-never e = rw (sym a ∙ e)
 
-  pub bare-end : q ≡ false → length s ≤ c .at → true ≡ bareAt s (c .at) (alwaysMap (bytesOf key))
+  pub bare-end : q ≡ false → length s ≤ c .at → true ≡ bareAt s (c .at) (alwaysMap (caseBytes key))
   bare-end e h = rw (sym a ∙ e, drop-of-length-le s h)
 
-  pub bare-byte : q ≡ false → c .at < length s → eqb (getD s (c .at) 0) 62 ≡ bareAt s (c .at) (alwaysMap (bytesOf key))
+  pub bare-byte : q ≡ false → c .at < length s → eqb (getD s (c .at) 0) 62 ≡ bareAt s (c .at) (alwaysMap (caseBytes key))
   unfolding begins
   bare-byte e h = rw (sym a ∙ e, here s (c .at) h)
 
@@ -105,7 +105,7 @@ pub ruleset bares = (bare-never, bare-end, bare-byte)
 abbrev noField : ℕ → Scan
 noField n = ([], n)
 
-closed-after : (x : Bytes) → empty x || begins 62 x ≡ true → closingRefusal (after x) ≡ unless (closes x) 8
+closed-after : (x : Bytes) → empty x || begins 62 x ≡ true → closingRefusal (after x) ≡ unless (closesAsMap x) 8
 unfolding after begins
 closed-after [] e = refl
 closed-after (b ∷ x) e = rw (eqb-true b 62 e) (go (empty x))
@@ -114,7 +114,7 @@ closed-after (b ∷ x) e = rw (eqb-true b 62 e) (go (empty x))
     go true = refl
     go false = refl
 
-module _ (version : FileFormat) (key : MapKey) (s : Bytes) (c : Cursor) {q : Bool} (a : q ≡ bareAt s (c .at) (alwaysMap (bytesOf key))) where
+module _ (version : FileFormat) (key : MapKey) (s : Bytes) (c : Cursor) {q : Bool} (a : q ≡ bareAt s (c .at) (alwaysMap (caseBytes key))) where
   pub fields-read : not q ≡ true → {x : MapContext} → x ≡ contextOf key version (c .at) → {r : FieldsRead} → WalksFields x s r → ReadsFields (versionOf version) key s (c .at) r
   unfolding readFields
   fields-read e f {r} h = record {
@@ -125,15 +125,15 @@ module _ (version : FileFormat) (key : MapKey) (s : Bytes) (c : Cursor) {q : Boo
   }
 
   module _ (e : not q ≡ false) where
-    bare : fieldsAfter (versionOf version) (bytesOf key) s (c .at) ≡ ([], unless (closes (drop (c .at) s)) 8)
+    bare : fieldsAfter (versionOf version) (caseBytes key) s (c .at) ≡ ([], unless (closesAsMap (drop (c .at) s)) 8)
     unfolding readFields
     bare =
         let b = sym a ∙ not-false q e in
-        rw (readFields, b) (ap noField (closed-after (drop (c .at) s) (and-r (not (alwaysMap (bytesOf key))) _ b)))
+        rw (readFields, b) (ap noField (closed-after (drop (c .at) s) (and-r (not (alwaysMap (caseBytes key))) _ b)))
 
     pub fields-none : {x : Bool} → x ≡ closesAt s (c .at) → x ≡ true → {slots : Slots} → slots ≡ noSlots → ReadsFields (versionOf version) key s (c .at) (fields.Fields slots)
     unfolding first checkFields
-    fields-none f g h = record { is = rw (bare, sym f ∙ g) (refl, rw h (none-held (versionOf version) (bytesOf key) (c .at))) }
+    fields-none f g h = record { is = rw (bare, sym f ∙ g) (refl, rw h (none-held (versionOf version) (caseBytes key) (c .at))) }
 
     pub fields-unclosed : {x : Bool} → x ≡ closesAt s (c .at) → x ≡ false → ReadsFields (versionOf version) key s (c .at) (fields.Refused InvalidMap)
     unfolding first checkFields

@@ -17,7 +17,7 @@ use Rattle.values.proofs.Fields.{placed-comma, placed-other}
 use Rattle.rules.specs.Version.{Version, v4-3, v4-5, earlier, since}
 use Rattle.rules.specs.Map.{done, wrong, after}
 use Rattle.rules.specs.Record.{looksMap}
-use Rattle.records.specs.Maps.{opensAt, closes, closesAt, afterPlaced, afterAt, checkNumber, rawRefusal, put}
+use Rattle.records.specs.Maps.{opensAt, closesAsMap, closesAt, afterPlaced, afterAt, checkNumber, rawRefusal, putSlot}
 use Rattle.values.specs.Value.{meaning}
 use Rattle.rules.specs.Answer.{unless}
 use Rattle.rules.specs.Known.{Kind, isInfo, isFormat, isIn, letters, types}
@@ -89,7 +89,7 @@ unfolding after begins
 comma-after at [] e = cc
 comma-after at (b ∷ x) e = rw (after, e)
 
-no-comma : (at : ℕ) (x : Bytes) → begins 44 x ≡ false → afterPlaced at (after x) ≡ elim (closes x) [ true ↦ afters.Closed | false ↦ afters.Other ]
+no-comma : (at : ℕ) (x : Bytes) → begins 44 x ≡ false → afterPlaced at (after x) ≡ elim (closesAsMap x) [ true ↦ afters.Closed | false ↦ afters.Other ]
 unfolding after begins
 no-comma at [] e = refl
 no-comma at (b ∷ x) e = rw (after, e) (go (is 62 b && empty x))
@@ -106,7 +106,7 @@ module _ (s : Bytes) (c : Cursor) {r : Separator} (a : r ≡ separatorAt s (c .a
       rw (← p .1) (comma-after (c .at) (drop (c .at) s) (p .0))
 
   module _ (e : r ≡ separator.Other) {q : Bool} (b : q ≡ closesAt s (c .at)) where
-    uncomma : afterAt s (c .at) ≡ elim (closes (drop (c .at) s)) [ true ↦ afters.Closed | false ↦ afters.Other ]
+    uncomma : afterAt s (c .at) ≡ elim (closesAsMap (drop (c .at) s)) [ true ↦ afters.Closed | false ↦ afters.Other ]
     unfolding separatorAt
     uncomma = no-comma (c .at) (drop (c .at) s) (placed-other (c .at) (begins 44 (drop (c .at) s)) (sym a ∙ e))
 
@@ -147,5 +147,5 @@ module _ (v : Version) (kind : Kind) (t : Tag) (s : Bytes) (q : Bool) where
 
 pub ruleset values = (number-checked, type-checked, idx-checked, length-checked)
 
-pub put-told : (t : Tag) (z : Slot) (x : Slots) {y : Tag} → t ≡ y → {w : Slots} → w ≡ put y z x → w ≡ put t z x
+pub put-told : (t : Tag) (z : Slot) (x : Slots) {y : Tag} → t ≡ y → {w : Slots} → w ≡ putSlot y z x → w ≡ putSlot t z x
 put-told t z x e f = rw e f

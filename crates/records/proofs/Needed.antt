@@ -19,7 +19,7 @@ use Rattle.rules.specs.Map.{isSome, fieldNamed, meaningOfField, valueNamed, mis
 use Rattle.rules.specs.Entry.{textNamed}
 use Rattle.rules.proofs.Checks.{on-named}
 use Rattle.rules.proofs.Shows.{Both, named-text, value-means}
-use Rattle.records.specs.Keys.{bytesOf}
+use Rattle.records.specs.Keys.{caseBytes}
 use Rattle.records.specs.Tags.{tagName}
 use Rattle.records.specs.Fields.{textIn, meaningIn}
 use Rattle.records.specs.Maps.{get, slotted, OpenIs, OpensMap, Full, ParsesTyped, Identified, Described}
@@ -73,44 +73,44 @@ full-format = record { needs = refl; numbered = refl; typed = refl; described = 
 
 module _ (v : Version) (key : MapKey) (s : Bytes) (c : Cursor) {r : FieldsRead} (o : OpensMap v key s (c .at) r) where
   pub typed-refused : {x : Refusal} → r ≡ fields.Refused x → Full key → ParsesTyped v key s (c .at) (typed.Refused x)
-  typed-refused e full = record { is = subst (OpenIs v (bytesOf key) s (c .at)) e (o .is) }
+  typed-refused e full = record { is = subst (OpenIs v (caseBytes key) s (c .at)) e (o .is) }
 
   module _ {slots : Slots} (e : r ≡ fields.Fields slots) where
-    abbrev f : Fielded v (bytesOf key) s (c .at) slots
-    f = fielded v (bytesOf key) s (c .at) slots (subst (OpenIs v (bytesOf key) s (c .at)) e (o .is))
+    abbrev f : Fielded v (caseBytes key) s (c .at) slots
+    f = fielded v (caseBytes key) s (c .at) slots (subst (OpenIs v (caseBytes key) s (c .at)) e (o .is))
 
     pub no-id : slots .id ≡ slot.Empty → Full key → ParsesTyped v key s (c .at) (typed.Refused MissingId)
-    no-id i full = record { is = lacks f (asks-of f (full .needs) ∙ asked-first (isSome (fieldNamed v (bytesOf key) (ascii "ID") (f .fs))) 13 _ (has f Id (keeps-id (bytesOf key)) i)) }
+    no-id i full = record { is = lacks f (asks-of f (full .needs) ∙ asked-first (isSome (fieldNamed v (caseBytes key) (ascii "ID") (f .fs))) 13 _ (has f Id (keeps-id (caseBytes key)) i)) }
 
     module _ {id : Text} {g : ℕ} (i : slots .id ≡ slot.Filled id g) where
-      past-id : Full key → missing v (bytesOf key) (f .fs) ≡ first (map (asks v (bytesOf key) (f .fs)) (numberField ∷ typeField ∷ descriptionField ∷ []))
-      past-id full = asks-of f (full .needs) ∙ asked-later (isSome (fieldNamed v (bytesOf key) (ascii "ID") (f .fs))) 14 _ (has f Id (keeps-id (bytesOf key)) i)
+      past-id : Full key → missing v (caseBytes key) (f .fs) ≡ first (map (asks v (caseBytes key) (f .fs)) (numberField ∷ typeField ∷ descriptionField ∷ []))
+      past-id full = asks-of f (full .needs) ∙ asked-later (isSome (fieldNamed v (caseBytes key) (ascii "ID") (f .fs))) 14 _ (has f Id (keeps-id (caseBytes key)) i)
 
       pub no-number : slots .number ≡ slot.Empty → Full key → ParsesTyped v key s (c .at) (typed.Refused MissingNumber)
-      no-number n full = record { is = lacks f (past-id full ∙ asked-first (isSome (fieldNamed v (bytesOf key) (ascii "Number") (f .fs))) 14 _ (has f Number (refl, full .numbered) n)) }
+      no-number n full = record { is = lacks f (past-id full ∙ asked-first (isSome (fieldNamed v (caseBytes key) (ascii "Number") (f .fs))) 14 _ (has f Number (refl, full .numbered) n)) }
 
       module _ {nr : Text} {h : ℕ} (n : slots .number ≡ slot.Filled nr h) where
-        past-number : Full key → missing v (bytesOf key) (f .fs) ≡ first (map (asks v (bytesOf key) (f .fs)) (typeField ∷ descriptionField ∷ []))
-        past-number full = past-id full ∙ asked-later (isSome (fieldNamed v (bytesOf key) (ascii "Number") (f .fs))) 15 _ (has f Number (refl, full .numbered) n)
+        past-number : Full key → missing v (caseBytes key) (f .fs) ≡ first (map (asks v (caseBytes key) (f .fs)) (typeField ∷ descriptionField ∷ []))
+        past-number full = past-id full ∙ asked-later (isSome (fieldNamed v (caseBytes key) (ascii "Number") (f .fs))) 15 _ (has f Number (refl, full .numbered) n)
 
         pub no-type : slots .kind ≡ slot.Empty → Full key → ParsesTyped v key s (c .at) (typed.Refused MissingType)
-        no-type t full = record { is = lacks f (past-number full ∙ asked-first (isSome (fieldNamed v (bytesOf key) (ascii "Type") (f .fs))) 15 _ (has f ValueType (refl, full .typed) t)) }
+        no-type t full = record { is = lacks f (past-number full ∙ asked-first (isSome (fieldNamed v (caseBytes key) (ascii "Type") (f .fs))) 15 _ (has f ValueType (refl, full .typed) t)) }
 
         module _ {ty : Text} {j : ℕ} (t : slots .kind ≡ slot.Filled ty j) where
-          past-type : Full key → missing v (bytesOf key) (f .fs) ≡ first (map (asks v (bytesOf key) (f .fs)) (descriptionField ∷ []))
-          past-type full = past-number full ∙ asked-later (isSome (fieldNamed v (bytesOf key) (ascii "Type") (f .fs))) 16 _ (has f ValueType (refl, full .typed) t)
+          past-type : Full key → missing v (caseBytes key) (f .fs) ≡ first (map (asks v (caseBytes key) (f .fs)) (descriptionField ∷ []))
+          past-type full = past-number full ∙ asked-later (isSome (fieldNamed v (caseBytes key) (ascii "Type") (f .fs))) 16 _ (has f ValueType (refl, full .typed) t)
 
           pub no-description : slots .description ≡ slot.Empty → Full key → ParsesTyped v key s (c .at) (typed.Refused MissingDescription)
-          no-description d full = record { is = lacks f (past-type full ∙ asked-first (isSome (fieldNamed v (bytesOf key) (ascii "Description") (f .fs))) 16 _ (has f Description (refl, full .described) d)) }
+          no-description d full = record { is = lacks f (past-type full ∙ asked-first (isSome (fieldNamed v (caseBytes key) (ascii "Description") (f .fs))) 16 _ (has f Description (refl, full .described) d)) }
 
           pub all-given : {de : Text} {l : ℕ} → slots .description ≡ slot.Filled de l → Full key → ParsesTyped v key s (c .at) (typed.Typed id g nr ty)
           unfolding first
           all-given d full = record {
             is = record {
               fs = f .fs;
-              read = whole f (past-type full ∙ asked-later (isSome (fieldNamed v (bytesOf key) (ascii "Description") (f .fs))) 17 [] (has f Description (refl, full .described) d));
-              named = holds f Id (keeps-id (bytesOf key)) i;
-              id-is = value-is f Id (keeps-id (bytesOf key)) i;
+              read = whole f (past-type full ∙ asked-later (isSome (fieldNamed v (caseBytes key) (ascii "Description") (f .fs))) 17 [] (has f Description (refl, full .described) d));
+              named = holds f Id (keeps-id (caseBytes key)) i;
+              id-is = value-is f Id (keeps-id (caseBytes key)) i;
               number-is = value-is f Number (refl, full .numbered) n;
               kind-is = value-is f ValueType (refl, full .typed) t;
               raw = value-raw f Number (refl, full .numbered) n;

@@ -9,7 +9,7 @@ use Rattle.values.specs.Value.{meaning}
 use Rattle.values.specs.declared.integer.IntegerRead.{IntegerRead}
 use Rattle.values.specs.declared.integer.IntegerRead.the-variants as integer
 use Rattle.rules.specs.Known.{isIn}
-use Rattle.records.specs.Lists.{listed}
+use Rattle.records.specs.Lists.{listedRow}
 use Rattle.records.specs.Numbers.{isCount, lettersOf, typesOf, isNumberOf, typeName}
 use Rattle.records.specs.declared.number.Number.{Number}
 use Rattle.records.specs.declared.number.Number.the-variants.{Count, A, R, G}
@@ -26,14 +26,14 @@ module _ (s : Bytes) (quoted : Bool) {c : Bool} (a : c ≡ isCount s) where
   pub count-given : (local : Bool) → c ≡ true → true ≡ (isCount s || isIn (meaning quoted s) (lettersOf local))
   count-given local e = rw (sym a ∙ e)
 
-  pub local-letter : (local : Bool) → c ≡ false → local ≡ true → {q : Bool} → q ≡ isIn (meaning quoted s) (listed (ascii "A,R,G,.,LA,LR,LG,P,M"))
+  pub local-letter : (local : Bool) → c ≡ false → local ≡ true → {q : Bool} → q ≡ isIn (meaning quoted s) (listedRow (ascii "A,R,G,.,LA,LR,LG,P,M"))
       → q ≡ (isCount s || isIn (meaning quoted s) (lettersOf local))
-  unfolding listed
+  unfolding listedRow
   local-letter local e l d = rw (sym a ∙ e, l) d
 
-  pub common-letter : (local : Bool) → c ≡ false → local ≡ false → {q : Bool} → q ≡ isIn (meaning quoted s) (listed (ascii "A,R,G,."))
+  pub common-letter : (local : Bool) → c ≡ false → local ≡ false → {q : Bool} → q ≡ isIn (meaning quoted s) (listedRow (ascii "A,R,G,."))
       → q ≡ (isCount s || isIn (meaning quoted s) (lettersOf local))
-  unfolding listed
+  unfolding listedRow
   common-letter local e l d = rw (sym a ∙ e, l) d
 
 module _ (s : Bytes) (quoted : Bool) {r : IntegerRead} (a : r ≡ u64Read s) where
@@ -44,12 +44,12 @@ module _ (s : Bytes) (quoted : Bool) {r : IntegerRead} (a : r ≡ u64Read s) whe
   no-count e f = rw (e, sym a ∙ f)
 
 module _ (s : Bytes) (quoted : Bool) where
-  pub flag-type : (flag : Bool) → flag ≡ true → {q : Bool} → q ≡ isIn (meaning quoted s) (listed (ascii "Integer,Float,Character,String,Flag")) → q ≡ isIn (meaning quoted s) (typesOf flag)
-  unfolding listed
+  pub flag-type : (flag : Bool) → flag ≡ true → {q : Bool} → q ≡ isIn (meaning quoted s) (listedRow (ascii "Integer,Float,Character,String,Flag")) → q ≡ isIn (meaning quoted s) (typesOf flag)
+  unfolding listedRow
   flag-type flag e c = rw e c
 
-  pub plain-type : (flag : Bool) → flag ≡ false → {q : Bool} → q ≡ isIn (meaning quoted s) (listed (ascii "Integer,Float,Character,String")) → q ≡ isIn (meaning quoted s) (typesOf flag)
-  unfolding listed
+  pub plain-type : (flag : Bool) → flag ≡ false → {q : Bool} → q ≡ isIn (meaning quoted s) (listedRow (ascii "Integer,Float,Character,String")) → q ≡ isIn (meaning quoted s) (typesOf flag)
+  unfolding listedRow
   plain-type flag e c = rw e c
 
   pub type-named : (x : ValueType) {y : ValueType} → x ≡ y → {q : Bool} → q ≡ same (typeName y) (meaning quoted s) → q ≡ same (typeName x) (meaning quoted s)

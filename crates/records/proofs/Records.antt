@@ -20,7 +20,7 @@ use Rattle.rules.specs.Map.{readMap}
 use Rattle.rules.specs.Entry.{fieldsStart, textNamed}
 use Rattle.rules.specs.Record.{fields, text, looksMap, isMap, fileformatRead, readRecordValue, readKeyed, readRecord}
 use Rattle.records.specs.Formats.{formatRead}
-use Rattle.records.specs.Keys.{bytesOf, keyNamed, Named}
+use Rattle.records.specs.Keys.{caseBytes, keyNamed, Named}
 use Rattle.records.specs.Maps.{slotted, MapIs, ParsesMap, Full, TypedIs, ParsesTyped, Typed, Declared}
 use Rattle.records.specs.Records.{ValueIs, ParsesValue, keyIn, KeyedIs, versionRecord, RecordIs, ParsesRecord}
 use Rattle.records.specs.declared.file_format.FileFormat.{FileFormat}
@@ -52,11 +52,11 @@ judged-otherwise x e f = rw (e, f)
 
 module _ (v : Version) (key : MapKey) (s : Bytes) (c : Cursor) {r : TypedRead} (o : Full key → ParsesTyped v key s (c .at) r) where
   pub typed-unread : {x : Refusal} → r ≡ typed.Refused x → Full key → ParsesMap v key s (c .at) (maps.Refused x)
-  typed-unread e full = record { is = subst (TypedIs v (bytesOf key) s (c .at)) e (o full .is) }
+  typed-unread e full = record { is = subst (TypedIs v (caseBytes key) s (c .at)) e (o full .is) }
 
   module _ {id : Text} {g : ℕ} {n t : Text} (e : r ≡ typed.Typed id g n t) {q : Bool} (d : Declared v key s id n t q) where
-    as-typed : Full key → Typed v (bytesOf key) s (c .at) id g n t
-    as-typed full = subst (TypedIs v (bytesOf key) s (c .at)) e (o full .is)
+    as-typed : Full key → Typed v (caseBytes key) s (c .at) id g n t
+    as-typed full = subst (TypedIs v (caseBytes key) s (c .at)) e (o full .is)
 
     pub typed-otherwise : not q ≡ true → Full key → ParsesMap v key s (c .at) (maps.Refused DefinitionMismatch)
     typed-otherwise f full = record { is = let y = as-typed full in y .read ∙ judged-otherwise (y .fs) (d .is (c .at) g y) (not-true q f) }
@@ -77,14 +77,14 @@ pub ruleset by-case = (map-told, typed-told, full-info, full-format)
 
 -- Whether the value is a map
 
-module _ (v : Version) (key : MapKey) (x : Bytes) {t : Bool} (a : t ≡ isTyped (bytesOf key)) where
-  pub typed-map : t ≡ true → true ≡ isMap v (bytesOf key) x
+module _ (v : Version) (key : MapKey) (x : Bytes) {t : Bool} (a : t ≡ isTyped (caseBytes key)) where
+  pub typed-map : t ≡ true → true ≡ isMap v (caseBytes key) x
   typed-map e = rw (sym a ∙ e)
 
-  pub always-map : t ≡ false → {w : Bool} → w ≡ alwaysMap (bytesOf key) → w ≡ true → true ≡ isMap v (bytesOf key) x
+  pub always-map : t ≡ false → {w : Bool} → w ≡ alwaysMap (caseBytes key) → w ≡ true → true ≡ isMap v (caseBytes key) x
   always-map e b f = rw (sym a ∙ e, sym b ∙ f)
 
-  pub looked-map : t ≡ false → {w : Bool} → w ≡ alwaysMap (bytesOf key) → w ≡ false → {q : Bool} → q ≡ looksMap v x → q ≡ isMap v (bytesOf key) x
+  pub looked-map : t ≡ false → {w : Bool} → w ≡ alwaysMap (caseBytes key) → w ≡ false → {q : Bool} → q ≡ looksMap v x → q ≡ isMap v (caseBytes key) x
   looked-map e b f g = rw (sym a ∙ e, sym b ∙ f) g
 
 pub ruleset are-maps = (typed-map, always-map, looked-map)
@@ -124,23 +124,23 @@ module _ (s : Bytes) (c : Cursor) {p : Bytes} (b : p ≡ take (length s - c .at)
 
 pub ruleset versions = (version-unread, version-read)
 
-module _ (v : Version) (key : MapKey) (s : Bytes) (c : Cursor) {m : Bool} (b : m ≡ isMap v (bytesOf key) (drop (c .at) s)) where
+module _ (v : Version) (key : MapKey) (s : Bytes) (c : Cursor) {m : Bool} (b : m ≡ isMap v (caseBytes key) (drop (c .at) s)) where
   pub a-text : not m ≡ true → ParsesValue v key s (c .at) value.Text
   a-text g = record { is = λ k n. value-text v k (drop (c .at) s) (n .format) (looks-by-case v k key n (drop (c .at) s) ∙ sym b ∙ not-true m g) }
 
   module _ (g : not m ≡ false) {r : MapRead} (h : ParsesMap v key s (c .at) r) where
-    mapped : (k : Bytes) → Named k key → {a : Answer (List Field)} → readMap v (bytesOf key) (drop (c .at) s) ≡ a → readRecordValue v k (drop (c .at) s) ≡ (a >>= λ fs. ok (fields k fs))
+    mapped : (k : Bytes) → Named k key → {a : Answer (List Field)} → readMap v (caseBytes key) (drop (c .at) s) ≡ a → readRecordValue v k (drop (c .at) s) ≡ (a >>= λ fs. ok (fields k fs))
     mapped k n e =
         value-map v k (drop (c .at) s) (n .format) (looks-by-case v k key n (drop (c .at) s) ∙ sym b ∙ not-false m g)
         ∙ ap (λ (a : Answer (List Field)). a >>= λ fs. ok (fields k fs)) (map-by-case v k key n (drop (c .at) s) ∙ e)
 
     pub map-unread : {x : Refusal} → r ≡ maps.Refused x → ParsesValue v key s (c .at) (value.Refused x)
-    map-unread i = record { is = λ k n. mapped k n (subst (MapIs v (bytesOf key) s (c .at)) i (h .is)) }
+    map-unread i = record { is = λ k n. mapped k n (subst (MapIs v (caseBytes key) s (c .at)) i (h .is)) }
 
     pub map-given : {id : Text} {t : ℕ} → r ≡ maps.Map id t → ParsesValue v key s (c .at) (value.Map id t)
     map-given i = record {
       is = λ k n.
-          let y = subst (MapIs v (bytesOf key) s (c .at)) i (h .is) in
+          let y = subst (MapIs v (caseBytes key) s (c .at)) i (h .is) in
           (y .0, mapped k n (y .1), ap slotted (text-by-case v k key n (ascii "ID") (c .at + 1) (y .0)) ∙ y .2);
     }
 

@@ -24,7 +24,7 @@ use Rattle.rules.proofs.Texts.{fields-in}
 use Rattle.rules.proofs.Shows.{AnyAt}
 use Rattle.values.proofs.Lists.{on-some}
 use Rattle.values.proofs.Raws.{Raw, field-raw}
-use Rattle.records.specs.Keys.{bytesOf}
+use Rattle.records.specs.Keys.{caseBytes}
 use Rattle.records.specs.Tags.{tagRow, isKept, tagName}
 use Rattle.records.specs.Maps.{get, slotted, opened, opensAt, Held, scanRefusal, ScanIs, fieldsAfter, ReadsFields, OpenIs, OpensMap, ParsesMap, Identified, Described}
 use Rattle.records.specs.declared.key.MapKey.{MapKey}
@@ -81,17 +81,17 @@ module _ (v : Version) (key : MapKey) (s : Bytes) (c : Cursor) {r : Prefix} (a :
   map-unopened e = record { is = rw (readMap, no-open (c .at) (begins 60 (drop (c .at) s)) (sym a ∙ e)) }
 
   pub map-opened : {d : Cursor} → r ≡ prefix.Consumed d → (x : FieldsRead) → ReadsFields v key s (d .at) x → OpensMap v key s (c .at) x
-  map-opened {d} e x f = record { is = go x (subst (λ (i : ℕ). ScanIs v (bytesOf key) i (fieldsAfter v (bytesOf key) s i) x) (sym (o .1)) (f .is)) }
+  map-opened {d} e x f = record { is = go x (subst (λ (i : ℕ). ScanIs v (caseBytes key) i (fieldsAfter v (caseBytes key) s i) x) (sym (o .1)) (f .is)) }
     where
       o : (begins 60 (drop (c .at) s) ≡ true) × (c .at + 1 ≡ d .at)
       o = is-open (c .at) (begins 60 (drop (c .at) s)) (sym a ∙ e)
 
-      go : (x : FieldsRead) → ScanIs v (bytesOf key) (c .at + 1) (fieldsAfter v (bytesOf key) s (c .at + 1)) x → OpenIs v (bytesOf key) s (c .at) x
+      go : (x : FieldsRead) → ScanIs v (caseBytes key) (c .at + 1) (fieldsAfter v (caseBytes key) s (c .at + 1)) x → OpenIs v (caseBytes key) s (c .at) x
       go (fields.Fields slots) h = (o .0, h)
       go (fields.Refused y) h =
-          let z = fieldsAfter v (bytesOf key) s (c .at + 1) in
+          let z = fieldsAfter v (caseBytes key) s (c .at + 1) in
           let m = number-suc y in
-          map-read v (bytesOf key) s (c .at) (o .0) ∙ judged-suc (z .0) (scan-refused v (bytesOf key) z (h ∙ m .1)) ∙ ap refuse (sym (m .1))
+          map-read v (caseBytes key) s (c .at) (o .0) ∙ judged-suc (z .0) (scan-refused v (caseBytes key) z (h ∙ m .1)) ∙ ap refuse (sym (m .1))
 
 pub ruleset openings = (map-unopened, map-opened)
 
@@ -235,14 +235,14 @@ keeps-id k = (refl, id-row (kindOf k))
 
 module _ (v : Version) (key : MapKey) (s : Bytes) (c : Cursor) {r : FieldsRead} (o : OpensMap v key s (c .at) r) where
   pub map-refused : {x : Refusal} → r ≡ fields.Refused x → ParsesMap v key s (c .at) (maps.Refused x)
-  map-refused e = record { is = subst (OpenIs v (bytesOf key) s (c .at)) e (o .is) }
+  map-refused e = record { is = subst (OpenIs v (caseBytes key) s (c .at)) e (o .is) }
 
   module _ {slots : Slots} (e : r ≡ fields.Fields slots) where
-    abbrev f : Fielded v (bytesOf key) s (c .at) slots
-    f = fielded v (bytesOf key) s (c .at) slots (subst (OpenIs v (bytesOf key) s (c .at)) e (o .is))
+    abbrev f : Fielded v (caseBytes key) s (c .at) slots
+    f = fielded v (caseBytes key) s (c .at) slots (subst (OpenIs v (caseBytes key) s (c .at)) e (o .is))
 
-    no-id : slots .id ≡ slot.Empty → {rs : List KnownField} → required (kindOf (bytesOf key)) ≡ idField ∷ rs → ParsesMap v key s (c .at) (maps.Refused MissingId)
-    no-id i {rs} q = record { is = lacks f (asks-of f q ∙ asked-first (isSome (fieldNamed v (bytesOf key) (ascii "ID") (f .fs))) 13 _ (has f Id (keeps-id (bytesOf key)) i)) }
+    no-id : slots .id ≡ slot.Empty → {rs : List KnownField} → required (kindOf (caseBytes key)) ≡ idField ∷ rs → ParsesMap v key s (c .at) (maps.Refused MissingId)
+    no-id i {rs} q = record { is = lacks f (asks-of f q ∙ asked-first (isSome (fieldNamed v (caseBytes key) (ascii "ID") (f .fs))) 13 _ (has f Id (keeps-id (caseBytes key)) i)) }
 
     pub id-missing : slots .id ≡ slot.Empty → Identified key → ParsesMap v key s (c .at) (maps.Refused MissingId)
     id-missing i d = no-id i (d .needs)
@@ -251,12 +251,12 @@ module _ (v : Version) (key : MapKey) (s : Bytes) (c : Cursor) {r : FieldsRead} 
     id-missing-too i d = no-id i (d .needs)
 
     module _ {id : Text} {g : ℕ} (i : slots .id ≡ slot.Filled id g) where
-      past-id : {rs : List KnownField} → required (kindOf (bytesOf key)) ≡ idField ∷ rs → missing v (bytesOf key) (f .fs) ≡ first (map (asks v (bytesOf key) (f .fs)) rs)
-      past-id q = asks-of f q ∙ asked-later (isSome (fieldNamed v (bytesOf key) (ascii "ID") (f .fs))) 14 _ (has f Id (keeps-id (bytesOf key)) i)
+      past-id : {rs : List KnownField} → required (kindOf (caseBytes key)) ≡ idField ∷ rs → missing v (caseBytes key) (f .fs) ≡ first (map (asks v (caseBytes key) (f .fs)) rs)
+      past-id q = asks-of f q ∙ asked-later (isSome (fieldNamed v (caseBytes key) (ascii "ID") (f .fs))) 14 _ (has f Id (keeps-id (caseBytes key)) i)
 
-      given : missing v (bytesOf key) (f .fs) ≡ 0 → tableOf (kindOf (bytesOf key)) ≡ [] → ParsesMap v key s (c .at) (maps.Map id g)
+      given : missing v (caseBytes key) (f .fs) ≡ 0 → tableOf (kindOf (caseBytes key)) ≡ [] → ParsesMap v key s (c .at) (maps.Map id g)
       given m t = record {
-        is = (f .fs, whole f m ∙ ap (λ (n : ℕ). judged n (f .fs)) (misdeclared-not v (bytesOf key) (f .fs) t), holds f Id (keeps-id (bytesOf key)) i);
+        is = (f .fs, whole f m ∙ ap (λ (n : ℕ). judged n (f .fs)) (misdeclared-not v (caseBytes key) (f .fs) t), holds f Id (keeps-id (caseBytes key)) i);
       }
 
       pub id-given : Identified key → ParsesMap v key s (c .at) (maps.Map id g)
@@ -265,13 +265,13 @@ module _ (v : Version) (key : MapKey) (s : Bytes) (c : Cursor) {r : FieldsRead} 
 
       pub description-missing : slots .description ≡ slot.Empty → Described key → ParsesMap v key s (c .at) (maps.Refused MissingDescription)
       description-missing x d = record {
-        is = lacks f (past-id (d .needs) ∙ asked-first (isSome (fieldNamed v (bytesOf key) (ascii "Description") (f .fs))) 16 [] (has f Description (refl, d .known) x));
+        is = lacks f (past-id (d .needs) ∙ asked-first (isSome (fieldNamed v (caseBytes key) (ascii "Description") (f .fs))) 16 [] (has f Description (refl, d .known) x));
       }
 
       pub description-given : {t : Text} {h : ℕ} → slots .description ≡ slot.Filled t h → Described key → ParsesMap v key s (c .at) (maps.Map id g)
       unfolding first
       description-given x d =
-          given (past-id (d .needs) ∙ asked-later (isSome (fieldNamed v (bytesOf key) (ascii "Description") (f .fs))) 17 [] (has f Description (refl, d .known) x)) (d .free)
+          given (past-id (d .needs) ∙ asked-later (isSome (fieldNamed v (caseBytes key) (ascii "Description") (f .fs))) 17 [] (has f Description (refl, d .known) x)) (d .free)
 
 pub ruleset identified = (map-refused, id-missing, id-given)
 

@@ -31,7 +31,7 @@ use Rattle.rules.proofs.Scans.{after-more, scan-none, scan-wrong, scan-done, sc
 use Rattle.records.specs.Refusals.{number}
 use Rattle.records.specs.Keys.{kindBy, versionIn, keyBytes}
 use Rattle.records.specs.Tags.{tagRow, tagName, isRequired, isKept}
-use Rattle.records.specs.Maps.{rawRefusal, checkNumber, get, put, slotted, FieldThen, FieldsFrom, keysOf, namesOf, HasKey, Held, allKept, Walk, Repeats, scanRefusal, scannedFrom, RefusedFrom, Taken, TakenIs, TakenMoves, TakesField, ReadsField, afterAt}
+use Rattle.records.specs.Maps.{rawRefusal, checkNumber, get, putSlot, slotted, FieldThen, FieldsFrom, keysOf, namesOf, HasKey, Held, allKept, Walk, Repeats, scanRefusal, scannedFrom, RefusedFrom, Taken, TakenIs, TakenMoves, TakesField, ReadsField, afterAt}
 use Rattle.records.specs.declared.key.MapContext.{MapContext}
 use Rattle.records.specs.declared.refusal.Refusal.{Refusal}
 use Rattle.records.specs.declared.refusal.Refusal.the-variants.{InvalidField, DuplicateTag, InvalidMap}
@@ -121,7 +121,7 @@ abbrev pick : {A : Type 0} → Bool → A → A → A
 pick true x y = x
 pick false x y = y
 
-put-each : (g : Tag) (x : Slot) (slots : Slots) → put g x slots ≡ record {
+put-each : (g : Tag) (x : Slot) (slots : Slots) → putSlot g x slots ≡ record {
   id = pick (same (tagName g) (ascii "ID")) x (slots .id);
   number = pick (same (tagName g) (ascii "Number")) x (slots .number);
   kind = pick (same (tagName g) (ascii "Type")) x (slots .kind);
@@ -139,7 +139,7 @@ put-each Url x slots = refl
 put-each Idx x slots = refl
 put-each Other x slots = refl
 
-get-put : (g u : Tag) (x : Slot) (slots : Slots) → isKept u ≡ true → get u (put g x slots) ≡ pick (same (tagName g) (tagName u)) x (get u slots)
+get-put : (g u : Tag) (x : Slot) (slots : Slots) → isKept u ≡ true → get u (putSlot g x slots) ≡ pick (same (tagName g) (tagName u)) x (get u slots)
 get-put g Id x slots e = rw (put-each g x slots)
 get-put g Number x slots e = rw (put-each g x slots)
 get-put g ValueType x slots e = rw (put-each g x slots)
@@ -150,7 +150,7 @@ get-put g Url x slots e = absurd (false≢true e)
 get-put g Idx x slots e = absurd (false≢true e)
 get-put g Other x slots e = absurd (false≢true e)
 
-plain-put : (g : Tag) (x : Slot) (slots : Slots) → put g x slots .plain ≡ (slots .plain && isKept g)
+plain-put : (g : Tag) (x : Slot) (slots : Slots) → putSlot g x slots .plain ≡ (slots .plain && isKept g)
 plain-put g x slots = rw (put-each g x slots) (go (isKept g) (slots .plain))
   where
     go : (b p : Bool) → pick b p false ≡ (p && b)
@@ -180,7 +180,7 @@ module _ (v : Version) (k : Bytes) (m : Bool) (s : Bytes) (start : ℕ) (before 
   abbrev filled : Slot
   filled = slot.Filled (textAt (at + length (f .key) + 1) (f .value)) (tagOf (f .key))
 
-  put-held : Held v k start (before ++ f ∷ []) (put g filled slots)
+  put-held : Held v k start (before ++ f ∷ []) (putSlot g filled slots)
   unfolding textNamed
   put-held = record {
     each = λ u e i. get-put g u filled slots e ∙ go u e i (test (same (nameOf v k (f .key)) (tagName u)));
@@ -283,7 +283,7 @@ module _ (x : MapContext) (s : Bytes) (at : ℕ) (slots : Slots) {r : FieldRead}
                   size = told .next;
                   fine = field-fine (versionIn x) (keyBytes x) before (l .fine) f passes fresh;
                   held =
-                      subst (λ (z : Slot). Held (versionIn x) (keyBytes x) (x .start) (before ++ f ∷ []) (put g z slots)) (sym (ap₂ slot.Filled (told .text) (tg ∙ ap tagOf key-is)))
+                      subst (λ (z : Slot). Held (versionIn x) (keyBytes x) (x .start) (before ++ f ∷ []) (putSlot g z slots)) (sym (ap₂ slot.Filled (told .text) (tg ∙ ap tagOf key-is)))
                       (put-held (versionIn x) (keyBytes x) (x .brackets) s (x .start) before at slots f g tag-is (l .fields) (l .held) fresh);
                 };
           }
@@ -296,7 +296,7 @@ module _ (x : MapContext) (s : Bytes) (at : ℕ) (slots : Slots) (r : FieldTaken
   pub step-refused : {y : Refusal} → r ≡ taken.Refused y → ReadsField x s at slots (step.Refused y)
   step-refused e = record { moves = tt; is = λ before l. subst (TakenIs x s before at slots) e (a .is before l) }
 
-  module _ {g : Tag} {t : Slot} {n : Cursor} (e : r ≡ taken.Field g t n) {left : Slots} (pt : left ≡ put g t slots) {z : AfterRead} (af : z ≡ afterAt s (n .at)) where
+  module _ {g : Tag} {t : Slot} {n : Cursor} (e : r ≡ taken.Field g t n) {left : Slots} (pt : left ≡ putSlot g t slots) {z : AfterRead} (af : z ≡ afterAt s (n .at)) where
     took : (before : List Field) → Walk x s before at slots → Taken x s before at slots g t (n .at)
     took before l = subst (TakenIs x s before at slots) e (a .is before l)
 

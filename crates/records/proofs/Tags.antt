@@ -12,7 +12,7 @@ use Rattle.rules.specs.Version.{Version, v4-3, earlier}
 use Rattle.rules.specs.Known.{Kind, INFO, FILTER, FORMAT, ALT, contig, other, KnownField, idField, rows, rowNamed, kindOf, namesId, nameOf, tagOf}
 use Rattle.rules.specs.Map.{knownNamed}
 use Rattle.rules.proofs.Names.{name-id, name-other, row-is}
-use Rattle.records.specs.Keys.{bytesOf, kindBy}
+use Rattle.records.specs.Keys.{caseBytes, kindBy}
 use Rattle.records.specs.Tags.{tagRow, nameIn, tagName, isRequired, isKept, afterId}
 use Rattle.records.specs.declared.key.MapKey.{MapKey}
 use Rattle.records.specs.declared.tag.Tag.{Tag}
@@ -103,16 +103,16 @@ pub id-row : (kind : Kind) → rowNamed (ascii "ID") (rows kind) ≡ some idFiel
 unfolding rowNamed
 id-row kind = rw (id-first kind, rowNamed, same-self (ascii "ID"))
 
-module _ (v : Version) (key : MapKey) (field : Bytes) {q : Bool} (a : q ≡ same (ascii "ID") (nameOf v (bytesOf key) field)) where
-  pub tag-named-id : q ≡ true → some idField ≡ knownNamed v (bytesOf key) field
-  tag-named-id e = rw (← same-sound (ascii "ID") (nameOf v (bytesOf key) field) (sym a ∙ e)) (sym (id-row (kindOf (bytesOf key))))
+module _ (v : Version) (key : MapKey) (field : Bytes) {q : Bool} (a : q ≡ same (ascii "ID") (nameOf v (caseBytes key) field)) where
+  pub tag-named-id : q ≡ true → some idField ≡ knownNamed v (caseBytes key) field
+  tag-named-id e = rw (← same-sound (ascii "ID") (nameOf v (caseBytes key) field) (sym a ∙ e)) (sym (id-row (kindOf (caseBytes key))))
 
-  pub tag-after-id : q ≡ false → {o : Option KnownField} → o ≡ rowNamed field (afterId (kindBy key)) → o ≡ knownNamed v (bytesOf key) field
+  pub tag-after-id : q ≡ false → {o : Option KnownField} → o ≡ rowNamed field (afterId (kindBy key)) → o ≡ knownNamed v (caseBytes key) field
   unfolding rowNamed
   tag-after-id e f =
-      let n : nameOf v (bytesOf key) field ≡ field = elim (test (namesId v (bytesOf key) field)) [
-        | pass g ↦ both (same-self (ascii "ID")) (rw (name-id v (bytesOf key) field g) at (sym a ∙ e))
-        | fail g ↦ name-other v (bytesOf key) field g
+      let n : nameOf v (caseBytes key) field ≡ field = elim (test (namesId v (caseBytes key) field)) [
+        | pass g ↦ both (same-self (ascii "ID")) (rw (name-id v (caseBytes key) field g) at (sym a ∙ e))
+        | fail g ↦ name-other v (caseBytes key) field g
       ] in
       rw (n, kind-by-case key, id-first (kindBy key), rowNamed, rw n at (sym a ∙ e)) f
 

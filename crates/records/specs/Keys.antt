@@ -14,15 +14,15 @@ use Rattle.records.specs.declared.key.MapKey.{MapKey}
 use Rattle.records.specs.declared.key.MapKey.the-variants.{Info, Filter, Format, AlternativeAllele, Contig, Meta, Pedigree, Other}
 
 -- the key that a case stands for; other keys are alike in all that depends on the case
-abbrev pub bytesOf : MapKey → Bytes
-bytesOf Info = ascii "INFO"
-bytesOf Filter = ascii "FILTER"
-bytesOf Format = ascii "FORMAT"
-bytesOf AlternativeAllele = ascii "ALT"
-bytesOf Contig = ascii "contig"
-bytesOf Meta = ascii "META"
-bytesOf Pedigree = ascii "PEDIGREE"
-bytesOf Other = []
+abbrev pub caseBytes : MapKey → Bytes
+caseBytes Info = ascii "INFO"
+caseBytes Filter = ascii "FILTER"
+caseBytes Format = ascii "FORMAT"
+caseBytes AlternativeAllele = ascii "ALT"
+caseBytes Contig = ascii "contig"
+caseBytes Meta = ascii "META"
+caseBytes Pedigree = ascii "PEDIGREE"
+caseBytes Other = []
 
 abbrev pub untypedKeys : List MapKey
 untypedKeys = Meta ∷ Pedigree ∷ []
@@ -32,18 +32,18 @@ keys = Info ∷ Format ∷ Contig ∷ Filter ∷ AlternativeAllele ∷ untypedKe
 
 unfoldable pub among : List MapKey → Bytes → MapKey
 among [] k = Other
-among (j ∷ js) k = elim (same k (bytesOf j)) [ true ↦ j | false ↦ among js k ]
+among (j ∷ js) k = elim (same k (caseBytes j)) [ true ↦ j | false ↦ among js k ]
 
 abbrev pub keyNamed : Bytes → MapKey
 keyNamed k = among keys k
 
 -- the key of a map or a text: all that the rules ask of it is what they ask of its case
 pub record Named (k : Bytes) (key : MapKey) : Type 0 where
-  pub kind : kindOf k ≡ kindOf (bytesOf key)
-  pub typed : isTyped k ≡ isTyped (bytesOf key)
-  pub always : alwaysMap k ≡ alwaysMap (bytesOf key)
-  pub meta : same k (ascii "META") ≡ same (bytesOf key) (ascii "META")
-  pub pedigree : same k (ascii "PEDIGREE") ≡ same (bytesOf key) (ascii "PEDIGREE")
+  pub kind : kindOf k ≡ kindOf (caseBytes key)
+  pub typed : isTyped k ≡ isTyped (caseBytes key)
+  pub always : alwaysMap k ≡ alwaysMap (caseBytes key)
+  pub meta : same k (ascii "META") ≡ same (caseBytes key) (ascii "META")
+  pub pedigree : same k (ascii "PEDIGREE") ≡ same (caseBytes key) (ascii "PEDIGREE")
   pub format : same k (ascii "fileformat") ≡ false
 
 abbrev pub kindBy : MapKey → Kind
@@ -78,10 +78,10 @@ isPedigreeKey Other = false
 
 -- what the fields of a map are read by
 abbrev pub contextOf : MapKey → FileFormat → ℕ → MapContext
-contextOf key version start = record { key = key; version = version; brackets = isMeta (versionOf version) (bytesOf key); start = start }
+contextOf key version start = record { key = key; version = version; brackets = isMeta (versionOf version) (caseBytes key); start = start }
 
 abbrev pub versionIn : MapContext → Version
 versionIn x = versionOf (x .version)
 
 abbrev pub keyBytes : MapContext → Bytes
-keyBytes x = bytesOf (x .key)
+keyBytes x = caseBytes (x .key)

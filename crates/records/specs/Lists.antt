@@ -4,6 +4,6 @@ use mathlib.Core.List.{List, [], _∷_}
 use Rattle.values.specs.Bytes.{Bytes, is}
 use Rattle.rules.specs.Lines.{push}
 
-unfoldable pub listed : Bytes → List Bytes
-listed [] = [] ∷ []
-listed (b ∷ bs) = elim (is 44 b) [ true ↦ [] ∷ listed bs | false ↦ push b (listed bs) ]
+unfoldable pub listedRow : Bytes → List Bytes
+listedRow [] = [] ∷ []
+listedRow (b ∷ bs) = elim (is 44 b) [ true ↦ [] ∷ listedRow bs | false ↦ push b (listedRow bs) ]

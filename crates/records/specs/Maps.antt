@@ -18,7 +18,7 @@ use Rattle.rules.specs.Reserved.{tableOf}
 use Rattle.rules.specs.Map.{After, more, done, wrong, after, Scan, scan, readFields, isMeta, knownNamed, checkFields, valueNamed, misdeclared, readMap}
 use Rattle.rules.specs.Entry.{textNamed}
 use Rattle.records.specs.Refusals.{number}
-use Rattle.records.specs.Keys.{bytesOf, versionIn, keyBytes}
+use Rattle.records.specs.Keys.{caseBytes, versionIn, keyBytes}
 use Rattle.records.specs.Numbers.{isCount}
 use Rattle.records.specs.Tags.{tagRow, tagName, isRequired, isKept}
 use Rattle.records.specs.Fields.{textIn, meaningIn}
@@ -54,12 +54,12 @@ abbrev pub opensAt : Bytes → ℕ → Prefix
 opensAt s at = opened at (begins 60 (drop at s))
 
 -- `>` is all that is left
-abbrev pub closes : Bytes → Bool
-closes [] = false
-closes (b ∷ bs) = is 62 b && empty bs
+abbrev pub closesAsMap : Bytes → Bool
+closesAsMap [] = false
+closesAsMap (b ∷ bs) = is 62 b && empty bs
 
 abbrev pub closesAt : Bytes → ℕ → Bool
-closesAt s at = closes (drop at s)
+closesAt s at = closesAsMap (drop at s)
 
 abbrev pub afterPlaced : ℕ → After → AfterRead
 afterPlaced at (more r) = afters.More (cursorAt (at + 1))
@@ -103,16 +103,16 @@ get Other x = slot.Empty
 abbrev pub mixed : Slots → Slots
 mixed x = record { id = x .id; number = x .number; kind = x .kind; description = x .description; plain = false }
 
-abbrev pub put : Tag → Slot → Slots → Slots
-put Id t x = record { id = t; number = x .number; kind = x .kind; description = x .description; plain = x .plain }
-put Number t x = record { id = x .id; number = t; kind = x .kind; description = x .description; plain = x .plain }
-put ValueType t x = record { id = x .id; number = x .number; kind = t; description = x .description; plain = x .plain }
-put Description t x = record { id = x .id; number = x .number; kind = x .kind; description = t; plain = x .plain }
-put Length t x = mixed x
-put Md5 t x = mixed x
-put Url t x = mixed x
-put Idx t x = mixed x
-put Other t x = mixed x
+abbrev pub putSlot : Tag → Slot → Slots → Slots
+putSlot Id t x = record { id = t; number = x .number; kind = x .kind; description = x .description; plain = x .plain }
+putSlot Number t x = record { id = x .id; number = t; kind = x .kind; description = x .description; plain = x .plain }
+putSlot ValueType t x = record { id = x .id; number = x .number; kind = t; description = x .description; plain = x .plain }
+putSlot Description t x = record { id = x .id; number = x .number; kind = x .kind; description = t; plain = x .plain }
+putSlot Length t x = mixed x
+putSlot Md5 t x = mixed x
+putSlot Url t x = mixed x
+putSlot Idx t x = mixed x
+putSlot Other t x = mixed x
 
 -- a field that stands at a place, with a `,` after it
 abbrev pub FieldThen : Bool → Bytes → ℕ → Field → Type 0
@@ -183,7 +183,7 @@ pub record Taken (x : MapContext) (s : Bytes) (before : List Field) (at : ℕ) (
   pub read : readField (x .brackets) (drop at s) ≡ some (field, drop next s)
   pub size : next ≡ at + length (writtenField field)
   pub fine : checkFields (versionIn x) (keyBytes x) [] (before ++ field ∷ []) ≡ 0
-  pub held : Held (versionIn x) (keyBytes x) (x .start) (before ++ field ∷ []) (put g t slots)
+  pub held : Held (versionIn x) (keyBytes x) (x .start) (before ++ field ∷ []) (putSlot g t slots)
 
 abbrev pub TakenIs : MapContext → Bytes → List Field → ℕ → Slots → FieldTaken → Type 0
 TakenIs x s before at slots (taken.Field g t next) = Taken x s before at slots g t (next .at)
@@ -234,7 +234,7 @@ fieldsAfter v k s start = readFields (isMeta v k) (alwaysMap k) (drop start s)
 
 -- the fields after the `<` of a map under a key of this case were read
 pub record ReadsFields (v : Version) (key : MapKey) (s : Bytes) (start : ℕ) (r : FieldsRead) : Type 0 where
-  pub is : ScanIs v (bytesOf key) start (fieldsAfter v (bytesOf key) s start) r
+  pub is : ScanIs v (caseBytes key) start (fieldsAfter v (caseBytes key) s start) r
 
 abbrev pub OpenIs : Version → Bytes → Bytes → ℕ → FieldsRead → Type 0
 OpenIs v k s at (fields.Fields slots) = (begins 60 (drop at s) ≡ true) × ScanIs v k (at + 1) (fieldsAfter v k s (at + 1)) (fields.Fields slots)
@@ -242,7 +242,7 @@ OpenIs v k s at (fields.Refused x) = readMap v k (drop at s) ≡ refuse (number 
 
 -- a map was read from its `<` on, before the required fields and the reserved IDs are looked at
 pub record OpensMap (v : Version) (key : MapKey) (s : Bytes) (at : ℕ) (r : FieldsRead) : Type 0 where
-  pub is : OpenIs v (bytesOf key) s at r
+  pub is : OpenIs v (caseBytes key) s at r
 
 abbrev pub MapIs : Version → Bytes → Bytes → ℕ → MapRead → Type 0
 MapIs v k s at (maps.Map id tag) = (fs : List Field) × (readMap v k (drop at s) ≡ ok fs) × (idSlot v k (at + 1) fs ≡ slot.Filled id tag)
@@ -250,24 +250,24 @@ MapIs v k s at (maps.Refused x) = readMap v k (drop at s) ≡ refuse (number x)
 
 -- a map under a key of this case was parsed: the place of its ID, and which name stands for it
 pub record ParsesMap (v : Version) (key : MapKey) (s : Bytes) (at : ℕ) (r : MapRead) : Type 0 where
-  pub is : MapIs v (bytesOf key) s at r
+  pub is : MapIs v (caseBytes key) s at r
 
 -- the kinds in which the ID alone is required, and those with a Description too; neither has reserved IDs
 pub record Identified (key : MapKey) : Type 0 where
-  pub needs : required (kindOf (bytesOf key)) ≡ idField ∷ []
-  pub free : tableOf (kindOf (bytesOf key)) ≡ []
+  pub needs : required (kindOf (caseBytes key)) ≡ idField ∷ []
+  pub free : tableOf (kindOf (caseBytes key)) ≡ []
 
 pub record Described (key : MapKey) : Type 0 where
-  pub needs : required (kindOf (bytesOf key)) ≡ idField ∷ descriptionField ∷ []
-  pub free : tableOf (kindOf (bytesOf key)) ≡ []
-  pub known : rowNamed (ascii "Description") (rows (kindOf (bytesOf key))) ≡ some descriptionField
+  pub needs : required (kindOf (caseBytes key)) ≡ idField ∷ descriptionField ∷ []
+  pub free : tableOf (kindOf (caseBytes key)) ≡ []
+  pub known : rowNamed (ascii "Description") (rows (kindOf (caseBytes key))) ≡ some descriptionField
 
 -- INFO and FORMAT: the ID, a Number, a Type and a Description are required
 pub record Full (key : MapKey) : Type 0 where
-  pub needs : required (kindOf (bytesOf key)) ≡ idField ∷ numberField ∷ typeField ∷ descriptionField ∷ []
-  pub numbered : rowNamed (ascii "Number") (rows (kindOf (bytesOf key))) ≡ some numberField
-  pub typed : rowNamed (ascii "Type") (rows (kindOf (bytesOf key))) ≡ some typeField
-  pub described : rowNamed (ascii "Description") (rows (kindOf (bytesOf key))) ≡ some descriptionField
+  pub needs : required (kindOf (caseBytes key)) ≡ idField ∷ numberField ∷ typeField ∷ descriptionField ∷ []
+  pub numbered : rowNamed (ascii "Number") (rows (kindOf (caseBytes key))) ≡ some numberField
+  pub typed : rowNamed (ascii "Type") (rows (kindOf (caseBytes key))) ≡ some typeField
+  pub described : rowNamed (ascii "Description") (rows (kindOf (caseBytes key))) ≡ some descriptionField
 
 -- an INFO or FORMAT map whose fields are all there: where its ID, Number and Type stand; its definition is still to be looked at
 pub record Typed (v : Version) (k s : Bytes) (at : ℕ) (id : Text) (tag : ℕ) (number kind : Text) : Type 0 where
@@ -285,8 +285,8 @@ TypedIs v k s at (typed.Refused x) = readMap v k (drop at s) ≡ refuse (number 
 
 -- an INFO or FORMAT map was parsed
 pub record ParsesTyped (v : Version) (key : MapKey) (s : Bytes) (at : ℕ) (r : TypedRead) : Type 0 where
-  pub is : TypedIs v (bytesOf key) s at r
+  pub is : TypedIs v (caseBytes key) s at r
 
 -- whether a definition is the one that its ID asks for
 pub record Declared (v : Version) (key : MapKey) (s : Bytes) (id number kind : Text) (r : Bool) : Type 0 where
-  pub is : (at tag : ℕ) (t : Typed v (bytesOf key) s at id tag number kind) → misdeclared v (bytesOf key) (t .fs) ≡ unless r 18
+  pub is : (at tag : ℕ) (t : Typed v (caseBytes key) s at id tag number kind) → misdeclared v (caseBytes key) (t .fs) ≡ unless r 18

@@ -5,7 +5,7 @@ ghost use mathlib.Core.Path.{_≡_};
 ghost use Rattle.rules.specs.Known.{isInfo, isFormat, isTyped, alwaysMap};
 ghost use Rattle.rules.specs.Map.{isMeta};
 ghost use Rattle.records.specs.Formats.{versionOf};
-ghost use Rattle.records.specs.Keys.{bytesOf, untypedKeys, among, keyNamed, contextOf, kindBy, isMetaKey, isPedigreeKey};
+ghost use Rattle.records.specs.Keys.{caseBytes, untypedKeys, among, keyNamed, contextOf, kindBy, isMetaKey, isPedigreeKey};
 ghost use Rattle.rules.specs.Entry.{mapKind};
 
 pub enum MapKey {
@@ -65,7 +65,7 @@ pub struct MapContext {
 impl MapKey {
     // The typed kinds of maps.
     pub fn is_typed(self) -> bool
-        ensures { λ r. ⌜ r ≡ isTyped (bytesOf self) ⌝ }
+        ensures { λ r. ⌜ r ≡ isTyped (caseBytes self) ⌝ }
     {
         self.kind() != 7
     }
@@ -114,7 +114,7 @@ impl MapKey {
 
     // META and PEDIGREE are always maps, and need a field.
     pub fn is_always_map(self) -> bool
-        ensures { λ r. ⌜ r ≡ alwaysMap (bytesOf self) ⌝ }
+        ensures { λ r. ⌜ r ≡ alwaysMap (caseBytes self) ⌝ }
     {
         if self.is_meta() {
             return true;
@@ -124,7 +124,7 @@ impl MapKey {
 
     // Whether the value of Values may be bracketed: in a META, from 4.3.
     pub fn has_brackets(self, version: FileFormat) -> bool
-        ensures { λ r. ⌜ r ≡ isMeta (versionOf version) (bytesOf self) ⌝ }
+        ensures { λ r. ⌜ r ≡ isMeta (versionOf version) (caseBytes self) ⌝ }
     {
         if !self.is_meta() {
             return false;

@@ -4,11 +4,11 @@ use values::string;
 ghost use mathlib.Core.Path.{_≡_};
 ghost use Rattle.values.specs.Value.{meaning};
 ghost use Rattle.rules.specs.Known.{isIn};
-ghost use Rattle.records.specs.Lists.{listed};
+ghost use Rattle.records.specs.Lists.{listedRow};
 
 // Whether the text s, by its meaning, is one of the names.
 pub fn is_listed(list: &[u8], s: &[u8], quoted: bool) -> bool
-    ensures { λ r. ⌜ r ≡ isIn (meaning quoted (now (s .entry))) (listed (now (list .entry))) ⌝ }
+    ensures { λ r. ⌜ r ≡ isIn (meaning quoted (now (s .entry))) (listedRow (now (list .entry))) ⌝ }
 {
     let mut start: usize = 0;
     loop {

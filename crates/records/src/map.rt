@@ -22,9 +22,9 @@ ghost use Rattle.rules.specs.Known.{isFormat, alwaysMap};
 ghost use Rattle.rules.specs.Record.{looksMap};
 ghost use Rattle.records.specs.Formats.{versionOf};
 ghost use Rattle.records.specs.Refusals.{number};
-ghost use Rattle.records.specs.Keys.{bytesOf, kindBy};
+ghost use Rattle.records.specs.Keys.{caseBytes, kindBy};
 ghost use Rattle.records.specs.Tags.{tagRow};
-ghost use Rattle.records.specs.Maps.{opensAt, closesAt, afterAt, checkNumber, rawRefusal, noSlots, get, put, mixed, HasKey, Repeats, TakesField, ReadsField, WalksFields, bareAt, ReadsFields, OpensMap, Identified, Described, ParsesMap};
+ghost use Rattle.records.specs.Maps.{opensAt, closesAt, afterAt, checkNumber, rawRefusal, noSlots, get, putSlot, mixed, HasKey, Repeats, TakesField, ReadsField, WalksFields, bareAt, ReadsFields, OpensMap, Identified, Described, ParsesMap};
 
 // A text that was read, and which name stood for the ID.
 pub enum Slot {
@@ -230,7 +230,7 @@ impl Slots {
     }
 
     fn put(self, tag: Tag, slot: Slot) -> Slots
-        ensures { λ r. ⌜ r ≡ put tag slot self ⌝ }
+        ensures { λ r. ⌜ r ≡ putSlot tag slot self ⌝ }
     {
         let id = self.id;
         let number = self.number;
@@ -363,7 +363,7 @@ fn walk_fields(s: &[u8], map: MapContext) -> FieldsRead
 
 // If `>` or the end follows `<`, a map has no fields, but META and PEDIGREE need one.
 fn is_bare(s: &[u8], c: Cursor, key: MapKey) -> bool
-    ensures { λ r. ⌜ r ≡ bareAt (now (s .entry)) (c .at) (alwaysMap (bytesOf key)) ⌝ }
+    ensures { λ r. ⌜ r ≡ bareAt (now (s .entry)) (c .at) (alwaysMap (caseBytes key)) ⌝ }
 {
     if key.is_always_map() {
         return false;

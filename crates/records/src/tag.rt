@@ -9,7 +9,7 @@ ghost use Rattle.rules.specs.Version.{v4-3, earlier};
 ghost use Rattle.rules.specs.Known.{INFO, FILTER, ALT, contig, rowNamed, nameOf, tagOf};
 ghost use Rattle.rules.specs.Map.{isSome, knownNamed};
 ghost use Rattle.records.specs.Formats.{versionOf};
-ghost use Rattle.records.specs.Keys.{bytesOf, kindBy};
+ghost use Rattle.records.specs.Keys.{caseBytes, kindBy};
 ghost use Rattle.records.specs.Tags.{tagRow, isKept, afterId};
 
 // Other: the field is no known one.
@@ -145,7 +145,7 @@ impl MapKey {
 
     // Child and Derived name the ID of a PEDIGREE, before 4.3.
     fn has_lineage(self, version: FileFormat) -> bool
-        ensures { λ r. ⌜ r ≡ (same (bytesOf self) (ascii "PEDIGREE") && earlier (versionOf version) v4-3) ⌝ }
+        ensures { λ r. ⌜ r ≡ (same (caseBytes self) (ascii "PEDIGREE") && earlier (versionOf version) v4-3) ⌝ }
     {
         if !self.is_pedigree() {
             return false;
@@ -154,7 +154,7 @@ impl MapKey {
     }
 
     fn names_id(self, version: FileFormat, field: &[u8]) -> bool
-        ensures { λ r. ⌜ r ≡ same (ascii "ID") (nameOf (versionOf version) (bytesOf self) (now (field .entry))) ⌝ }
+        ensures { λ r. ⌜ r ≡ same (ascii "ID") (nameOf (versionOf version) (caseBytes self) (now (field .entry))) ⌝ }
     {
         if bytes::same(b"ID", field) {
             return true;
@@ -166,7 +166,7 @@ impl MapKey {
     }
 
     pub fn tag(self, version: FileFormat, field: &[u8]) -> Tag
-        ensures { λ r. ⌜ tagRow r ≡ knownNamed (versionOf version) (bytesOf self) (now (field .entry)) ⌝ }
+        ensures { λ r. ⌜ tagRow r ≡ knownNamed (versionOf version) (caseBytes self) (now (field .entry)) ⌝ }
     {
         if self.names_id(version, field) {
             return Tag::Id;

@@ -19,7 +19,7 @@ ghost use mathlib.Core.Path.{_≡_};
 ghost use lib.ListN.{drop};
 ghost use Rattle.rules.specs.Record.{isMap};
 ghost use Rattle.records.specs.Formats.{versionOf};
-ghost use Rattle.records.specs.Keys.{bytesOf};
+ghost use Rattle.records.specs.Keys.{caseBytes};
 ghost use Rattle.records.specs.Maps.{Declared, Full, ParsesMap};
 ghost use Rattle.records.specs.Records.{fits, ParsesValue};
 
@@ -93,7 +93,7 @@ fn parse_map_value(s: &[u8], c: Cursor, key: MapKey, version: FileFormat) -> Map
 
 // Typed keys, META and PEDIGREE are always maps; others by how their value begins.
 fn is_map_value(s: &[u8], c: Cursor, key: MapKey, version: FileFormat) -> bool
-    ensures { λ r. ⌜ r ≡ isMap (versionOf version) (bytesOf key) (drop (c .at) (now (s .entry))) ⌝ }
+    ensures { λ r. ⌜ r ≡ isMap (versionOf version) (caseBytes key) (drop (c .at) (now (s .entry))) ⌝ }
 {
     if key.is_typed() {
         return true;

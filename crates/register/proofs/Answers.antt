@@ -33,21 +33,21 @@ use Rattle.register.specs.declared.probe.RegisterOutcome.the-variants.{A
 use Rattle.register.specs.declared.probe.RegisterRead.{RegisterRead}
 use Rattle.register.specs.declared.cells.Plate.{Plate}
 use Rattle.register.specs.Cells.{Cell, cells, firstOf, wells}
-use Rattle.register.specs.Register.{refused, absent, faultIn, faultOf, faulty, constants, settled, counted, known, accepted, unread, inState, byNumber, registerOf}
-use Rattle.register.specs.Wells.{cellsIn, tableCells, lineOf, Lines, StartTold, MissingTold, filled, plateOf, ConstantsTold}
-use Rattle.register.specs.Answers.{outcomeNumber, ToldRegister, toldRegister, tellsRegister, refusedAs, AnswersKnown, AnswersRegister, RegisterCall}
+use Rattle.register.specs.Register.{registerRefused, absent, faultIn, faultOf, faulty, constants, settled, counted, wellsKnown, registerAccepted, unread, inState, byNumber, registerOf}
+use Rattle.register.specs.Wells.{cellsIn, tableCells, cellLine, Lines, StartTold, MissingTold, filled, plateOf, ConstantsTold}
+use Rattle.register.specs.Answers.{registerNumber, RegisterMeaning, registerAnswerMeans, registerMeans, registerRefusedAs, AnswersKnown, AnswersRegister, RegisterCall}
 use Rattle.register.proofs.Listed.{Seen, there, gone, see, faulty-here, faulty-later}
 use Rattle.register.proofs.Walk.{from-entry}
 use Rattle.register.proofs.Bridge.{header-cells}
 use Rattle.rules.specs.Claims.{Sized, SizedOption, Accepted}
 
 -- what answers the needs of `number`
-pub number-told : (o : RegisterOutcome) {x : Refusal} → o ≡ Unread x → {r : ℕ} → r ≡ number x → r ≡ outcomeNumber o
+pub number-told : (o : RegisterOutcome) {x : Refusal} → o ≡ Unread x → {r : ℕ} → r ≡ number x → r ≡ registerNumber o
 number-told o e q = q ∙ rw e
 
 -- The refusals, one by one
 
-counted-absent : (g : Reading) (cs : List Cell) → absent wells cs ≡ true → counted g cs ≡ refused 39 0 0 (g .entries)
+counted-absent : (g : Reading) (cs : List Cell) → absent wells cs ≡ true → counted g cs ≡ registerRefused 39 0 0 (g .entries)
 unfolding counted
 counted-absent g cs e = rw (e, counted)
 
@@ -84,13 +84,13 @@ module _ (a : ReadAnswer) (g : Reading) (e : answerMeans a ≡ readingMeans g) w
   entries-are = ap (λ (x : AnswerMeaning). x .entries) e
 
   -- a refusal of the register's own
-  refusal-told : (x : RegisterOutcome) (line start : ℕ) {r : RegisterRead} → r ≡ refusedAs x line start (a .entries) → toldRegister r ≡ tellsRegister (refused (outcomeNumber x) line start (g .entries))
-  refusal-told x line start q = ap toldRegister q ∙ ap (λ (n : ℕ). record { number = outcomeNumber x; line = line; start = start; entries = n; constants = filled [] }) entries-are
+  refusal-told : (x : RegisterOutcome) (line start : ℕ) {r : RegisterRead} → r ≡ registerRefusedAs x line start (a .entries) → registerAnswerMeans r ≡ registerMeans (registerRefused (registerNumber x) line start (g .entries))
+  refusal-told x line start q = ap registerAnswerMeans q ∙ ap (λ (n : ℕ). record { number = registerNumber x; line = line; start = start; entries = n; constants = filled [] }) entries-are
 
 -- what answers the needs of `answer_known`
 module _ (a : ReadAnswer) (h : Bytes) (t : List ℕ) {ls : List ℕ} {q : Bool} (m : MissingTold ls q) where
-  pub known-missing : q ≡ true → {r : RegisterRead} → r ≡ refusedAs MissingWell 0 0 (a .entries) → AnswersKnown a h t ls r
-  known-missing f i = record { is = λ l g e. refusal-told a g e MissingWell 0 0 i ∙ ap tellsRegister (sym (counted-absent g (tableCells h t) (sym (m .is h t l) ∙ f))) }
+  pub known-missing : q ≡ true → {r : RegisterRead} → r ≡ registerRefusedAs MissingWell 0 0 (a .entries) → AnswersKnown a h t ls r
+  known-missing f i = record { is = λ l g e. refusal-told a g e MissingWell 0 0 i ∙ ap registerMeans (sym (counted-absent g (tableCells h t) (sym (m .is h t l) ∙ f))) }
 
   module _ (f : q ≡ false) {p : Plate} (k : ConstantsTold h t ls p) where
     abbrev cs : List Cell
@@ -102,19 +102,19 @@ module _ (a : ReadAnswer) (h : Bytes) (t : List ℕ) {ls : List ℕ} {q : Bool} 
     plate-is : Lines cs ls → p ≡ plateOf cs (faulty wells cs)
     plate-is l = k .is l (sym (m .is h t l) ∙ f)
 
-    pub known-fault : 0 < p .fault → {s : ℕ} → StartTold t (p .fault) s → {r : RegisterRead} → r ≡ refusedAs InvalidConstant (p .fault) s (a .entries) → AnswersKnown a h t ls r
+    pub known-fault : 0 < p .fault → {s : ℕ} → StartTold t (p .fault) s → {r : RegisterRead} → r ≡ registerRefusedAs InvalidConstant (p .fault) s (a .entries) → AnswersKnown a h t ls r
     known-fault z {s} y {r} i = record {
       is = λ l g e. go g e (plate-is l) (settles l g) (see (faulty wells cs));
     }
       where
-        go : (g : Reading) → answerMeans a ≡ readingMeans g → p ≡ plateOf cs (faulty wells cs) → counted g cs ≡ settled g cs (faulty wells cs) → Seen (faulty wells cs) → toldRegister r ≡ tellsRegister (counted g cs)
+        go : (g : Reading) → answerMeans a ≡ readingMeans g → p ≡ plateOf cs (faulty wells cs) → counted g cs ≡ settled g cs (faulty wells cs) → Seen (faulty wells cs) → registerAnswerMeans r ≡ registerMeans (counted g cs)
         go g e u w (gone n) = let b : p .fault ≡ 0 = ap (λ (x : Plate). x .fault) (u ∙ ap (plateOf cs) n) in absurd (omega arith)
         go g e u w (there c n) =
             let b : p .fault ≡ c .line = ap (λ (x : Plate). x .fault) (u ∙ ap (plateOf cs) n) in
             let d = fault-cell wells cs n in
             let o = from-entry h t (d .0) (d .1) in
             let s-is : s ≡ c .start = y .is z ∙ ap (λ (x : ℕ). entryIn t (x - 1) .start) b ∙ sym (o .start) in
-            refusal-told a g e InvalidConstant (p .fault) s i ∙ ap₂ (λ (x y : ℕ). tellsRegister (refused 40 x y (g .entries))) b s-is ∙ ap tellsRegister (sym (w ∙ ap (settled g cs) n))
+            refusal-told a g e InvalidConstant (p .fault) s i ∙ ap₂ (λ (x y : ℕ). registerMeans (registerRefused 40 x y (g .entries))) b s-is ∙ ap registerMeans (sym (w ∙ ap (settled g cs) n))
 
     pub known-whole : p .fault ≤ 0 → AnswersKnown a h t ls (record { outcome = Whole; line = a .line; start = a .start; entries = a .entries; constants = p .constants })
     known-whole z = record {
@@ -122,33 +122,33 @@ module _ (a : ReadAnswer) (h : Bytes) (t : List ℕ) {ls : List ℕ} {q : Bool} 
     }
       where
         go : (g : Reading) → answerMeans a ≡ readingMeans g → Lines cs ls → p ≡ plateOf cs (faulty wells cs) → counted g cs ≡ settled g cs (faulty wells cs) → Seen (faulty wells cs)
-            → toldRegister (record { outcome = Whole; line = a .line; start = a .start; entries = a .entries; constants = p .constants }) ≡ tellsRegister (counted g cs)
+            → registerAnswerMeans (record { outcome = Whole; line = a .line; start = a .start; entries = a .entries; constants = p .constants }) ≡ registerMeans (counted g cs)
         go g e l u w (there c n) =
             let b : p .fault ≡ c .line = ap (λ (x : Plate). x .fault) (u ∙ ap (plateOf cs) n) in
             let d = fault-cell wells cs n in
             absurd (omega (arith, from-entry h t (d .0) (d .1) .above, b))
         go g e l u w (gone n) =
             let b : p .constants ≡ filled (constants wells cs) = ap (λ (x : Plate). x .constants) (u ∙ ap (plateOf cs) n) in
-            rw (line-is a g e, start-is a g e, entries-are a g e, b) (ap tellsRegister (sym (w ∙ ap (settled g cs) n)))
+            rw (line-is a g e, start-is a g e, entries-are a g e, b) (ap registerMeans (sym (w ∙ ap (settled g cs) n)))
 
 pub ruleset knowns = (known-missing, known-fault, known-whole)
 
 -- what answers the needs of `answer_accepted`
-accepted-early : (g : Reading) (v : Version) (cs : List Cell) → earlier v v4-3 ≡ true → accepted g v cs ≡ refused 37 0 0 (g .entries)
-unfolding accepted
-accepted-early g v cs e = rw (e, accepted)
+accepted-early : (g : Reading) (v : Version) (cs : List Cell) → earlier v v4-3 ≡ true → registerAccepted g v cs ≡ registerRefused 37 0 0 (g .entries)
+unfolding registerAccepted
+accepted-early g v cs e = rw (e, registerAccepted)
 
-accepted-recent : (g : Reading) (v : Version) (cs : List Cell) → earlier v v4-3 ≡ false → accepted g v cs ≡ known g cs (firstOf 0 cs)
-unfolding accepted
-accepted-recent g v cs e = rw (e, accepted)
+accepted-recent : (g : Reading) (v : Version) (cs : List Cell) → earlier v v4-3 ≡ false → registerAccepted g v cs ≡ wellsKnown g cs (firstOf 0 cs)
+unfolding registerAccepted
+accepted-recent g v cs e = rw (e, registerAccepted)
 
 module _ (a : ReadAnswer) (f : FileFormat) (i : f .major < 4294967296) (j : f .minor < 4294967296) (h : Bytes) (t : List ℕ) {q : Bool} (u : q ≡ earlier (versionOf f) v4-3) where
   sized-is : Sized (versionOf f)
   sized-is = record { major = omega arith; minor = omega arith }
 
-  pub early-version : q ≡ true → {r : RegisterRead} → r ≡ refusedAs EarlyVersion 0 0 (a .entries) → AnswersRegister a f (tableCells h t) r
+  pub early-version : q ≡ true → {r : RegisterRead} → r ≡ registerRefusedAs EarlyVersion 0 0 (a .entries) → AnswersRegister a f (tableCells h t) r
   early-version y k = record {
-    is = λ g e. refusal-told a g e EarlyVersion 0 0 k ∙ ap tellsRegister (sym (accepted-early g (versionOf f) (tableCells h t) (sym u ∙ y)));
+    is = λ g e. refusal-told a g e EarlyVersion 0 0 k ∙ ap registerMeans (sym (accepted-early g (versionOf f) (tableCells h t) (sym u ∙ y)));
     sized = sized-is;
   }
 
@@ -156,26 +156,26 @@ module _ (a : ReadAnswer) (f : FileFormat) (i : f .major < 4294967296) (j : f .m
     abbrev those : List Cell
     those = tableCells h t
 
-    recent : (g : Reading) {o : Option Cell} → firstOf 0 those ≡ o → accepted g (versionOf f) those ≡ known g those o
-    recent g n = accepted-recent g (versionOf f) those (sym u ∙ y) ∙ ap (known g those) n
+    recent : (g : Reading) {o : Option Cell} → firstOf 0 those ≡ o → registerAccepted g (versionOf f) those ≡ wellsKnown g those o
+    recent g n = accepted-recent g (versionOf f) those (sym u ∙ y) ∙ ap (wellsKnown g those) n
 
-    pub unknown-cell : 0 < getD ls 0 0 → {s : ℕ} → StartTold t (getD ls 0 0) s → {r : RegisterRead} → r ≡ refusedAs UnknownCell (getD ls 0 0) s (a .entries) → AnswersRegister a f those r
+    pub unknown-cell : 0 < getD ls 0 0 → {s : ℕ} → StartTold t (getD ls 0 0) s → {r : RegisterRead} → r ≡ registerRefusedAs UnknownCell (getD ls 0 0) s (a .entries) → AnswersRegister a f those r
     unknown-cell z {s} x {r} k = record { is = λ g e. go g e (see (firstOf 0 those)); sized = sized-is }
       where
-        go : (g : Reading) → answerMeans a ≡ readingMeans g → Seen (firstOf 0 those) → toldRegister r ≡ tellsRegister (accepted g (versionOf f) those)
-        go g e (gone n) = let b : getD ls 0 0 ≡ 0 = l .each 0 (omega arith) ∙ ap lineOf n in absurd (omega arith)
+        go : (g : Reading) → answerMeans a ≡ readingMeans g → Seen (firstOf 0 those) → registerAnswerMeans r ≡ registerMeans (registerAccepted g (versionOf f) those)
+        go g e (gone n) = let b : getD ls 0 0 ≡ 0 = l .each 0 (omega arith) ∙ ap cellLine n in absurd (omega arith)
         go g e (there c n) =
-            let b : getD ls 0 0 ≡ c .line = l .each 0 (omega arith) ∙ ap lineOf n in
+            let b : getD ls 0 0 ≡ c .line = l .each 0 (omega arith) ∙ ap cellLine n in
             let s-is : s ≡ c .start = x .is z ∙ ap (λ (m : ℕ). entryIn t (m - 1) .start) b ∙ sym (from-entry h t 0 n .start) in
-            refusal-told a g e UnknownCell (getD ls 0 0) s k ∙ ap₂ (λ (x y : ℕ). tellsRegister (refused 38 x y (g .entries))) b s-is ∙ ap tellsRegister (sym (recent g n))
+            refusal-told a g e UnknownCell (getD ls 0 0) s k ∙ ap₂ (λ (x y : ℕ). registerMeans (registerRefused 38 x y (g .entries))) b s-is ∙ ap registerMeans (sym (recent g n))
 
     pub known-cells : getD ls 0 0 ≤ 0 → {r : RegisterRead} → AnswersKnown a h t ls r → AnswersRegister a f those r
     known-cells z {r} k = record { is = λ g e. go g e (see (firstOf 0 those)); sized = sized-is }
       where
-        go : (g : Reading) → answerMeans a ≡ readingMeans g → Seen (firstOf 0 those) → toldRegister r ≡ tellsRegister (accepted g (versionOf f) those)
-        go g e (gone n) = k .is l g e ∙ ap tellsRegister (sym (recent g n))
+        go : (g : Reading) → answerMeans a ≡ readingMeans g → Seen (firstOf 0 those) → registerAnswerMeans r ≡ registerMeans (registerAccepted g (versionOf f) those)
+        go g e (gone n) = k .is l g e ∙ ap registerMeans (sym (recent g n))
         go g e (there c n) =
-            let b : getD ls 0 0 ≡ c .line = l .each 0 (omega arith) ∙ ap lineOf n in
+            let b : getD ls 0 0 ≡ c .line = l .each 0 (omega arith) ∙ ap cellLine n in
             absurd (omega (arith, from-entry h t 0 n .above, b))
 
 pub ruleset accepteds = (early-version, unknown-cell, known-cells)
@@ -217,9 +217,9 @@ module _ (imposed : Option Version) (h : Bytes) (t₀ : List ℕ) (a : ReadAnswe
     unfolding registerOf
     refused-is = let n = number-suc x in ap (byNumber read) (number-is ∙ n .1)
 
-    pub refused-call : {r : RegisterRead} → r ≡ refusedAs (Unread x) (a .line) (a .start) (a .entries) → RegisterCall limits imposed h t₀ r t
+    pub refused-call : {r : RegisterRead} → r ≡ registerRefusedAs (Unread x) (a .line) (a .start) (a .entries) → RegisterCall limits imposed h t₀ r t
     refused-call q = record {
-      answer = ap toldRegister q ∙ rw (line-is a read (call .answer), start-is a read (call .answer), entries-are a read (call .answer), ← number-is) (ap tellsRegister (sym refused-is));
+      answer = ap registerAnswerMeans q ∙ rw (line-is a read (call .answer), start-is a read (call .answer), entries-are a read (call .answer), ← number-is) (ap registerMeans (sym refused-is));
       table = call .table;
     }
 
@@ -245,8 +245,8 @@ module _ (imposed : Option Version) (h : Bytes) (t₀ : List ℕ) (a : ReadAnswe
     pub accepted-call : {r : RegisterRead} → AnswersRegister a f (tableCells h kept) r → RegisterCall limits imposed h t₀ r t
     unfolding registerOf
     accepted-call w = record {
-      answer = w .is read (call .answer) ∙ ap (λ (cs : List Cell). tellsRegister (accepted read (versionOf f) cs)) (the-cells (w .sized))
-          ∙ ap tellsRegister (sym (ap (byNumber read) number-zero ∙ ap (inState read) (was-read .accepted-is .state)));
+      answer = w .is read (call .answer) ∙ ap (λ (cs : List Cell). registerMeans (registerAccepted read (versionOf f) cs)) (the-cells (w .sized))
+          ∙ ap registerMeans (sym (ap (byNumber read) number-zero ∙ ap (inState read) (was-read .accepted-is .state)));
       table = call .table;
     }
 
@@ -295,7 +295,7 @@ plain n = elim (eqb n 0) [
 
 data Sort (x : RegisterOutcome) : Type 0 where
   unread-one : (r : Refusal) → x ≡ Unread r → Sort x
-  own : plain (outcomeNumber x) ≡ x → (1 ≤ outcomeNumber x → 37 ≤ outcomeNumber x) → Sort x
+  own : plain (registerNumber x) ≡ x → (1 ≤ registerNumber x → 37 ≤ registerNumber x) → Sort x
 
 sort : (x : RegisterOutcome) → Sort x
 sort Whole = own refl (λ l. absurd (omega arith))
@@ -305,24 +305,24 @@ sort UnknownCell = own refl (λ l. omega arith)
 sort MissingWell = own refl (λ l. omega arith)
 sort InvalidConstant = own refl (λ l. omega arith)
 
-apart : {A : Type 0} (x : RegisterOutcome) (r : Refusal) → (1 ≤ outcomeNumber x → 37 ≤ outcomeNumber x) → outcomeNumber x ≡ number r → A
+apart : {A : Type 0} (x : RegisterOutcome) (r : Refusal) → (1 ≤ registerNumber x → 37 ≤ registerNumber x) → registerNumber x ≡ number r → A
 apart x r b e = let n = number-small r in absurd (omega (arith, n .0, n .1, b (omega (arith, n .0, e)), e))
 
-outcome-one : (x y : RegisterOutcome) → outcomeNumber x ≡ outcomeNumber y → x ≡ y
+outcome-one : (x y : RegisterOutcome) → registerNumber x ≡ registerNumber y → x ≡ y
 outcome-one x y e = elim (sort x) [
-  | own p b ↦ elim (sort y) [ own q c ↦ sym p ∙ ap plain e ∙ q | unread-one r i ↦ apart x r b (e ∙ ap outcomeNumber i) ]
+  | own p b ↦ elim (sort y) [ own q c ↦ sym p ∙ ap plain e ∙ q | unread-one r i ↦ apart x r b (e ∙ ap registerNumber i) ]
   | unread-one r i ↦ elim (sort y) [
-    | own q c ↦ apart y r c (sym e ∙ ap outcomeNumber i)
-    | unread-one s j ↦ i ∙ ap Unread (number-injective r s (sym (ap outcomeNumber i) ∙ e ∙ ap outcomeNumber j)) ∙ sym j
+    | own q c ↦ apart y r c (sym e ∙ ap registerNumber i)
+    | unread-one s j ↦ i ∙ ap Unread (number-injective r s (sym (ap registerNumber i) ∙ e ∙ ap registerNumber j)) ∙ sym j
   ]
 ]
 
 -- two answers that tell the same are the same, so what `register` promises is one answer
-pub told-register-injective : (a b : RegisterRead) → toldRegister a ≡ toldRegister b → a ≡ b
+pub told-register-injective : (a b : RegisterRead) → registerAnswerMeans a ≡ registerAnswerMeans b → a ≡ b
 told-register-injective a b e =
-    let o = outcome-one (a .outcome) (b .outcome) (ap (λ (x : ToldRegister). x .number) e) in
-    let l = ap (λ (x : ToldRegister). x .line) e in
-    let s = ap (λ (x : ToldRegister). x .start) e in
-    let n = ap (λ (x : ToldRegister). x .entries) e in
-    let k = ap (λ (x : ToldRegister). x .constants) e in
+    let o = outcome-one (a .outcome) (b .outcome) (ap (λ (x : RegisterMeaning). x .number) e) in
+    let l = ap (λ (x : RegisterMeaning). x .line) e in
+    let s = ap (λ (x : RegisterMeaning). x .start) e in
+    let n = ap (λ (x : RegisterMeaning). x .entries) e in
+    let k = ap (λ (x : RegisterMeaning). x .constants) e in
     rw (o, l, s, n, k)

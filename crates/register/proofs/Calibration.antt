@@ -30,7 +30,7 @@ use Rattle.rules.proofs.Groups.{Apart}
 use Rattle.rules.proofs.Sound.{Good}
 use Rattle.rules.proofs.Refusals.{Among, second-refused}
 use Rattle.register.specs.Cells.{wellOf, Cell, constantOf, cells, firstOf, wells}
-use Rattle.register.specs.Register.{RegisterReading, absent, faulty, constants, counted, accepted, inState, byNumber, registered, registerOf}
+use Rattle.register.specs.Register.{RegisterReading, absent, faulty, constants, counted, registerAccepted, inState, byNumber, registered, registerOf}
 use Rattle.register.proofs.Spelling.{well-one}
 use Rattle.register.proofs.Taken.{Reads, Lines, header-lines, header-apart}
 use Rattle.register.proofs.Listed.{there, gone, see, Set, each-set, constants-count, CellAt, Found, first-found}
@@ -95,19 +95,19 @@ record Passed (r : Reading) (v : Version) (cs : List Cell) : Type 0 where
   all-known : firstOf 0 cs ≡ none
   all-there : absent wells cs ≡ false
   faultless : faulty wells cs ≡ none
-  register : accepted r v cs .constants ≡ constants wells cs
+  register : registerAccepted r v cs .constants ≡ constants wells cs
 
-passed : (r : Reading) (v : Version) (cs : List Cell) → accepted r v cs .number ≡ 0 → Passed r v cs
-unfolding accepted counted
+passed : (r : Reading) (v : Version) (cs : List Cell) → registerAccepted r v cs .number ≡ 0 → Passed r v cs
+unfolding registerAccepted counted
 passed r v cs z = elim (test (earlier v v4-3)) [
-  | pass e ↦ let n : _≡_ {A = ℕ} 37 0 = rw (accepted, e) at z in absurd (omega arith)
+  | pass e ↦ let n : _≡_ {A = ℕ} 37 0 = rw (registerAccepted, e) at z in absurd (omega arith)
   | fail e ↦ elim (see (firstOf 0 cs)) [
-    | there c f ↦ let n : _≡_ {A = ℕ} 38 0 = rw (accepted, e, f) at z in absurd (omega arith)
+    | there c f ↦ let n : _≡_ {A = ℕ} 38 0 = rw (registerAccepted, e, f) at z in absurd (omega arith)
     | gone f ↦ elim (test (absent wells cs)) [
-      | pass a ↦ let n : _≡_ {A = ℕ} 39 0 = rw (accepted, e, f, counted, a) at z in absurd (omega arith)
+      | pass a ↦ let n : _≡_ {A = ℕ} 39 0 = rw (registerAccepted, e, f, counted, a) at z in absurd (omega arith)
       | fail a ↦ elim (see (faulty wells cs)) [
-        | there c b ↦ let n : _≡_ {A = ℕ} 40 0 = rw (accepted, e, f, counted, a, b) at z in absurd (omega arith)
-        | gone b ↦ record { recent = e; all-known = f; all-there = a; faultless = b; register = rw (accepted, e, f, counted, a, b) }
+        | there c b ↦ let n : _≡_ {A = ℕ} 40 0 = rw (registerAccepted, e, f, counted, a, b) at z in absurd (omega arith)
+        | gone b ↦ record { recent = e; all-known = f; all-there = a; faultless = b; register = rw (registerAccepted, e, f, counted, a, b) }
       ]
     ]
   ]
@@ -121,7 +121,7 @@ was-called r z = go (r .number) refl (r .state) refl
     go zero e empty q = let m = sym (ap (λ (k : ℕ). byNumber r k .number) e ∙ ap (λ (s : State). inState r s .number) q) ∙ z in absurd (omega (arith, m))
     go zero e (ready v rs) q = let m = sym (ap (λ (k : ℕ). byNumber r k .number) e ∙ ap (λ (s : State). inState r s .number) q) ∙ z in absurd (omega (arith, m))
     go zero e (done v rs c) q =
-        let i : registered r ≡ accepted r v (cellsOf r v rs) = ap (byNumber r) e ∙ ap (inState r) q in
+        let i : registered r ≡ registerAccepted r v (cellsOf r v rs) = ap (byNumber r) e ∙ ap (inState r) q in
         let p = passed r v (cellsOf r v rs) (sym (ap (λ (x : RegisterReading). x .number) i) ∙ z) in
         record {
           version = v;

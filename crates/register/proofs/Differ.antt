@@ -9,7 +9,7 @@ use borrow.Author.Tests.{eq-eqb, ne-eqb}
 use Rattle.values.proofs.Lists.{here, drop-past}
 use Rattle.register.specs.Compare.{Difference, differing}
 use Rattle.register.specs.Wells.{filled}
-use Rattle.register.specs.Compared.{listed}
+use Rattle.register.specs.Compared.{listedInArrays}
 use Rattle.register.specs.declared.compare.Differences.{Differences}
 
 -- what is left to compare from number w on
@@ -100,7 +100,7 @@ module _ {old new wells before after : List ℕ} {count w : ℕ} (g : Compares o
       new-are = part-same (λ d. d .new) after e (g .new-are);
     }
 
-  pub compare-end : 40 ≤ w → _≡_ {A = Differences} (record { count = count; wells = wells; old = before; new = after }) (listed (differing 1 old new))
+  pub compare-end : 40 ≤ w → _≡_ {A = Differences} (record { count = count; wells = wells; old = before; new = after }) (listedInArrays (differing 1 old new))
   unfolding differing
   compare-end l =
       let n : left old new w ≡ [] = rw (drop-past old w (omega (arith, g .long))) in

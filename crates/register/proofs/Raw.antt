@@ -11,7 +11,8 @@ use Rattle.values.specs.Bytes.{Bytes, is, any, same}
 use Rattle.values.specs.Value.{isEscapable, unescaped, meaning}
 use Rattle.values.proofs.Tests.{pass, fail, test, and-l, and-r, or-l, or-r, both}
 use Rattle.values.proofs.Sames.{same-sound, same-self}
-use Rattle.register.specs.Cells.{byteAt, isDigit, spellsWell, wellOf, spellsConstant, hundredths}
+use Rattle.register.specs.Cells.{nthByte, spellsWell, wellOf, spellsConstant, hundredths}
+use Rattle.values.specs.Integer.{isDigit}
 use Rattle.register.proofs.Spelling.{three, between, spelled, no-well-of, constant-no}
 
 -- no byte that a backslash may stand before
@@ -76,16 +77,16 @@ well-plain t e =
     let s = spelled t e in
     rw (three t (s .long))
     (rw (
-      plain-byte (byteAt t 0) (omega (arith, s .first)) (omega (arith, s .first)),
-      plain-byte (byteAt t 1) (omega (arith, s .tens .0)) (omega (arith, s .tens .1)),
-      plain-byte (byteAt t 2) (omega (arith, s .ones .0)) (omega (arith, s .ones .1)),
+      plain-byte (nthByte t 0) (omega (arith, s .first)) (omega (arith, s .first)),
+      plain-byte (nthByte t 1) (omega (arith, s .tens .0)) (omega (arith, s .tens .1)),
+      plain-byte (nthByte t 2) (omega (arith, s .ones .0)) (omega (arith, s .ones .1)),
     ))
 
 -- a well's ID by its meaning and as it stands
 pub well-raw : (q : Bool) (t : Bytes) → wellOf (meaning q t) ≡ wellOf t
 well-raw q t = raw wellOf spellsWell well-plain (λ s t a b. no-well-of s a ∙ sym (no-well-of t b)) q t
 
-four : (t : Bytes) → length t ≡ 4 → t ≡ byteAt t 0 ∷ byteAt t 1 ∷ byteAt t 2 ∷ byteAt t 3 ∷ []
+four : (t : Bytes) → length t ≡ 4 → t ≡ nthByte t 0 ∷ nthByte t 1 ∷ nthByte t 2 ∷ nthByte t 3 ∷ []
 four [] e = absurd (omega arith)
 four (a ∷ []) e = absurd (omega arith)
 four (a ∷ b ∷ []) e = absurd (omega arith)
@@ -97,18 +98,18 @@ constant-plain : (t : Bytes) → spellsConstant t ≡ true → Plain t
 unfolding any spellsConstant
 constant-plain t e =
     let p = and-r (eqb (length t) 4) _ e in
-    let d = and-r (eqb (byteAt t 1) 46) _ p in
-    let g = and-r (isDigit (byteAt t 0)) _ d in
-    let point = eqb-true (byteAt t 1) 46 (and-l (eqb (byteAt t 1) 46) _ p) in
-    let x = between 48 57 (byteAt t 0) (and-l (isDigit (byteAt t 0)) _ d) in
-    let y = between 48 57 (byteAt t 2) (and-l (isDigit (byteAt t 2)) _ g) in
-    let z = between 48 57 (byteAt t 3) (and-r (isDigit (byteAt t 2)) _ g) in
+    let d = and-r (eqb (nthByte t 1) 46) _ p in
+    let g = and-r (isDigit (nthByte t 0)) _ d in
+    let point = eqb-true (nthByte t 1) 46 (and-l (eqb (nthByte t 1) 46) _ p) in
+    let x = between 48 57 (nthByte t 0) (and-l (isDigit (nthByte t 0)) _ d) in
+    let y = between 48 57 (nthByte t 2) (and-l (isDigit (nthByte t 2)) _ g) in
+    let z = between 48 57 (nthByte t 3) (and-r (isDigit (nthByte t 2)) _ g) in
     rw (four t (eqb-true (length t) 4 (and-l (eqb (length t) 4) _ e)))
     (rw (
-      plain-byte (byteAt t 0) (omega (arith, x .0)) (omega (arith, x .1)),
-      plain-byte (byteAt t 1) (omega (arith, point)) (omega (arith, point)),
-      plain-byte (byteAt t 2) (omega (arith, y .0)) (omega (arith, y .1)),
-      plain-byte (byteAt t 3) (omega (arith, z .0)) (omega (arith, z .1)),
+      plain-byte (nthByte t 0) (omega (arith, x .0)) (omega (arith, x .1)),
+      plain-byte (nthByte t 1) (omega (arith, point)) (omega (arith, point)),
+      plain-byte (nthByte t 2) (omega (arith, y .0)) (omega (arith, y .1)),
+      plain-byte (nthByte t 3) (omega (arith, z .0)) (omega (arith, z .1)),
     ))
 
 -- a constant likewise

@@ -10,7 +10,8 @@ use lib.ListN.{length}
 use borrow.Author.Tests.{eqb-true, leb-true, ne-eqb, le-leb, lt-leb, leb-false, eq-eqb}
 use Rattle.values.specs.Bytes.{Bytes, is}
 use Rattle.values.proofs.Tests.{Test, pass, fail, test, and-l, and-r, and-off}
-use Rattle.register.specs.Cells.{byteAt, isDigit, isBetween, spellsWell, wellIn, wellOf, spellsConstant, hundredthsIn, inRange, hundredths}
+use Rattle.register.specs.Cells.{nthByte, isBetween, spellsWell, wellIn, wellOf, spellsConstant, hundredthsIn, inRange, hundredths}
+use Rattle.values.specs.Integer.{isDigit}
 use Rattle.register.specs.Wells.{digitOf, WellTold, constantRead}
 use Rattle.register.specs.declared.well.Constant.{Constant}
 use Rattle.register.specs.declared.well.Constant.the-variants.{Hundredths, Invalid}
@@ -19,7 +20,7 @@ use Rattle.register.specs.declared.well.Constant.the-variants.{Hundredth
 abbrev pub wellId : ℕ → Bytes
 wellId w = 87 ∷ (48 + w / 10) ∷ (48 + w % 10) ∷ []
 
-pub three : (t : Bytes) → length t ≡ 3 → t ≡ byteAt t 0 ∷ byteAt t 1 ∷ byteAt t 2 ∷ []
+pub three : (t : Bytes) → length t ≡ 3 → t ≡ nthByte t 0 ∷ nthByte t 1 ∷ nthByte t 2 ∷ []
 three [] e = absurd (omega arith)
 three (a ∷ []) e = absurd (omega arith)
 three (a ∷ b ∷ []) e = absurd (omega arith)
@@ -32,20 +33,20 @@ between low high n e = (leb-true low n (and-l (leb low n) (leb n high) e), leb-t
 -- what a text that spells a well has
 pub record Spelled (t : Bytes) : Type 0 where
   pub long : length t ≡ 3
-  pub first : byteAt t 0 ≡ 87
-  pub tens : (48 ≤ byteAt t 1) × (byteAt t 1 ≤ 57)
-  pub ones : (48 ≤ byteAt t 2) × (byteAt t 2 ≤ 57)
+  pub first : nthByte t 0 ≡ 87
+  pub tens : (48 ≤ nthByte t 1) × (nthByte t 1 ≤ 57)
+  pub ones : (48 ≤ nthByte t 2) × (nthByte t 2 ≤ 57)
 
 pub spelled : (t : Bytes) → spellsWell t ≡ true → Spelled t
 unfolding spellsWell
 spelled t e =
     let n = and-r (eqb (length t) 3) _ e in
-    let d = and-r (eqb (byteAt t 0) 87) _ n in
+    let d = and-r (eqb (nthByte t 0) 87) _ n in
     record {
       long = eqb-true (length t) 3 (and-l (eqb (length t) 3) _ e);
-      first = eqb-true (byteAt t 0) 87 (and-l (eqb (byteAt t 0) 87) _ n);
-      tens = between 48 57 (byteAt t 1) (and-l (isDigit (byteAt t 1)) _ d);
-      ones = between 48 57 (byteAt t 2) (and-r (isDigit (byteAt t 1)) _ d);
+      first = eqb-true (nthByte t 0) 87 (and-l (eqb (nthByte t 0) 87) _ n);
+      tens = between 48 57 (nthByte t 1) (and-l (isDigit (nthByte t 1)) _ d);
+      ones = between 48 57 (nthByte t 2) (and-r (isDigit (nthByte t 1)) _ d);
     }
 
 -- an ID names the well w, one of 1 to 40, only where it is that well's
@@ -57,8 +58,8 @@ well-spelled t {w} e l = elim (test (spellsWell t && isBetween 1 40 (wellIn t)))
       let i : wellIn t ≡ w = rw (q, wellOf) at e in
       let s = spelled t (and-l (spellsWell t) _ q) in
       let a = s .first in
-      let b : byteAt t 1 ≡ 48 + w / 10 = omega (arith, s .tens .0, s .tens .1, s .ones .0, s .ones .1) in
-      let c : byteAt t 2 ≡ 48 + w % 10 = omega (arith, s .tens .0, s .tens .1, s .ones .0, s .ones .1) in
+      let b : nthByte t 1 ≡ 48 + w / 10 = omega (arith, s .tens .0, s .tens .1, s .ones .0, s .ones .1) in
+      let c : nthByte t 2 ≡ 48 + w % 10 = omega (arith, s .tens .0, s .tens .1, s .ones .0, s .ones .1) in
       three t (s .long) ∙ rw (a, b, c)
 ]
 
@@ -156,26 +157,26 @@ module _ (t : Bytes) where
   unfolding spellsWell
   well-long n = no-well (and-none _ (ne-eqb (length t) 3 n))
 
-  pub well-first : (byteAt t 0 ≡ 87 → ⊥) → WellTold t 0
+  pub well-first : (nthByte t 0 ≡ 87 → ⊥) → WellTold t 0
   unfolding spellsWell
-  well-first n = no-well (and-off (eqb (length t) 3) (and-none _ (ne-eqb (byteAt t 0) 87 n)))
+  well-first n = no-well (and-off (eqb (length t) 3) (and-none _ (ne-eqb (nthByte t 0) 87 n)))
 
-  module _ {d c : ℕ} (e : d ≡ digitOf (byteAt t 1)) (f : c ≡ digitOf (byteAt t 2)) where
+  module _ {d c : ℕ} (e : d ≡ digitOf (nthByte t 1)) (f : c ≡ digitOf (nthByte t 2)) where
     pub well-tens : 9 < d → WellTold t 0
     unfolding spellsWell
-    well-tens l = no-well (and-off (eqb (length t) 3) (and-off (eqb (byteAt t 0) 87) (and-none _ (told-none (byteAt t 1) e l))))
+    well-tens l = no-well (and-off (eqb (length t) 3) (and-off (eqb (nthByte t 0) 87) (and-none _ (told-none (nthByte t 1) e l))))
 
     pub well-ones : 9 < c → WellTold t 0
     unfolding spellsWell
-    well-ones l = no-well (and-off (eqb (length t) 3) (and-off (eqb (byteAt t 0) 87) (and-off (isDigit (byteAt t 1)) (told-none (byteAt t 2) f l))))
+    well-ones l = no-well (and-off (eqb (length t) 3) (and-off (eqb (nthByte t 0) 87) (and-off (isDigit (nthByte t 1)) (told-none (nthByte t 2) f l))))
 
-    module _ (long : length t ≡ 3) (first : byteAt t 0 ≡ 87) (l : d ≤ 9) (m : c ≤ 9) where
+    module _ (long : length t ≡ 3) (first : nthByte t 0 ≡ 87) (l : d ≤ 9) (m : c ≤ 9) where
       is-spelled : spellsWell t ≡ true
       unfolding spellsWell
-      is-spelled = rw (eq-eqb (length t) 3 long, eq-eqb (byteAt t 0) 87 first, told-digit (byteAt t 1) e l .is, told-digit (byteAt t 2) f m .is)
+      is-spelled = rw (eq-eqb (length t) 3 long, eq-eqb (nthByte t 0) 87 first, told-digit (nthByte t 1) e l .is, told-digit (nthByte t 2) f m .is)
 
       number : d * 10 + c ≡ wellIn t
-      number = rw (told-digit (byteAt t 1) e l .number, told-digit (byteAt t 2) f m .number)
+      number = rw (told-digit (nthByte t 1) e l .number, told-digit (nthByte t 2) f m .number)
 
       pub well-high : 40 < d * 10 + c → WellTold t 0
       well-high h = let n = number in record { is = sym (well-no (and-off (spellsWell t) (between-high 1 40 (wellIn t) (omega (arith, n))))); small = omega arith }
@@ -206,33 +207,33 @@ module _ (t : Bytes) where
   unfolding spellsConstant
   constant-long n = no-constant (and-none _ (ne-eqb (length t) 4 n))
 
-  pub constant-point : (byteAt t 1 ≡ 46 → ⊥) → Invalid ≡ constantRead (hundredths t)
+  pub constant-point : (nthByte t 1 ≡ 46 → ⊥) → Invalid ≡ constantRead (hundredths t)
   unfolding spellsConstant
-  constant-point n = no-constant (and-off (eqb (length t) 4) (and-none _ (ne-eqb (byteAt t 1) 46 n)))
+  constant-point n = no-constant (and-off (eqb (length t) 4) (and-none _ (ne-eqb (nthByte t 1) 46 n)))
 
-  module _ {a b c : ℕ} (e : a ≡ digitOf (byteAt t 0)) (f : b ≡ digitOf (byteAt t 2)) (g : c ≡ digitOf (byteAt t 3)) where
+  module _ {a b c : ℕ} (e : a ≡ digitOf (nthByte t 0)) (f : b ≡ digitOf (nthByte t 2)) (g : c ≡ digitOf (nthByte t 3)) where
     -- past the length and the point
-    no-digits : isDigit (byteAt t 0) && (isDigit (byteAt t 2) && isDigit (byteAt t 3)) ≡ false → Invalid ≡ constantRead (hundredths t)
+    no-digits : isDigit (nthByte t 0) && (isDigit (nthByte t 2) && isDigit (nthByte t 3)) ≡ false → Invalid ≡ constantRead (hundredths t)
     unfolding spellsConstant
-    no-digits q = no-constant (and-off (eqb (length t) 4) (and-off (eqb (byteAt t 1) 46) q))
+    no-digits q = no-constant (and-off (eqb (length t) 4) (and-off (eqb (nthByte t 1) 46) q))
 
     pub constant-ones : 9 < a → Invalid ≡ constantRead (hundredths t)
-    constant-ones l = no-digits (and-none _ (told-none (byteAt t 0) e l))
+    constant-ones l = no-digits (and-none _ (told-none (nthByte t 0) e l))
 
     pub constant-tenths : 9 < b → Invalid ≡ constantRead (hundredths t)
-    constant-tenths l = no-digits (and-off (isDigit (byteAt t 0)) (and-none _ (told-none (byteAt t 2) f l)))
+    constant-tenths l = no-digits (and-off (isDigit (nthByte t 0)) (and-none _ (told-none (nthByte t 2) f l)))
 
     pub constant-last : 9 < c → Invalid ≡ constantRead (hundredths t)
-    constant-last l = no-digits (and-off (isDigit (byteAt t 0)) (and-off (isDigit (byteAt t 2)) (told-none (byteAt t 3) g l)))
+    constant-last l = no-digits (and-off (isDigit (nthByte t 0)) (and-off (isDigit (nthByte t 2)) (told-none (nthByte t 3) g l)))
 
-    pub constant-is : length t ≡ 4 → byteAt t 1 ≡ 46 → a ≤ 9 → b ≤ 9 → c ≤ 9 → {r : Constant} → r ≡ constantRead (inRange (a * 100 + b * 10 + c)) → r ≡ constantRead (hundredths t)
+    pub constant-is : length t ≡ 4 → nthByte t 1 ≡ 46 → a ≤ 9 → b ≤ 9 → c ≤ 9 → {r : Constant} → r ≡ constantRead (inRange (a * 100 + b * 10 + c)) → r ≡ constantRead (hundredths t)
     unfolding spellsConstant
     constant-is long point l m n q =
-        let x = told-digit (byteAt t 0) e l in
-        let y = told-digit (byteAt t 2) f m in
-        let z = told-digit (byteAt t 3) g n in
+        let x = told-digit (nthByte t 0) e l in
+        let y = told-digit (nthByte t 2) f m in
+        let z = told-digit (nthByte t 3) g n in
         let i : a * 100 + b * 10 + c ≡ hundredthsIn t = rw (x .number, y .number, z .number) in
-        let s : spellsConstant t ≡ true = rw (eq-eqb (length t) 4 long, eq-eqb (byteAt t 1) 46 point, x .is, y .is, z .is) in
+        let s : spellsConstant t ≡ true = rw (eq-eqb (length t) 4 long, eq-eqb (nthByte t 1) 46 point, x .is, y .is, z .is) in
         q ∙ ap (λ (k : ℕ). constantRead (inRange k)) i ∙ sym (ap constantRead (constant-yes s))
 
 pub ruleset spelled-constants = (constant-long, constant-point, constant-ones, constant-tenths, constant-last, constant-is)

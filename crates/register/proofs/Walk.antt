@@ -28,7 +28,7 @@ use Rattle.register.specs.declared.well.Constant.{Constant}
 use Rattle.register.specs.declared.well.Constant.the-variants.{Hundredths, Invalid}
 use Rattle.register.specs.Cells.{wellOf, hundredths, Cell, constantOf, firstOf, wellsFrom, wells}
 use Rattle.register.specs.Register.{absent, faultIn, faultOf, faulty, orZero, constantIn, constants}
-use Rattle.register.specs.Wells.{WellTold, constantRead, isCell, constantAt, cellIn, cellsBy, cellsIn, tableCells, lineOf, Lines, StartTold, ConstantTold, MissingTold, filled, plateOf, ConstantsTold}
+use Rattle.register.specs.Wells.{WellTold, constantRead, isCell, constantAt, cellIn, cellsBy, cellsIn, tableCells, cellLine, Lines, StartTold, ConstantTold, MissingTold, filled, plateOf, ConstantsTold}
 use Rattle.register.proofs.Raw.{constant-raw}
 use Rattle.register.proofs.Listed.{there, gone, see, first-here, first-later, faulty-here, faulty-later}
 use Rattle.rules.specs.Map.{fieldKeyed, fieldsAt}
@@ -99,8 +99,8 @@ more-lines : {cs : List Cell} {ls : List ℕ} (c : Cell) → c .well ≤ 40 → 
 more-lines {cs} {ls} c s g = record {
   long = length-set ls (c .well) (c .line) ∙ g .long;
   each = λ w l. elim (test (eqb (c .well) w)) [
-    | pass e ↦ rw (← eqb-true (c .well) w e) (getD-set-same ls (c .well) (c .line) 0 (omega (arith, g .long))) ∙ ap lineOf (sym (first-here w c cs e))
-    | fail e ↦ getD-set-other ls (c .well) w (c .line) 0 (λ q. eqb-false (c .well) w e (sym q)) ∙ g .each w l ∙ ap lineOf (sym (first-later w c cs e))
+    | pass e ↦ rw (← eqb-true (c .well) w e) (getD-set-same ls (c .well) (c .line) 0 (omega (arith, g .long))) ∙ ap cellLine (sym (first-here w c cs e))
+    | fail e ↦ getD-set-other ls (c .well) w (c .line) 0 (λ q. eqb-false (c .well) w e (sym q)) ∙ g .each w l ∙ ap cellLine (sym (first-later w c cs e))
   ];
 }
 
@@ -171,10 +171,10 @@ pub from-entry : (h : Bytes) (t : List ℕ) (w : ℕ) {c : Cell} → firstOf w (
 from-entry h t w e = from-table h t (room t) 0 w (omega arith) e
 
 -- a well's line is 0 only where it has none
-line-none : (h : Bytes) (t : List ℕ) (w : ℕ) → lineOf (firstOf w (tableCells h t)) ≡ 0 → firstOf w (tableCells h t) ≡ none
+line-none : (h : Bytes) (t : List ℕ) (w : ℕ) → cellLine (firstOf w (tableCells h t)) ≡ 0 → firstOf w (tableCells h t) ≡ none
 line-none h t w z = elim (see (firstOf w (tableCells h t))) [
   | gone e ↦ e
-  | there c e ↦ let k : c .line ≡ 0 = sym (ap lineOf e) ∙ z in absurd (omega (arith, from-entry h t w e .above))
+  | there c e ↦ let k : c .line ≡ 0 = sym (ap cellLine e) ∙ z in absurd (omega (arith, from-entry h t w e .above))
 ]
 
 -- The loop that looks for a missing well: those before w have their lines
@@ -216,7 +216,7 @@ module _ {ls : List ℕ} {w : ℕ} (g : Missing ls w) where
       low = omega arith;
       high = omega arith;
       still = λ h t a. let cs = tableCells h t in elim (see (firstOf w cs)) [
-        | gone e ↦ absurd (n (a .each w l ∙ ap lineOf e))
+        | gone e ↦ absurd (n (a .each w l ∙ ap cellLine e))
         | there c e ↦ sym (ap (λ (ws : List ℕ). absent ws cs) step-wells ∙ absent-rest w (wellsFrom (w + 1) (41 - (w + 1))) cs e) ∙ g .still h t a
       ];
     }
@@ -288,7 +288,7 @@ module _ {h : Bytes} {t ls found : List ℕ} {w : ℕ} (g : Filling h t ls found
       | gone e ↦ absurd (true≢false (sym (absent-first (w + 1) ws cs e) ∙ ap (λ (x : List ℕ). absent x cs) (sym fill-wells) ∙ b))
       | there c e ↦
           let f = from-entry h t (w + 1) e in
-          let i : line ≡ c .line = el ∙ a .each (w + 1) (omega arith) ∙ ap lineOf e in
+          let i : line ≡ c .line = el ∙ a .each (w + 1) (omega arith) ∙ ap cellLine e in
           record {
             cell = c;
             first = e;

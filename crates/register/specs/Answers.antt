@@ -18,47 +18,47 @@ use Rattle.register.specs.declared.probe.RegisterOutcome.{RegisterOutcom
 use Rattle.register.specs.declared.probe.RegisterOutcome.the-variants.{Accepted, Unread, EarlyVersion, UnknownCell, MissingWell, InvalidConstant}
 use Rattle.register.specs.declared.probe.RegisterRead.{RegisterRead}
 use Rattle.register.specs.Cells.{Cell}
-use Rattle.register.specs.Register.{RegisterReading, counted, accepted, registerOf}
+use Rattle.register.specs.Register.{RegisterReading, counted, registerAccepted, registerOf}
 use Rattle.register.specs.Wells.{tableCells, Lines, filled}
 use Rattle.rules.specs.Claims.{Sized}
 
 -- documents 01's and 02's number for each case
-abbrev pub outcomeNumber : RegisterOutcome → ℕ
-outcomeNumber Accepted = 0
-outcomeNumber (Unread x) = number x
-outcomeNumber EarlyVersion = 37
-outcomeNumber UnknownCell = 38
-outcomeNumber MissingWell = 39
-outcomeNumber InvalidConstant = 40
+abbrev pub registerNumber : RegisterOutcome → ℕ
+registerNumber Accepted = 0
+registerNumber (Unread x) = number x
+registerNumber EarlyVersion = 37
+registerNumber UnknownCell = 38
+registerNumber MissingWell = 39
+registerNumber InvalidConstant = 40
 
 -- what an answer says: number, place, how many entries, the constants
-pub record ToldRegister : Type 0 where
+pub record RegisterMeaning : Type 0 where
   pub number : ℕ
   pub line : ℕ
   pub start : ℕ
   pub entries : ℕ
   pub constants : List ℕ
 
-abbrev pub toldRegister : RegisterRead → ToldRegister
-toldRegister a = record { number = outcomeNumber (a .outcome); line = a .line; start = a .start; entries = a .entries; constants = a .constants }
+abbrev pub registerAnswerMeans : RegisterRead → RegisterMeaning
+registerAnswerMeans a = record { number = registerNumber (a .outcome); line = a .line; start = a .start; entries = a .entries; constants = a .constants }
 
 -- a refused register has forty zeros
-abbrev pub tellsRegister : RegisterReading → ToldRegister
-tellsRegister r = record { number = r .number; line = r .line; start = r .start; entries = length (r .entries); constants = filled (r .constants) }
+abbrev pub registerMeans : RegisterReading → RegisterMeaning
+registerMeans r = record { number = r .number; line = r .line; start = r .start; entries = length (r .entries); constants = filled (r .constants) }
 
-abbrev pub refusedAs : RegisterOutcome → ℕ → ℕ → ℕ → RegisterRead
-refusedAs x line start entries = record { outcome = x; line = line; start = start; entries = entries; constants = filled [] }
+abbrev pub registerRefusedAs : RegisterOutcome → ℕ → ℕ → ℕ → RegisterRead
+registerRefusedAs x line start entries = record { outcome = x; line = line; start = start; entries = entries; constants = filled [] }
 
 -- after an accepted reading, where each cell is a well's and has its line among these
 pub record AnswersKnown (a : ReadAnswer) (h : Bytes) (t ls : List ℕ) (r : RegisterRead) : Type 0 where
-  pub is : Lines (tableCells h t) ls → (g : Reading) → answerMeans a ≡ readingMeans g → toldRegister r ≡ tellsRegister (counted g (tableCells h t))
+  pub is : Lines (tableCells h t) ls → (g : Reading) → answerMeans a ≡ readingMeans g → registerAnswerMeans r ≡ registerMeans (counted g (tableCells h t))
 
 -- after an accepted reading with these cells
 pub record AnswersRegister (a : ReadAnswer) (f : FileFormat) (cs : List Cell) (r : RegisterRead) : Type 0 where
-  pub is : (g : Reading) → answerMeans a ≡ readingMeans g → toldRegister r ≡ tellsRegister (accepted g (versionOf f) cs)
+  pub is : (g : Reading) → answerMeans a ≡ readingMeans g → registerAnswerMeans r ≡ registerMeans (registerAccepted g (versionOf f) cs)
   pub sized : Sized (versionOf f)
 
 -- what `register` promises of a call: the version imposed, the header and the table; the answer, and the table after it
 pub record RegisterCall (lim : Limits) (imposed : Option Version) (h : Bytes) (t : List ℕ) (r : RegisterRead) (t′ : List ℕ) : Type 0 where
-  pub answer : toldRegister r ≡ tellsRegister (registerOf lim imposed (room t) h)
+  pub answer : registerAnswerMeans r ≡ registerMeans (registerOf lim imposed (room t) h)
   pub table : t′ ≡ stored t 0 (readInto lim imposed t h .entries)

@@ -6,6 +6,7 @@ use mathlib.Core.List.{List, [], _∷_, _++_}
 use mathlib.Core.Option.{Option, none, some}
 use lib.Dec.{eqb, leb}
 use lib.ListN.{length, getD}
+use Rattle.values.specs.Integer.{isDigit}
 use Rattle.values.specs.Bytes.{Bytes, ascii, same}
 use Rattle.values.specs.Value.{meaningOf}
 use Rattle.values.specs.Field.{Field}
@@ -15,21 +16,18 @@ use Rattle.rules.specs.Record.{Record, fileformat, fields, text}
 use Rattle.rules.specs.Entry.{Entry}
 
 -- byte i of a text
-abbrev pub byteAt : Bytes → ℕ → ℕ
-byteAt t i = getD t i 0
-
-abbrev pub isDigit : ℕ → Bool
-isDigit b = leb 48 b && leb b 57
+abbrev pub nthByte : Bytes → ℕ → ℕ
+nthByte t i = getD t i 0
 
 abbrev pub isBetween : ℕ → ℕ → ℕ → Bool
 isBetween low high n = leb low n && leb n high
 
 -- `W` and two digits
 unfoldable pub spellsWell : Bytes → Bool
-spellsWell t = eqb (length t) 3 && (eqb (byteAt t 0) 87 && (isDigit (byteAt t 1) && isDigit (byteAt t 2)))
+spellsWell t = eqb (length t) 3 && (eqb (nthByte t 0) 87 && (isDigit (nthByte t 1) && isDigit (nthByte t 2)))
 
 abbrev pub wellIn : Bytes → ℕ
-wellIn t = (byteAt t 1 - 48) * 10 + (byteAt t 2 - 48)
+wellIn t = (nthByte t 1 - 48) * 10 + (nthByte t 2 - 48)
 
 -- the well that an ID names, W01 to W40; 0: none of them
 unfoldable pub wellOf : Bytes → ℕ
@@ -37,10 +35,10 @@ wellOf t = elim (spellsWell t && isBetween 1 40 (wellIn t)) [ true ↦ wellIn t 
 
 -- one digit, a point and two digits
 unfoldable pub spellsConstant : Bytes → Bool
-spellsConstant t = eqb (length t) 4 && (eqb (byteAt t 1) 46 && (isDigit (byteAt t 0) && (isDigit (byteAt t 2) && isDigit (byteAt t 3))))
+spellsConstant t = eqb (length t) 4 && (eqb (nthByte t 1) 46 && (isDigit (nthByte t 0) && (isDigit (nthByte t 2) && isDigit (nthByte t 3))))
 
 abbrev pub hundredthsIn : Bytes → ℕ
-hundredthsIn t = (byteAt t 0 - 48) * 100 + (byteAt t 2 - 48) * 10 + (byteAt t 3 - 48)
+hundredthsIn t = (nthByte t 0 - 48) * 100 + (nthByte t 2 - 48) * 10 + (nthByte t 3 - 48)
 
 -- from 0.50 through 2.00
 unfoldable pub inRange : ℕ → Option ℕ

@@ -5,8 +5,8 @@ use Rattle.register.specs.Compare.{Difference}
 use Rattle.register.specs.Wells.{filled}
 use Rattle.register.specs.declared.compare.Differences.{Differences}
 
-abbrev pub listed : List Difference → Differences
-listed ds = record {
+abbrev pub listedInArrays : List Difference → Differences
+listedInArrays ds = record {
   count = length ds;
   wells = filled (map (λ (d : Difference). d .well) ds);
   old = filled (map (λ (d : Difference). d .old) ds);

@@ -9,11 +9,11 @@ use Rattle.rules.specs.Sizes.{limits}
 use Rattle.rules.specs.Version.{Version, version}
 use Rattle.rules.specs.Examples.{opened as rules}
 use Rattle.register.specs.Cells.{spellsWell, wellOf, spellsConstant, inRange, hundredths, declared, cells, firstOf, wellsFrom}
-use Rattle.register.specs.Register.{RegisterReading, absent, faulty, constants, counted, accepted, registerOf}
+use Rattle.register.specs.Register.{RegisterReading, absent, faulty, constants, counted, registerAccepted, registerOf}
 use Rattle.register.specs.Compare.{differing}
 
 unfoldable pub opened : Unit {0}
-unfolding rules spellsWell wellOf spellsConstant inRange hundredths declared cells firstOf wellsFrom absent faulty constants counted accepted registerOf differing
+unfolding rules spellsWell wellOf spellsConstant inRange hundredths declared cells firstOf wellsFrom absent faulty constants counted registerAccepted registerOf differing
 opened = tt
 
 -- number, line, start, how many entries, the constants

@@ -18,11 +18,11 @@ pub record RegisterReading : Type 0 where
   pub entries : List Entry
   pub constants : List ℕ
 
-abbrev pub refused : ℕ → ℕ → ℕ → List Entry → RegisterReading
-refused number line start es = record { number = number; line = line; start = start; entries = es; constants = [] }
+abbrev pub registerRefused : ℕ → ℕ → ℕ → List Entry → RegisterReading
+registerRefused number line start es = record { number = number; line = line; start = start; entries = es; constants = [] }
 
 abbrev pub refusedAt : ℕ → Cell → List Entry → RegisterReading
-refusedAt number c es = refused number (c .line) (c .start) es
+refusedAt number c es = registerRefused number (c .line) (c .start) es
 
 -- 39: one of these wells is absent
 abbrev pub isAbsent : Option Cell → Bool
@@ -67,25 +67,25 @@ settled r cs none = record { number = 0; line = r .line; start = r .start; entri
 
 -- 39 before that
 unfoldable pub counted : Reading → List Cell → RegisterReading
-counted r cs = elim (absent wells cs) [ true ↦ refused 39 0 0 (r .entries) | false ↦ settled r cs (faulty wells cs) ]
+counted r cs = elim (absent wells cs) [ true ↦ registerRefused 39 0 0 (r .entries) | false ↦ settled r cs (faulty wells cs) ]
 
 -- 38 before that
-abbrev pub known : Reading → List Cell → Option Cell → RegisterReading
-known r cs (some c) = refusedAt 38 c (r .entries)
-known r cs none = counted r cs
+abbrev pub wellsKnown : Reading → List Cell → Option Cell → RegisterReading
+wellsKnown r cs (some c) = refusedAt 38 c (r .entries)
+wellsKnown r cs none = counted r cs
 
 -- 37 first; the records begin on line 2, after the fileformat line and its entry
-unfoldable pub accepted : Reading → Version → List Cell → RegisterReading
-accepted r v cs = elim (earlier v v4-3) [ true ↦ refused 37 0 0 (r .entries) | false ↦ known r cs (firstOf 0 cs) ]
+unfoldable pub registerAccepted : Reading → Version → List Cell → RegisterReading
+registerAccepted r v cs = elim (earlier v v4-3) [ true ↦ registerRefused 37 0 0 (r .entries) | false ↦ wellsKnown r cs (firstOf 0 cs) ]
 
 abbrev pub unread : Reading → RegisterReading
-unread r = refused (r .number) (r .line) (r .start) (r .entries)
+unread r = registerRefused (r .number) (r .line) (r .start) (r .entries)
 
 -- the end of a reading without its column line has 25 or 26 already
 abbrev pub inState : Reading → State → RegisterReading
-inState r empty = refused 25 0 0 (r .entries)
-inState r (ready v rs) = refused 26 (r .line) (r .start) (r .entries)
-inState r (done v rs c) = accepted r v (cells v 2 (tail (r .entries)) rs)
+inState r empty = registerRefused 25 0 0 (r .entries)
+inState r (ready v rs) = registerRefused 26 (r .line) (r .start) (r .entries)
+inState r (done v rs c) = registerAccepted r v (cells v 2 (tail (r .entries)) rs)
 
 -- ordinary refusals come first and unchanged
 abbrev pub byNumber : Reading → ℕ → RegisterReading

@@ -15,7 +15,8 @@ use Rattle.ids.specs.Clashes.{prefixOf, hasKey}
 use Rattle.register.specs.declared.well.Constant.{Constant}
 use Rattle.register.specs.declared.well.Constant.the-variants.{Hundredths, Invalid}
 use Rattle.register.specs.declared.cells.Plate.{Plate}
-use Rattle.register.specs.Cells.{isDigit, wellOf, Cell, constantOf, firstOf, wells}
+use Rattle.register.specs.Cells.{wellOf, Cell, constantOf, firstOf, wells}
+use Rattle.values.specs.Integer.{isDigit}
 use Rattle.register.specs.Register.{absent, faulty, constants}
 use Rattle.rules.specs.Map.{fieldKeyed, fieldsAt}
 
@@ -55,14 +56,14 @@ cellsIn h line (e ∷ es) = cellsBy (isCell h e) (cellIn h line e) (cellsIn h (l
 abbrev pub tableCells : Bytes → List ℕ → List Cell
 tableCells h t = cellsIn h 1 (entriesIn t)
 
-abbrev pub lineOf : Option Cell → ℕ
-lineOf none = 0
-lineOf (some c) = c .line
+abbrev pub cellLine : Option Cell → ℕ
+cellLine none = 0
+cellLine (some c) = c .line
 
 -- the line of each well's first cell, and in place 0 that of the first cell of none
 pub record Lines (cs : List Cell) (ls : List ℕ) : Type 0 where
   pub long : length ls ≡ 41
-  pub each : (w : ℕ) → w ≤ 40 → getD ls w 0 ≡ lineOf (firstOf w cs)
+  pub each : (w : ℕ) → w ≤ 40 → getD ls w 0 ≡ cellLine (firstOf w cs)
 
 pub record StartTold (t : List ℕ) (line r : ℕ) : Type 0 where
   pub is : 1 ≤ line → r ≡ entryIn t (line - 1) .start

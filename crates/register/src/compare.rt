@@ -1,7 +1,7 @@
 // The wells in which two registers differ.
 ghost use mathlib.Core.Path.{_≡_};
 ghost use Rattle.register.specs.Compare.{differing};
-ghost use Rattle.register.specs.Compared.{listed};
+ghost use Rattle.register.specs.Compared.{listedInArrays};
 
 // How many differ; then, lowest first, each well's number, 1 to 40, what it had and what it has; 0 past these.
 pub struct Differences {
@@ -12,7 +12,7 @@ pub struct Differences {
 }
 
 pub fn compare(old: [u64; 40], new: [u64; 40]) -> Differences
-    ensures { λ r. ⌜ r ≡ listed (differing 1 old new) ⌝ }
+    ensures { λ r. ⌜ r ≡ listedInArrays (differing 1 old new) ⌝ }
 {
     let mut wells = [0u64; 40];
     let mut before = [0u64; 40];

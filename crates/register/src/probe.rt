@@ -11,7 +11,7 @@ ghost use mathlib.Core.Path.{_≡_};
 ghost use Rattle.rules.specs.Sizes.{limits};
 ghost use Rattle.header.specs.Verdicts.{imposedOf};
 ghost use Rattle.register.specs.Wells.{tableCells};
-ghost use Rattle.register.specs.Answers.{outcomeNumber, refusedAs, AnswersKnown, AnswersRegister, RegisterCall};
+ghost use Rattle.register.specs.Answers.{registerNumber, registerRefusedAs, AnswersKnown, AnswersRegister, RegisterCall};
 
 // What a header's register is found to be. Unread: the header itself is refused.
 pub enum RegisterOutcome {
@@ -25,7 +25,7 @@ pub enum RegisterOutcome {
 
 impl RegisterOutcome {
     pub fn number(self) -> u64
-        ensures { λ r. ⌜ r ≡ outcomeNumber self ⌝ }
+        ensures { λ r. ⌜ r ≡ registerNumber self ⌝ }
     {
         match self {
             RegisterOutcome::Accepted => 0,
@@ -49,7 +49,7 @@ pub struct RegisterRead {
 }
 
 fn refuse(outcome: RegisterOutcome, line: usize, start: usize, entries: usize) -> RegisterRead
-    ensures { λ r. ⌜ r ≡ refusedAs outcome line start entries ⌝ }
+    ensures { λ r. ⌜ r ≡ registerRefusedAs outcome line start entries ⌝ }
 {
     RegisterRead {
         outcome,

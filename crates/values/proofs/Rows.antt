@@ -8,7 +8,7 @@ use mathlib.Core.List.{List, [], _∷_}
 use mathlib.Core.Option.{Option, none, some}
 use lib.Dec.{leb, ltb}
 use borrow.Author.Tests.{le-leb, lt-leb, leb-true, ltb-true}
-use Rattle.values.specs.Utf8.{Range, Character, within, look, rows, followers}
+use Rattle.values.specs.Utf8.{Range, Character, within, look, characters, followers}
 use Rattle.values.proofs.Tests.{and-l, and-r, and-off}
 
 pub data Found : Type 0 where
@@ -55,6 +55,6 @@ span-look (r ∷ rs) lo hi b e l h =
     (leb (r .first .low) lo && leb hi (r .first .high)) (ltb hi (r .first .low)) (ltb (r .first .high) lo) refl refl refl e
 
 -- each byte from lo to hi is followed alike
-pub spans : (lo hi b : ℕ) {x : Option (List Range)} → span rows lo hi ≡ one x → lo ≤ b → b ≤ hi → followers b ≡ x
+pub spans : (lo hi b : ℕ) {x : Option (List Range)} → span characters lo hi ≡ one x → lo ≤ b → b ≤ hi → followers b ≡ x
 unfolding followers
-spans lo hi b e l h = span-look rows lo hi b e l h
+spans lo hi b e l h = span-look characters lo hi b e l h

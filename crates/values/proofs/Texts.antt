@@ -9,7 +9,7 @@ use lib.Dec.{leb, eqb, eqb·suc-zero}
 use lib.ListN.{length, getD, drop, replicate, drop-of-length-le}
 use borrow.Author.Tests.{le-leb, lt-leb}
 use Rattle.values.specs.Bytes.{Bytes}
-use Rattle.values.specs.Utf8.{Range, Character, upTo, tail, within, look, rows, followers, completes, isUtf8}
+use Rattle.values.specs.Utf8.{Range, Character, upTo, tail, within, look, characters, followers, completes, isUtf8}
 use Rattle.values.specs.declared.utf8.Lead.{Lead}
 use Rattle.values.specs.declared.utf8.Lead.the-variants.{Follow, Refused}
 use Rattle.values.specs.Lead.{due, leadMeans}
@@ -115,7 +115,7 @@ look-high (r ∷ rs) b h = elim (test (within (r .first) b)) [
 
 pub followers-high : (b : ℕ) {p : List Range} → followers b ≡ some p → High p
 unfolding followers
-followers-high b e = rw e at (look-high rows b (omega arith))
+followers-high b e = rw e at (look-high characters b (omega arith))
 
 pub low-out : (r : Range) (c : ℕ) → 128 ≤ r .low → c < 128 → within r c ≡ false
 low-out r c h l = rw (lt-leb (r .low) c (omega arith))

@@ -31,8 +31,8 @@ abbrev pub character : Range → List Range → Character
 character r rs = record { first = r; follow = rs }
 
 -- UTF8-1 to UTF8-4
-abbrev pub rows : List Character
-rows =
+abbrev pub characters : List Character
+characters =
     character (upTo 0x00 0x7F) []
     ∷ character (upTo 0xC2 0xDF) (tail ∷ [])
     ∷ character (upTo 0xE0 0xE0) (upTo 0xA0 0xBF ∷ tail ∷ [])
@@ -50,7 +50,7 @@ look [] b = none
 look (r ∷ rs) b = elim (within (r .first) b) [ true ↦ some (r .follow) | false ↦ look rs b ]
 
 unfoldable pub followers : ℕ → Option (List Range)
-followers b = look rows b
+followers b = look characters b
 
 -- the bytes complete a text of which the ranges due are still to be met
 unfoldable pub completes : List Range → Bytes → Bool

@@ -1,8 +1,7 @@
 use borrow.Author.Needs.{needs}
 use Rattle.values.proofs.Meanings.{told-less}
-use Prim.Native.Nat.{_-_, _≤_}
+use Prim.Native.Nat.{_-_}
 use lib.ListN.{length}
-use mathlib.Core.Path.{_≡_}
 use Rattle.vcfh.proofs.numbers.say_id.Statement.{statement}
 use Rattle.vcfh.proofs.numbers.say_id.Tie as tie
 use Rattle.vcfh.proofs.numbers.say_id.Reads as reads

@@ -1,7 +1,5 @@
 use borrow.Author.Needs.{needs}
-use Prim.Native.Nat.{_-_, _≤_}
-use lib.ListN.{length}
-use mathlib.Core.Path.{_≡_}
+use Prim.Native.Nat.{_-_}
 use Rattle.vcfh.proofs.numbers.say_pairs.Statement.{statement}
 use Rattle.vcfh.proofs.numbers.say_pairs.Tie as tie
 use Rattle.vcfh.proofs.numbers.say_pairs.Reads as reads

@@ -1,14 +1,14 @@
 // The records of a header: one line at a time.
 mod alternative_allele;
 mod contig;
-mod definition;
+pub mod definition;
 pub mod field;
 pub mod file_format;
 mod filter;
 pub mod key;
 mod list;
 mod map;
-mod number;
+pub mod number;
 mod other;
 pub mod record;
 pub mod refusal;

@@ -1,7 +1,9 @@
 // The cell register, and what differs from another.
+use crate::notes;
 use crate::say;
 use crate::why;
 use header::file_format_option::FileFormatOption;
+use records::file_format::FileFormat;
 use register::compare;
 use register::probe;
 use register::probe::RegisterOutcome;
@@ -9,22 +11,22 @@ use register::probe::RegisterRead;
 
 fn say_well(well: u64) {
     say::text(1, b"W");
-    io::print_decimal(1, well / 10);
-    io::print_decimal(1, well % 10);
+    say::decimal(1, well / 10);
+    say::decimal(1, well % 10);
 }
 
 // Hundredths as a number with two digits after the point.
 fn say_constant(n: u64) {
-    io::print_decimal(1, n / 100);
+    say::decimal(1, n / 100);
     say::text(1, b".");
-    io::print_decimal(1, n / 10 % 10);
-    io::print_decimal(1, n % 10);
+    say::decimal(1, n / 10 % 10);
+    say::decimal(1, n % 10);
 }
 
-fn say_why(outcome: RegisterOutcome, header: &[u8], start: usize) {
+fn say_why(outcome: RegisterOutcome, header: &[u8], imposed: FileFormatOption, start: usize) {
     match outcome {
         RegisterOutcome::Accepted => say::text(2, b""),
-        RegisterOutcome::Unread(refusal) => why::say_why(refusal, header, start),
+        RegisterOutcome::Unread(refusal) => why::say_why(refusal, header, imposed, start),
         RegisterOutcome::EarlyVersion => {
             say::text(2, b"a cell register needs version 4.3 or later\n")
         }
@@ -44,13 +46,14 @@ fn say_why(outcome: RegisterOutcome, header: &[u8], start: usize) {
 }
 
 // The register of a header; where it is refused, that is said.
-fn read(header: &[u8], table: &mut [u64]) -> RegisterRead {
-    let answer = probe::register(header, FileFormatOption::None, table);
+fn read(header: &[u8], imposed: FileFormatOption, table: &mut [u64]) -> RegisterRead {
+    let answer = probe::register(header, imposed, table);
     let outcome = answer.outcome;
     let number = outcome.number();
     if number != 0 {
+        say::tell(b"n");
         say::refused(number, answer.line, answer.start);
-        say_why(outcome, header, answer.start);
+        say_why(outcome, header, imposed, answer.start);
     }
     answer
 }
@@ -92,23 +95,25 @@ fn say_lines(constants: &[u64; 40]) {
     }
 }
 
-// The plate: five rows of eight wells.
-pub fn say_plate(header: &[u8], table: &mut [u64]) {
-    let answer = read(header, table);
+// The plate: five rows of eight wells. No register is accepted under a version before 4.3, of which the notes speak.
+pub fn say_plate(header: &[u8], imposed: FileFormatOption, table: &mut [u64]) {
+    let answer = read(header, imposed, table);
     let outcome = answer.outcome;
     let constants = answer.constants;
     if is_accepted(outcome) {
         say_rows(&constants);
+        notes::say_notes(header, table, answer.entries, FileFormat::V4_3);
     }
 }
 
 // A line for each well.
-pub fn say_list(header: &[u8], table: &mut [u64]) {
-    let answer = read(header, table);
+pub fn say_list(header: &[u8], imposed: FileFormatOption, table: &mut [u64]) {
+    let answer = read(header, imposed, table);
     let outcome = answer.outcome;
     let constants = answer.constants;
     if is_accepted(outcome) {
         say_lines(&constants);
+        notes::say_notes(header, table, answer.entries, FileFormat::V4_3);
     }
 }
 
@@ -121,8 +126,8 @@ fn copy(from: &[u64; 40], to: &mut [u64; 40]) {
 }
 
 // Keeps the constants to compare with, all 0 if the register is refused.
-pub fn keep(header: &[u8], table: &mut [u64], had: &mut [u64; 40]) {
-    let answer = read(header, table);
+pub fn keep(header: &[u8], imposed: FileFormatOption, table: &mut [u64], had: &mut [u64; 40]) {
+    let answer = read(header, imposed, table);
     let constants = answer.constants;
     copy(&constants, had);
 }
@@ -145,9 +150,15 @@ fn say_differences(wells: &[u64; 40], old: &[u64; 40], new: &[u64; 40], count: u
     }
 }
 
+fn tell_whether_any(count: usize) {
+    if count != 0 {
+        say::tell(b"d");
+    }
+}
+
 // The wells that differ from those that were kept; nothing where that register was refused.
-pub fn say_changes(header: &[u8], table: &mut [u64], had: &[u64; 40]) {
-    let answer = read(header, table);
+pub fn say_changes(header: &[u8], imposed: FileFormatOption, table: &mut [u64], had: &[u64; 40]) {
+    let answer = read(header, imposed, table);
     let outcome = answer.outcome;
     let has = answer.constants;
     if had[0] == 0 {
@@ -160,6 +171,7 @@ pub fn say_changes(header: &[u8], table: &mut [u64], had: &[u64; 40]) {
         let wells = found.wells;
         let old = found.old;
         let new = found.new;
+        tell_whether_any(found.count);
         say_differences(&wells, &old, &new, found.count);
     }
 }

@@ -1,23 +1,33 @@
-// What bin/vcfh runs. Two arguments make a case: a command, and a file's name (`-`: standard input). The command cells-new compares
-// with the file of the cells-old before it.
-// A refusal always says on standard error why, and nothing else is written there: bin/vcfh goes by that.
+// What bin/vcfh runs. Three arguments make a case: a command, the version to impose as a fileformat line has it (`-`: none), and a
+// file's name (`-`: standard input). The command cells-new compares with the file of the cells-old before it.
+// What came of a case is told on descriptor 3, by which bin/vcfh goes; sentences and notes stand on standard error.
+mod asked;
 mod cells;
+mod fields;
+mod input;
 mod listing;
+mod notes;
 mod numbers;
 mod say;
+mod twice;
 mod why;
 
 use header::file_format_option::FileFormatOption;
 use header::parser::Outcome;
+use input::Start;
+use records::file_format;
+use records::file_format::FileFormatRead;
 use values::bytes;
+use values::output;
 ghost use mathlib.Core.Path.{_≡_};
 ghost use lib.ListN.{length};
 
-// Room for a header that is two bytes too long. As with `io::buffer`, the contract gives only the length.
-fn header_buffer() -> [u8; 1048577]
-    ensures { λ r. ⌜ 1048577 ≡ length r ⌝ }
+// Room for a header that is two bytes too long, after the nine bytes that stand before it in a BCF. As with `io::buffer`, the
+// contract gives only the length.
+fn header_buffer() -> [u8; 1048586]
+    ensures { λ r. ⌜ 1048586 ≡ length r ⌝ }
 {
-    [0; 1048577]
+    [0; 1048586]
 }
 
 // Room for the entries of any header: a line and its ending have five bytes or more, and the samples stand in one line.
@@ -27,80 +37,133 @@ fn entry_table() -> [u64; 524288]
     [0; 524288]
 }
 
-// The header of a whole VCF ends with its column line.
-fn header_end(s: &[u8]) -> usize {
-    let mut at = 0;
-    while at < s.len() {
-        let lf = bytes::find(s, at, b'\n');
-        if s.len() <= lf {
-            return s.len();
-        }
-        if bytes::starts_with(bytes::part(s, at, lf), b"#CHROM") {
-            return lf + 1;
-        }
-        at = lf + 1;
-    }
-    s.len()
+// Room for the first bytes of an input, and mostly for all of its header.
+fn short_buffer() -> [u8; 16384]
+    ensures { λ r. ⌜ 16384 ≡ length r ⌝ }
+{
+    [0; 16384]
 }
 
-fn check(header: &[u8], table: &mut [u64]) {
-    let answer = header::parser::read(header, FileFormatOption::None, table);
+// Room for the entries of a header that stands in these bytes, of which an entry takes two or more. Clearing a table for any header
+// would cost more than the reading.
+fn short_table() -> [u64; 16384]
+    ensures { λ r. ⌜ 16384 ≡ length r ⌝ }
+{
+    [0; 16384]
+}
+
+// Room for the house form of a short header: quotes and backslashes make it at most twice as long, and a little.
+fn short_form() -> [u8; 65536]
+    ensures { λ r. ⌜ 65536 ≡ length r ⌝ }
+{
+    [0; 65536]
+}
+
+// Room for 32,768 pairs of a dictionary.
+fn pair_buffer() -> [u64; 65536]
+    ensures { λ r. ⌜ 65536 ≡ length r ⌝ }
+{
+    [0; 65536]
+}
+
+// The same for a short header, whose lines have eight bytes or more.
+fn short_pairs() -> [u64; 4096]
+    ensures { λ r. ⌜ 4096 ≡ length r ⌝ }
+{
+    [0; 4096]
+}
+
+fn check(header: &[u8], imposed: FileFormatOption, table: &mut [u64]) {
+    let answer = header::parser::read(header, imposed, table);
     let mut out = io::buffer();
     let end = report::put_answer(&mut out, 0, answer);
     say::text(1, bytes::part(&out, 0, end));
     let outcome = answer.outcome;
     match outcome {
-        Outcome::Accepted(_, _) => {}
-        Outcome::Refused(refusal) => why::say_why(refusal, header, answer.start),
+        Outcome::Accepted(version, _) => {
+            notes::say_notes(header, table, answer.entries, version)
+        }
+        Outcome::Refused(refusal) => why::say_why(refusal, header, imposed, answer.start),
     }
 }
 
-fn entries(header: &[u8], table: &mut [u64]) {
-    let answer = header::parser::read(header, FileFormatOption::None, table);
+fn entries(header: &[u8], imposed: FileFormatOption, table: &mut [u64]) {
+    let answer = header::parser::read(header, imposed, table);
     let outcome = answer.outcome;
     match outcome {
-        Outcome::Accepted(_, _) => listing::say_entries(header, table, answer.entries),
+        Outcome::Accepted(version, _) => {
+            listing::say_entries(header, table, answer.entries);
+            notes::say_notes(header, table, answer.entries, version);
+        }
         Outcome::Refused(refusal) => {
             say::refused(refusal.number(), answer.line, answer.start);
-            why::say_why(refusal, header, answer.start);
+            why::say_why(refusal, header, imposed, answer.start);
         }
     }
 }
 
 // A header that is not read is refused as the listing of its entries is.
-fn dictionary(header: &[u8], table: &mut [u64]) {
-    if !numbers::say_numbers(header, table) {
-        entries(header, table);
+fn dictionary(
+    header: &[u8],
+    imposed: FileFormatOption,
+    table: &mut [u64],
+    strings: &mut [u64],
+    contigs: &mut [u64],
+) {
+    if !numbers::say_numbers(header, imposed, table, strings, contigs) {
+        entries(header, imposed, table);
     }
 }
 
-fn house(header: &[u8], table: &mut [u64], form: &mut [u8]) {
-    let answer = house::form::house_form(header, FileFormatOption::None, table, form);
+// `noted`: with the notes on the header.
+fn house(
+    header: &[u8],
+    imposed: FileFormatOption,
+    table: &mut [u64],
+    form: &mut [u8],
+    noted: bool,
+) {
+    let answer = house::form::house_form(header, imposed, table, form);
     let outcome = answer.outcome;
     match outcome {
-        Outcome::Accepted(_, _) => say::text(1, bytes::part(form, 0, answer.length)),
+        Outcome::Accepted(version, _) => {
+            say::text(1, bytes::part(form, 0, answer.length));
+            if noted {
+                notes::say_notes(header, table, answer.entries, version);
+            }
+        }
         Outcome::Refused(refusal) => {
             say::refused(refusal.number(), answer.line, answer.start);
-            why::say_why_no_form(refusal, header, answer.start);
+            why::say_why_no_form(refusal, header, imposed, answer.start);
         }
     }
 }
 
-fn run(command: &[u8], header: &[u8], table: &mut [u64], form: &mut [u8]) {
+fn run(
+    command: &[u8],
+    header: &[u8],
+    imposed: FileFormatOption,
+    table: &mut [u64],
+    form: &mut [u8],
+    strings: &mut [u64],
+    contigs: &mut [u64],
+) {
     if bytes::same(command, b"check") {
-        check(header, table);
+        check(header, imposed, table);
     } else if bytes::same(command, b"entries") {
-        entries(header, table);
+        entries(header, imposed, table);
     } else if bytes::same(command, b"dictionary") {
-        dictionary(header, table);
+        dictionary(header, imposed, table, strings, contigs);
     } else if bytes::same(command, b"house") {
-        house(header, table, form);
+        house(header, imposed, table, form, true);
+    } else if bytes::same(command, b"form") {
+        house(header, imposed, table, form, false);
+    } else if bytes::same(command, b"text") {
+        say::text(1, header);
     } else if bytes::same(command, b"cells") {
-        cells::say_plate(header, table);
-    } else if bytes::same(command, b"cells-list") {
-        cells::say_list(header, table);
+        cells::say_plate(header, imposed, table);
     } else {
-        say::text(2, b"vcfh: no such command\n");
+        cells::say_list(header, imposed, table);
     }
 }
 
@@ -108,16 +171,145 @@ fn run(command: &[u8], header: &[u8], table: &mut [u64], form: &mut [u8]) {
 fn run_after(
     command: &[u8],
     header: &[u8],
+    imposed: FileFormatOption,
     table: &mut [u64],
     form: &mut [u8],
+    strings: &mut [u64],
+    contigs: &mut [u64],
     had: &mut [u64; 40],
 ) {
     if bytes::same(command, b"cells-old") {
-        cells::keep(header, table, had);
+        cells::keep(header, imposed, table, had);
     } else if bytes::same(command, b"cells-new") {
-        cells::say_changes(header, table, had);
+        cells::say_changes(header, imposed, table, had);
     } else {
-        run(command, header, table, form);
+        run(command, header, imposed, table, form, strings, contigs);
+    }
+}
+
+// The command is the argument of this number.
+fn run_command(
+    number: usize,
+    text: &[u8],
+    imposed: FileFormatOption,
+    table: &mut [u64],
+    form: &mut [u8],
+    strings: &mut [u64],
+    contigs: &mut [u64],
+    had: &mut [u64; 40],
+) {
+    let mut word = io::buffer();
+    let word_end = os::arg(number, &mut word);
+    let header = bytes::part(text, 0, input::header_end(text));
+    run_after(
+        &word[..word_end],
+        header,
+        imposed,
+        table,
+        form,
+        strings,
+        contigs,
+        had,
+    );
+}
+
+// A case whose header may go on after these first bytes.
+fn long_case(number: usize, first: &[u8], fd: i32, imposed: FileFormatOption, had: &mut [u64; 40]) {
+    let mut buffer = header_buffer();
+    let next = output::put_bytes(&mut buffer, 0, first);
+    let end = input::fill(fd, &mut buffer, next);
+    if os::errno() != 0 {
+        say::tell(b"r");
+        return;
+    }
+    let mut table = entry_table();
+    let mut form = header_buffer();
+    let mut strings = pair_buffer();
+    let mut contigs = pair_buffer();
+    let text = input::text(bytes::part(&buffer, 0, end));
+    run_command(
+        number,
+        text,
+        imposed,
+        &mut table,
+        &mut form,
+        &mut strings,
+        &mut contigs,
+        had,
+    );
+}
+
+// The same, as a function that calls itself: the compiler keeps such a one apart, where it would else make one function of all cases
+// and clear the megabytes of a long case in every short one. `turns` is the number of arguments, so that the call inside does nothing.
+fn long_case_apart(
+    turns: usize,
+    number: usize,
+    first: &[u8],
+    fd: i32,
+    imposed: FileFormatOption,
+    had: &mut [u64; 40],
+) {
+    if turns == 0 {
+        return;
+    }
+    long_case_apart(turns / 0x1_0000_0000, number, first, fd, imposed, had);
+    long_case(number, first, fd, imposed, had);
+}
+
+// A case whose header stands whole in these bytes.
+fn short_case(number: usize, text: &[u8], imposed: FileFormatOption, had: &mut [u64; 40]) {
+    let mut table = short_table();
+    let mut form = short_form();
+    let mut strings = short_pairs();
+    let mut contigs = short_pairs();
+    run_command(
+        number,
+        text,
+        imposed,
+        &mut table,
+        &mut form,
+        &mut strings,
+        &mut contigs,
+        had,
+    );
+}
+
+// errno was 0 before the reading, so that another number tells of a read that failed.
+fn read_case(number: usize, fd: i32, imposed: FileFormatOption, had: &mut [u64; 40]) {
+    let mut first = short_buffer();
+    let Start::Bytes(n) = input::read_start(fd, &mut first) else {
+        say::tell(b"z");
+        return;
+    };
+    if os::errno() != 0 {
+        say::tell(b"r");
+        return;
+    }
+    let text = input::text(bytes::part(&first, 0, n));
+    if n < 16384 {
+        short_case(number, text, imposed, had);
+    } else if input::header_end(text) < text.len() {
+        short_case(number, text, imposed, had);
+    } else {
+        long_case_apart(os::arg_count(), number, &first, fd, imposed, had);
+    }
+}
+
+enum Imposed {
+    Version(FileFormatOption),
+    Refused,
+}
+
+// The argument of this number, which names a version to impose.
+fn imposed_of(number: usize) -> Imposed {
+    let mut word = io::buffer();
+    let end = os::arg(number, &mut word);
+    if bytes::same(&word[..end], b"-") {
+        return Imposed::Version(FileFormatOption::None);
+    }
+    match file_format::parse_file_format(&word[..end]) {
+        FileFormatRead::Version(version) => Imposed::Version(FileFormatOption::Some(version)),
+        FileFormatRead::Refused => Imposed::Refused,
     }
 }
 
@@ -129,40 +321,29 @@ fn open(name: &[u8]) -> i32 {
 }
 
 // One case: the arguments of these numbers.
-fn case(
-    buffer: &mut [u8],
-    table: &mut [u64],
-    form: &mut [u8],
-    had: &mut [u64; 40],
-    command: usize,
-    file: usize,
-) {
+fn case(command: usize, version: usize, file: usize, had: &mut [u64; 40]) {
+    let Imposed::Version(imposed) = imposed_of(version) else {
+        say::tell(b"v");
+        return;
+    };
     let mut name = io::buffer();
     let name_end = os::arg(file, &mut name);
     let fd = open(&name[..name_end]);
     if fd < 0 {
-        say::text(2, b"vcfh: no such file\n");
+        say::tell(b"r");
         return;
     }
-    let n = io::read_full(fd, buffer);
+    read_case(command, fd, imposed, had);
     libc::close(fd);
-    let mut word = io::buffer();
-    let word_end = os::arg(command, &mut word);
-    let end = header_end(bytes::part(buffer, 0, n));
-    let header = bytes::part(buffer, 0, end);
-    run_after(&word[..word_end], header, table, form, had);
 }
 
 fn main() {
-    let mut buffer = header_buffer();
-    let mut table = entry_table();
-    let mut form = header_buffer();
     let mut had = [0u64; 40];
-    let cases = os::arg_count() / 2;
+    let cases = os::arg_count() / 3;
     let mut k = 0;
     while k < cases {
-        let i = 2 * k;
-        case(&mut buffer, &mut table, &mut form, &mut had, i + 1, i + 2);
+        let i = 3 * k;
+        case(i + 1, i + 2, i + 3, &mut had);
         k += 1;
     }
 }

@@ -1,4 +1,5 @@
 // The dictionaries of BCF: a line for each string and each contig, with its number and its ID.
+use crate::notes;
 use crate::say;
 use dictionary::string_maps;
 use dictionary::string_maps::DictionaryOutcome;
@@ -8,15 +9,6 @@ use entries::table;
 use header::file_format_option::FileFormatOption;
 use values::cursor::ByteRead;
 use values::cursor::Cursor;
-ghost use mathlib.Core.Path.{_≡_};
-ghost use lib.ListN.{length};
-
-// Room for 32,768 pairs.
-fn pair_buffer() -> [u64; 65536]
-    ensures { λ r. ⌜ 65536 ≡ length r ⌝ }
-{
-    [0; 65536]
-}
 
 // What the ID means.
 fn say_id(header: &[u8], e: Entry) {
@@ -66,26 +58,26 @@ fn say_why(number: u64) {
 }
 
 fn say_refused(number: u64) {
+    say::tell(b"n");
     say::refused(number, 0, 0);
     say_why(number);
 }
 
 // Whether the header was read: else it is for the caller to say why not.
-pub fn say_numbers(header: &[u8], table: &mut [u64]) -> bool {
-    let mut strings = pair_buffer();
-    let mut contigs = pair_buffer();
-    let answer = string_maps::dictionaries(
-        header,
-        FileFormatOption::None,
-        table,
-        &mut strings,
-        &mut contigs,
-    );
+pub fn say_numbers(
+    header: &[u8],
+    imposed: FileFormatOption,
+    table: &mut [u64],
+    strings: &mut [u64],
+    contigs: &mut [u64],
+) -> bool {
+    let answer = string_maps::dictionaries(header, imposed, table, strings, contigs);
     let outcome = answer.outcome;
     match outcome {
-        DictionaryOutcome::Accepted(_, _) => {
-            say_pairs(b"string\t", header, table, &strings, answer.strings);
-            say_pairs(b"contig\t", header, table, &contigs, answer.contigs);
+        DictionaryOutcome::Accepted(version, _) => {
+            say_pairs(b"string\t", header, table, strings, answer.strings);
+            say_pairs(b"contig\t", header, table, contigs, answer.contigs);
+            notes::say_notes(header, table, answer.entries, version);
             true
         }
         DictionaryOutcome::Refused(_) => false,

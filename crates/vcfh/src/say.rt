@@ -2,13 +2,35 @@
 use values::bytes;
 ghost use Prim.Native.Nat.{_≤_};
 
+// A word for bin/vcfh, which has no other way to learn what came of a case. `n`: refused; `d`: two headers differ; `r`: the input was
+// not read; `v`: no version to impose; `z`: the input is packed; `w`: a write failed; `p`: nobody reads the output any more.
+pub fn tell(word: &[u8]) {
+    io::write_all(3, word);
+}
+
+fn tell_failed_write() {
+    if os::errno() == libc::EPIPE {
+        tell(b"p");
+        return;
+    }
+    tell(b"w");
+}
+
 pub fn text(fd: i32, s: &[u8]) {
-    io::write_all(fd, s);
+    if !io::write_all(fd, s) {
+        tell_failed_write();
+    }
+}
+
+pub fn decimal(fd: i32, n: u64) {
+    let mut digits = [0u8; 20];
+    let k = io::decimal(n, &mut digits);
+    text(fd, &digits[..k]);
 }
 
 pub fn numbered(fd: i32, label: &[u8], n: u64) {
-    io::write_all(fd, label);
-    io::print_decimal(fd, n);
+    text(fd, label);
+    decimal(fd, n);
 }
 
 // The line of a refusal, on standard error.
@@ -44,11 +66,11 @@ pub fn shown(fd: i32, s: &[u8]) {
     let mut at = 0;
     while at < s.len() {
         let end = control_place(s, at);
-        io::write_all(fd, bytes::part(s, at, end));
+        text(fd, bytes::part(s, at, end));
         if s.len() <= end {
             return;
         }
-        io::write_all(fd, b"?");
+        text(fd, b"?");
         at = end + 1;
     }
 }
@@ -56,8 +78,8 @@ pub fn shown(fd: i32, s: &[u8]) {
 // Spaces after a text of `used` bytes, so that the next one stands in line.
 fn fill(used: usize, width: usize) {
     let spaces = b"                    ";
-    io::write_all(1, bytes::part(spaces, used, width));
-    io::write_all(1, b" ");
+    text(1, bytes::part(spaces, used, width));
+    text(1, b" ");
 }
 
 pub fn cell(s: &[u8], width: usize) {

@@ -1,6 +1,9 @@
 // Why a header is refused, in a sentence on standard error.
+use crate::fields;
 use crate::say;
+use crate::twice;
 use entries::limits::Limits;
+use header::file_format_option::FileFormatOption;
 use lines::line;
 use records::file_format::FileFormat;
 use records::record;
@@ -19,19 +22,14 @@ fn say_around(before: &[u8], name: &[u8], after: &[u8]) {
     say(after);
 }
 
-// A record's key stands between `##` and the first `=`.
-fn key_of(l: &[u8]) -> &[u8] {
-    bytes::part(l, 2, bytes::find(l, 2, b'='))
-}
-
 fn say_missing(l: &[u8], name: &[u8]) {
     say::text(2, b"the ");
-    say::shown(2, key_of(l));
+    say::shown(2, fields::key_of(l));
     say_around(b" line has no ", name, b"");
 }
 
 // The version that the header states.
-fn version_of(header: &[u8]) -> FileFormat {
+fn stated_version(header: &[u8]) -> FileFormat {
     let first = line::next_line(header, 0);
     match record::parse_record(bytes::part(header, 0, first.end), FileFormat::V4_5) {
         RecordRead::FileFormat(version) => version,
@@ -41,81 +39,78 @@ fn version_of(header: &[u8]) -> FileFormat {
     }
 }
 
-fn say_twice(id: &[u8], l: &[u8]) {
-    say::text(2, b"the ID ");
-    say::shown(2, id);
-    say_around(b" stands twice among the ", key_of(l), b" lines");
-}
-
-// The second of two lines with one ID.
-fn say_id_twice(l: &[u8], version: FileFormat) {
-    match record::parse_record(l, version) {
-        RecordRead::FileFormat(_) => say(b"an ID stands twice"),
-        RecordRead::Map(map) => {
-            let id = map.id;
-            say_twice(bytes::part(l, id.start, id.end), l)
-        }
-        RecordRead::Text(_) => say(b"an ID stands twice"),
-        RecordRead::Refused(_) => say(b"an ID stands twice"),
+// The version in force.
+fn version_of(header: &[u8], imposed: FileFormatOption) -> FileFormat {
+    match imposed {
+        FileFormatOption::None => stated_version(header),
+        FileFormatOption::Some(version) => version,
     }
 }
 
-// Whether one of the names from `start` on, which tabs part, is this one.
-fn stands_from(l: &[u8], start: usize, name: &[u8]) -> bool {
-    let mut at = start;
-    while at <= l.len() {
-        let end = bytes::find(l, at, b'\t');
-        if bytes::same(bytes::part(l, at, end), name) {
-            return true;
-        }
-        if l.len() <= end {
-            return false;
-        }
-        at = end + 1;
+// Two bytes for each character, with a mark before them or without.
+fn is_utf16(header: &[u8]) -> bool {
+    if bytes::starts_with(header, b"\xFF\xFE") {
+        return true;
     }
-    false
+    if bytes::starts_with(header, b"\xFE\xFF") {
+        return true;
+    }
+    if bytes::starts_with(header, b"#\x00") {
+        return true;
+    }
+    bytes::starts_with(header, b"\x00#")
 }
 
-// The column line of a header with a sample name that stands twice: the names follow these columns.
-fn say_name_twice(l: &[u8]) {
-    let columns = b"#CHROM\tPOS\tID\tREF\tALT\tQUAL\tFILTER\tINFO\tFORMAT\t";
-    let mut at = columns.len();
-    while at < l.len() {
-        let end = bytes::find(l, at, b'\t');
-        if l.len() <= end {
-            break;
-        }
-        let name = bytes::part(l, at, end);
-        at = end + 1;
-        if stands_from(l, at, name) {
-            say_around(b"the sample name ", name, b" stands twice");
-            return;
-        }
+fn is_marked(header: &[u8]) -> bool {
+    bytes::starts_with(header, b"\xEF\xBB\xBF")
+}
+
+// 6: a line that is no record.
+fn say_no_record(l: &[u8]) {
+    if l.len() == 0 {
+        say(b"empty line");
+    } else if !bytes::starts_with(l, b"##") {
+        say(b"the line does not begin with ##");
+    } else if bytes::starts_with(l, b"##=") {
+        say(b"nothing stands between ## and =");
+    } else {
+        say(b"the line has no =");
     }
-    say(b"a sample name stands twice");
+}
+
+// 3 and 6, of the first line.
+fn say_no_start(number: u64, header: &[u8], l: &[u8]) {
+    if is_utf16(header) {
+        say(b"this is UTF-16, and a header is UTF-8");
+    } else if is_marked(header) {
+        say(b"a byte order mark stands before the first line");
+    } else if number == 3 {
+        say(b"the line is not UTF-8");
+    } else {
+        say::text(2, b"the fileformat line is missing: ");
+        say_no_record(l);
+    }
 }
 
 // 1 to 9: a line that is no record, no map or no field.
-fn say_line(number: u64) {
+fn say_line(number: u64, l: &[u8], version: FileFormat) {
     match number {
         1 => say(b"a line follows the column line"),
-        2 => say(b"the line is longer than 65,535 bytes"),
+        2 => say(
+            b"the line is longer than 65,535 bytes, which is a limit of this tool and not of VCF",
+        ),
         3 => say(b"the line is not UTF-8"),
         4 => say(b"the first line is a record, but not the fileformat line"),
         5 => say(b"a fileformat line stands after the first line"),
-        6 => say(b"the line does not begin with ##, has no =, or has nothing between them"),
+        6 => say_no_record(l),
         7 => say(b"the fileformat value is not VCFv, digits, a point and digits"),
-        8 => say(
-            b"the value is not a whole map: < or > is missing, or something else follows a value or the >",
-        ),
-        _ => say(
-            b"a field has a bad key or value, or is missing after a comma or in a META or PEDIGREE line",
-        ),
+        8 => fields::say_no_map(l, version),
+        _ => fields::say_bad_field(l, version),
     }
 }
 
 // 10 to 18: what the fields of a map say.
-fn say_map(number: u64, l: &[u8]) {
+fn say_map(number: u64, l: &[u8], version: FileFormat) {
     match number {
         10 => say(b"a field key stands twice in the map, or the map names its ID twice"),
         11 => say(b"the Number is neither a count nor one of the letters allowed here"),
@@ -125,69 +120,90 @@ fn say_map(number: u64, l: &[u8]) {
         15 => say_missing(l, b"Number"),
         16 => say_missing(l, b"Type"),
         17 => say_missing(l, b"Description"),
-        _ => say(
-            b"a reserved ID is declared with a Number or Type that is not the specification's",
-        ),
+        _ => fields::say_mismatch(l, version),
     }
 }
 
 // 19 to 29: a line beside those before it, and the header as a whole.
-fn say_whole(number: u64, l: &[u8], version: FileFormat) {
+fn say_whole(number: u64, header: &[u8], l: &[u8], version: FileFormat) {
     match number {
-        19 => say_id_twice(l, version),
+        19 => twice::say_id_twice(header, l, version),
         20 => say_around(
             b"the key ",
-            key_of(l),
+            fields::key_of(l),
             b" has text in one line and a map in another",
         ),
-        21 => say_id_twice(l, version),
+        21 => twice::say_id_twice(header, l, version),
         22 => say(b"a column is wrong or missing"),
-        23 => say_name_twice(l),
+        23 => twice::say_name_twice(l),
         24 => say(b"the table has no room for the line's entries"),
         25 => say(b"there is no line at all"),
         26 => say(b"the column line is missing"),
-        27 => say(b"the header is longer than 1,048,575 bytes"),
+        27 => say(
+            b"the header is longer than 1,048,575 bytes, which is a limit of this tool and not of VCF",
+        ),
         28 => say(b"the house form is longer than the output"),
         _ => say(b"there is no such entry, ID or field"),
     }
 }
 
-fn say_reason(number: u64, l: &[u8], version: FileFormat) {
+fn say_reason(number: u64, header: &[u8], l: &[u8], version: FileFormat) {
     if number <= 9 {
-        say_line(number);
+        say_line(number, l, version);
     } else if number <= 18 {
-        say_map(number, l);
+        say_map(number, l, version);
     } else {
-        say_whole(number, l, version);
+        say_whole(number, header, l, version);
     }
+}
+
+fn is_start(number: u64, start: usize) -> bool {
+    if start != 0 {
+        return false;
+    }
+    number == 3 || number == 6
 }
 
 // The line that was refused begins at `start`.
-pub fn say_why(refusal: Refusal, header: &[u8], start: usize) {
+pub fn say_why(refusal: Refusal, header: &[u8], imposed: FileFormatOption, start: usize) {
+    say::tell(b"n");
     let found = line::next_line(header, start);
-    say_reason(
-        refusal.number(),
-        bytes::part(header, start, found.end),
-        version_of(header),
-    );
+    let l = bytes::part(header, start, found.end);
+    let number = refusal.number();
+    if is_start(number, start) {
+        say_no_start(number, header, l);
+        return;
+    }
+    say_reason(number, header, l, version_of(header, imposed));
 }
 
-// The same where a form was asked for: the header may be fine and its form, or a line of that, too long.
-pub fn say_why_no_form(refusal: Refusal, header: &[u8], start: usize) {
-    let number = refusal.number();
+// Whether it is the form, or a line of it, that is too long, and not the header.
+fn is_long_form(number: u64, header: &[u8], start: usize) -> bool {
     let limits = Limits::FIRST;
     if number == 27 {
-        if header.len() <= limits.header {
-            say(b"the house form is longer than 1,048,575 bytes");
-            return;
-        }
+        return header.len() <= limits.header;
     }
     if number == 2 {
         let found = line::next_line(header, start);
-        if bytes::part(header, start, found.end).len() <= limits.line {
-            say(b"a line of the house form is longer than 65,535 bytes");
-            return;
-        }
+        return bytes::part(header, start, found.end).len() <= limits.line;
     }
-    say_why(refusal, header, start);
+    false
+}
+
+// The same where a form was asked for.
+pub fn say_why_no_form(refusal: Refusal, header: &[u8], imposed: FileFormatOption, start: usize) {
+    if !is_long_form(refusal.number(), header, start) {
+        say_why(refusal, header, imposed, start);
+        return;
+    }
+    say::tell(b"n");
+    if refusal.number() == 2 {
+        say(
+            b"a line of the house form is longer than 65,535 bytes, which is a limit of this tool and not of VCF",
+        );
+        return;
+    }
+    say(
+        b"the house form is longer than 1,048,575 bytes, which is a limit of this tool and not of VCF",
+    );
 }

@@ -1,14 +1,13 @@
-use Prim.Native.Nat.{_-_}
-use lib.ListN.{length}
 use borrow.Author.Needs.{needs}
-use Rattle.vcfh.proofs.header_end.Statement.{statement}
-use Rattle.vcfh.proofs.header_end.Tie as tie
+use Prim.Native.Nat.{_-_}
+use Rattle.vcfh.proofs.twice.stands_before.Statement.{statement}
+use Rattle.vcfh.proofs.twice.stands_before.Tie as tie
 
 abbrev Inv-loop : tie.InvT-loop
-Inv-loop s at₀ t4 at = Unit {0}
+Inv-loop l start upto name at₀ at = Unit {0}
 
 abbrev μ-loop : tie.MeasureT-loop
-μ-loop s at₀ t4 at = length s - at
+μ-loop l start upto name at₀ at = upto - at
 
 loop-holds : tie.Need-loop-holds Inv-loop μ-loop
 loop-holds c = search needs
@@ -16,20 +15,14 @@ loop-holds c = search needs
 find-requires : tie.Need-find-requires Inv-loop μ-loop
 find-requires c κs = search needs
 
-returns : tie.Need-returns Inv-loop μ-loop
-returns c = search needs
-
 part-requires : tie.Need-part-requires Inv-loop μ-loop
 part-requires c κs = search needs
 
-slice-aggregate-starts-with : tie.Need-slice-aggregate-starts-with Inv-loop μ-loop
-slice-aggregate-starts-with c = search needs
+same-requires : tie.Need-same-requires Inv-loop μ-loop
+same-requires c κs = search needs
 
-starts-with-requires : tie.Need-starts-with-requires Inv-loop μ-loop
-starts-with-requires c κs = search needs
-
-add-result : tie.Need-add-result Inv-loop μ-loop
-add-result c = search needs
+returns : tie.Need-returns Inv-loop μ-loop
+returns c = search needs
 
 returns-2 : tie.Need-returns-2 Inv-loop μ-loop
 returns-2 c = search needs
@@ -46,19 +39,17 @@ loop-again c = search needs
 returns-3 : tie.Need-returns-3 Inv-loop μ-loop
 returns-3 c = search needs
 
-pub header-end-spec : {M : Type 1} → statement M
-header-end-spec =
+pub stands-before-spec : {M : Type 1} → statement M
+stands-before-spec =
     tie.close
     (tie.spec
     Inv-loop
     μ-loop
     loop-holds
     find-requires
-    returns
     part-requires
-    slice-aggregate-starts-with
-    starts-with-requires
-    add-result
+    same-requires
+    returns
     returns-2
     add-at
     loop-less

@@ -1,6 +1,7 @@
 """Document 01 once more, in Python, for the expected values of the recorded cases. It shares nothing with the crates:
 UTF-8 is Python's own decoder, integers Python's own, and the grammar is regular expressions.
 A version is a pair (major, minor), so Python's order of pairs is the document's; a part of the header is (start, end)."""
+import os
 import re
 from collections import namedtuple
 
@@ -25,27 +26,40 @@ KNOWN = {
 MISSING = {b'ID': 14, b'Number': 15, b'Type': 16, b'Description': 17}
 ID_NAMES = (b'ID', b'Child', b'Derived')
 TYPES = (b'Integer', b'Float', b'Character', b'String')
-LETTERS, LOCAL_LETTERS = (b'A', b'R', b'G', b'.'), (b'LA', b'LR', b'LG', b'P', b'M')
 COLUMN_NAMES = [b'#CHROM', b'POS', b'ID', b'REF', b'ALT', b'QUAL', b'FILTER', b'INFO']
 
 
-def reserved(*rows):
-    """'NUMBER TYPE: ID ID ..' -> what each ID must have."""
-    table = {}
-    for row in rows:
-        definition, ids = row.encode().split(b': ')
-        number, type_ = definition.split()
-        for id_ in ids.split():
-            table[id_] = (int(number) if number.isdigit() else number, type_)
-    return table
+def page(title):
+    """The rows of a table of docs/RESERVED.md, each a list of its cells, without the head."""
+    lines = RESERVED_PAGE.split(f'\n## {title}\n')[1].split('\n## ')[0].splitlines()
+    return [[cell.strip() for cell in line.strip('|').split('|')] for line in lines if line.startswith('|')][2:]
 
 
-RESERVED = {
-    INFO: reserved('A Integer: AC', 'A String: CIGAR', 'A Float: AF', 'R Integer: AD ADF ADR', '1 String: AA', '1 Integer: AN DP END MQ0 NS',
-                   '1 Float: BQ MQ', '4 Integer: SB', '0 Flag: DB H2 H3 SOMATIC VALIDATED 1000G'),
-    FORMAT: reserved('R Integer: AD ADF ADR', 'A Integer: EC', '1 Integer: DP GQ MQ PQ PS', '1 String: FT GT', '2 Integer: HQ',
-                     'G Float: GL GP', 'G Integer: PL PP'),
-}
+def version_of(text):
+    major, minor = text.split('.')
+    return int(major), int(minor)
+
+
+def reserved(title):
+    """Version -> ID -> the Number and Type that it must have."""
+    tables = {(4, 3): {}, (4, 4): {}, (4, 5): {}}
+    for ids, *cells, _ in page(title):
+        for version, cell in zip(tables, cells):
+            if cell != '–':
+                number, type_ = cell.replace('`', '').encode().split()
+                tables[version].update({id_: (int(number) if number.isdigit() else number, type_) for id_ in ids.encode().split(b', ')})
+    return tables
+
+
+def by_version(tables, version):
+    """What holds in a version: the table of the last version that is not later."""
+    return tables[max(v for v in tables if v <= version)]
+
+
+with open(os.path.join(os.path.dirname(os.path.abspath(__file__)), '..', 'docs', 'RESERVED.md'), encoding='utf-8') as f:
+    RESERVED_PAGE = f.read()
+RESERVED = {INFO: reserved('INFO'), FORMAT: reserved('FORMAT')}
+LETTERS = {kind: {version_of(row[0]): row[column].encode().split() for row in page('Letters of Number')} for kind, column in ((INFO, 1), (FORMAT, 2))}
 
 
 class Refused(Exception):
@@ -216,8 +230,7 @@ def id_tag(record_key, key, version):
 def known_value(kind, name, value, version):
     """What the value of a known field means, integers as numbers."""
     if name == b'Number':
-        letters = LETTERS + (LOCAL_LETTERS if kind == FORMAT and version >= (4, 5) else ())
-        number = value if value in letters else u64(value)
+        number = value if value in by_version(LETTERS[kind], version) else u64(value)
         require(number is not None, 11)
         return number
     if name == b'Type':
@@ -233,7 +246,7 @@ def breaks_reserved(r, version):
     if version < (4, 3) or r.kind not in RESERVED:
         return False
     declared = r.known[b'Number'], r.known[b'Type']
-    return RESERVED[r.kind].get(r.known[b'ID'], declared) != declared
+    return by_version(RESERVED[r.kind], version).get(r.known[b'ID'], declared) != declared
 
 
 # Lines

@@ -269,17 +269,44 @@ def missing():
                  (14, 'contig-missing-id', b'##contig=<length=1,URL=u>')])
 
 
+def declared(key, id_, number, type_):
+    number = b'%d' % number if isinstance(number, int) else number
+    return map_line(key, b'ID=' + id_ + b',Number=' + number + b',Type=' + type_ + b',Description="d"')
+
+
+def reserved_table(key, version, table, lacking):
+    """Every row as it is, with another Number and with another Type; and what the version lacks, declared freely."""
+    name = f'reserved-{key.decode()}-{version}'
+    line = lambda id_, number, type_: declared(key, id_, number, type_)
+    rows(version, [(0, name + '-all', *[line(id_, *row) for id_, row in table.items()])], room=256)
+    rows(version, [(18, f'{name}-{id_.decode()}-number', line(id_, 3, type_)) for id_, (_, type_) in table.items()])
+    rows(version, [(18, f'{name}-{id_.decode()}-type', line(id_, number, b'Character')) for id_, (number, _) in table.items()])
+    rows(version, [(0, name + '-lacking', *[line(id_, 3, b'Character') for id_ in lacking])], room=256)
+
+
 def reserved_ids():
     for key, kind in [(b'INFO', model.INFO), (b'FORMAT', model.FORMAT)]:
-        table = model.RESERVED[kind]
-        shown = lambda number: b'%d' % number if isinstance(number, int) else number
-        line = lambda id_, number, type_: map_line(key, b'ID=' + id_ + b',Number=' + number + b',Type=' + type_ + b',Description="d"')
-        rows('4.3', [(0, f'reserved-{key.decode()}-all', *[line(id_, shown(number), type_) for id_, (number, type_) in table.items()])],
-             room=64)
-        rows('4.3', [(18, f'reserved-{key.decode()}-{id_.decode()}-number', line(id_, b'3', type_)) for id_, (_, type_) in table.items()])
-        rows('4.3', [(18, f'reserved-{key.decode()}-{id_.decode()}-type', line(id_, shown(number), b'Character')) for id_,
-                     (number, _) in table.items()])
-        rows('4.2', [(0, f'reserved-{key.decode()}-before-4.3', *[line(id_, b'3', b'Character') for id_ in table])], room=64)
+        tables = model.RESERVED[kind]
+        every = {id_: row for table in tables.values() for id_, row in table.items()}
+        for version in ('4.3', '4.4', '4.5'):
+            table = tables[model.version_of(version)]
+            reserved_table(key, version, table, [id_ for id_ in every if id_ not in table])
+        last = tables[4, 5]
+        for version in ('4.6', '4.10', '5.0'):
+            rows(version, [(0, f'reserved-{key.decode()}-{version}-all', *[declared(key, id_, *row) for id_, row in last.items()])], room=256)
+            rows(version, [(18, f'reserved-{key.decode()}-{version}-{id_.decode()}', declared(key, id_, 3, type_))
+                           for id_, (_, type_) in last.items()])
+        rows('4.2', [(0, f'reserved-{key.decode()}-before-4.3', *[declared(key, id_, 3, b'Character') for id_ in every])], room=256)
+        for version in ('4.3', '4.4', '4.5'):
+            older = {id_: row for id_, row in tables[4, 3].items() if tables[4, 4].get(id_, row) != row}
+            rows(version, [(0 if version == '4.3' else 18, f'reserved-{key.decode()}-{id_.decode()}-of-4.3-in-{version}', declared(key, id_, *row))
+                           for id_, row in older.items()])
+            rows('4.2', [(0 if version == '4.3' else 18, f'reserved-{key.decode()}-{id_.decode()}-of-4.3-imposed-{version}',
+                          declared(key, id_, *row)) for id_, row in older.items()], imposed=model.version_of(version))
+    rows('4.3', [(0, 'reserved-SVLEN-point-in-4.3', declared(b'INFO', b'SVLEN', b'.', b'Integer')),
+                 (18, 'reserved-SVLEN-A-in-4.3', declared(b'INFO', b'SVLEN', b'A', b'Integer'))])
+    rows('4.4', [(18, 'reserved-SVLEN-point-in-4.4', declared(b'INFO', b'SVLEN', b'.', b'Integer')),
+                 (0, 'reserved-SVLEN-A-in-4.4', declared(b'INFO', b'SVLEN', b'A', b'Integer'))])
     info = b'##INFO=<ID=%s,Number=%s,Type=%s,Description="d">'
     rows('4.3', [
         (18, 'reserved-id-quoted', info % (b'"DP"', b'A', b'Integer')), (18, 'reserved-point', info % (b'DP', b'.', b'Integer')),
@@ -301,16 +328,19 @@ def reserved_ids():
 
 
 def versions():
-    """What changes at 4.3 and 4.5, by the file's own version and by an imposed one."""
-    letters = ('LA', 'LR', 'LG', 'P', 'M')
+    """What changes at 4.3, 4.4 and 4.5, by the file's own version and by an imposed one."""
     line = '##FORMAT=<ID=x,Number=%s,Type=Integer,Description="d">'
-    for letter in letters:
-        rows('4.5', [(0, f'local-{letter}-in-4.5', (line % letter).encode())])
-        rows('4.4', [(11, f'local-{letter}-in-4.4', (line % letter).encode())])
+    letters = {letter: version for version in reversed(model.LETTERS[model.FORMAT]) for letter in model.LETTERS[model.FORMAT][version]}
+    for letter, since in letters.items():
+        for version in ('4.2', '4.3', '4.4', '4.5', '4.6', '5.0'):
+            number = 0 if since <= model.version_of(version) else 11
+            rows(version, [(number, f'letter-{letter.decode()}-in-{version}', line.encode() % letter),
+                           (0 if letter in model.LETTERS[model.INFO][0, 0] else 11, f'letter-{letter.decode()}-of-INFO-in-{version}',
+                            line.replace('FORMAT', 'INFO').encode() % letter)])
     rows('4.5', [(11, 'local-letter-of-info', line.replace('FORMAT', 'INFO').encode() % b'LA'),
                  (11, 'local-letter-twice', line.encode() % b'LALR'), (11, 'local-letter-in-small', line.encode() % b'la'),
                  (0, 'local-letter-quoted', line.encode() % b'"M"')])
-    for version, number in [('4.10', 0), ('5.0', 0), ('4.3', 11), ('4.2', 11), ('3.10', 11)]:
+    for version, number in [('4.10', 0), ('3.10', 11)]:
         rows(version, [(number, 'local-letter-in-' + version, line.encode() % b'P')])
     rows('4.3', [(0, 'local-letter-imposed-4.5', line.encode() % b'LG')], imposed=(4, 5))
     rows('4.5', [(11, 'local-letter-imposed-4.4', line.encode() % b'LG')], imposed=(4, 4))

@@ -356,11 +356,14 @@ const LINES: Tokens = &[
 
 /// Every ID of the tables and some others, under every version, with most pairs of Number and Type.
 fn tables(take: Take<'_>) -> io::Result<()> {
-    const IDS: &str = "AC CIGAR AF AD ADF ADR AA AN DP END MQ0 NS BQ MQ SB DB H2 H3 SOMATIC VALIDATED 1000G EC GQ PQ PS FT GT HQ GL GP PL PP dp DPx";
+    const IDS: &str = "AC CIGAR AF AD ADF ADR AA AN DP END MQ0 NS BQ MQ SB DB H2 H3 SOMATIC VALIDATED 1000G EC GQ PQ PS FT GT HQ \
+        GL GP PL PP IMPRECISE NOVEL SVTYPE SVLEN CIPOS CIEND CILEN HOMLEN HOMSEQ BKPTID MEINFO METRANS DGVID \
+        DBVARID DBRIPID MATEID PARID EVENT DPADJ CN CNADJ CICN CICNADJ EVENTTYPE SVCLAIM RN RUS RUL RB CIRB RUB \
+        RUC CIRUC CNQ CNL CNP NQ HAP AHAP PSL PSO PSQ LEN LAA LAD LADF LADR LEC LGL LGP LPL LPP dp DPx";
     for (major, minor) in VERSIONS {
         for key in ["INFO", "FORMAT"] {
             for id in IDS.split(' ') {
-                for number in ["A", "R", "G", ".", "0", "1", "2", "4", "LA"] {
+                for number in ["A", "R", "G", ".", "0", "1", "2", "4", "P", "LA", "LR", "LG"] {
                     for ty in TYPES.iter().chain(&RARE_TYPES[1..]) {
                         let line = format!("##{key}=<ID={id},Number={number},Type={ty},Description=d>");
                         let header = format!("##fileformat=VCFv{major}.{minor}\n{line}\n").into_bytes();

@@ -4,6 +4,7 @@ pub mod Keys
 pub mod Lists
 pub mod Numbers
 pub mod Definitions
+pub mod Tables
 pub mod Tags
 pub mod Checks
 pub mod Walks

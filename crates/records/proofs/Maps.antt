@@ -3,7 +3,7 @@ use Prim.Native.Nat.{ℕ, _+_, _-_, _≤_, _<_}
 use native.Mathlib.Omega.{arith}
 use mathlib.Core.Path.{_≡_, refl, sym, ap, _∙_}
 use mathlib.Core.Bool.{Bool, true, false, _||_, _&&_}
-use mathlib.Core.List.{[], _∷_}
+use mathlib.Core.List.{List, [], _∷_}
 use lib.Dec.{eqb}
 use lib.ListN.{length, drop, take, getD, drop-of-length-le}
 use borrow.Author.Tests.{eq-eqb, ne-eqb}
@@ -24,6 +24,7 @@ use Rattle.rules.specs.Known.{Kind, isInfo, isFormat, isIn, letters, types}
 use Rattle.records.specs.Refusals.{number}
 use Rattle.records.specs.Tags.{tagRow}
 use Rattle.records.specs.Numbers.{isCount, lettersOf, typesOf}
+use Rattle.records.specs.declared.number.Letters.{Letters}
 use Rattle.records.specs.declared.refusal.Refusal.{Refusal}
 use Rattle.records.specs.declared.refusal.Refusal.the-variants.{InvalidNumber, InvalidType, InvalidInteger}
 use Rattle.records.specs.declared.tag.Tag.{Tag}
@@ -129,10 +130,9 @@ check-refused x b e = rw e
 pub ruleset checks = (check-passed, check-refused)
 
 module _ (v : Version) (kind : Kind) (t : Tag) (s : Bytes) (q : Bool) where
-  pub number-checked : t ≡ Number → {l : Bool} → l ≡ (isFormat kind && since v4-5 v) → {b : Bool} → b ≡ (isCount s || isIn (meaning q s) (lettersOf l)) → {r : ℕ}
+  pub number-checked : t ≡ Number → (l : Letters) → lettersOf l ≡ letters v kind → {b : Bool} → b ≡ (isCount s || isIn (meaning q s) (lettersOf l)) → {r : ℕ}
       → r ≡ unless b (number InvalidNumber) → r ≡ rawRefusal v kind s q (tagRow t)
-  unfolding letters
-  number-checked e f g h = rw e (h ∙ ap (λ (b : Bool). unless b 11) (g ∙ ap (λ (l : Bool). isCount s || isIn (meaning q s) (lettersOf l)) f))
+  number-checked e l f g h = rw e (h ∙ ap (λ (b : Bool). unless b 11) (g ∙ ap (λ (ls : List Bytes). isCount s || isIn (meaning q s) ls) f))
 
   pub type-checked : t ≡ ValueType → {f : Bool} → f ≡ isInfo kind → {b : Bool} → b ≡ isIn (meaning q s) (typesOf f) → {r : ℕ}
       → r ≡ unless b (number InvalidType) → r ≡ rawRefusal v kind s q (tagRow t)

@@ -1,8 +1,10 @@
 -- Number and Type: the code's tests. Assumes nothing.
 use Prim.Native.Nat.{ℕ}
-use mathlib.Core.Path.{_≡_, sym, _∙_}
+use mathlib.Core.Path.{_≡_, refl, sym, ap, _∙_}
 use mathlib.Core.Bool.{Bool, true, false, _||_}
+use mathlib.Core.List.{[], _∷_}
 use lib.Dec.{eqb}
+use borrow.Author.Tests.{eq-eqb, ne-eqb}
 use Rattle.values.specs.Bytes.{Bytes, ascii, same}
 use Rattle.values.specs.Integer.{u64Read}
 use Rattle.values.specs.Value.{meaning}
@@ -10,9 +12,11 @@ use Rattle.values.specs.declared.integer.IntegerRead.{IntegerRead}
 use Rattle.values.specs.declared.integer.IntegerRead.the-variants as integer
 use Rattle.rules.specs.Known.{isIn}
 use Rattle.records.specs.Lists.{listedRow}
-use Rattle.records.specs.Numbers.{isCount, lettersOf, typesOf, isNumberOf, typeName}
+use Rattle.records.specs.Numbers.{isCount, lettersOf, typesOf, lettered, isNumberOf, typeName}
 use Rattle.records.specs.declared.number.Number.{Number}
-use Rattle.records.specs.declared.number.Number.the-variants.{Count, A, R, G}
+use Rattle.records.specs.declared.number.Number.the-variants.{Count, Letter}
+use Rattle.records.specs.declared.number.Letters.{Letters}
+use Rattle.records.specs.declared.number.Letters.the-variants.{Common, Phased, Local}
 use Rattle.records.specs.declared.number.ValueType.{ValueType}
 
 module _ (s : Bytes) {r : IntegerRead} (a : r ≡ u64Read s) where
@@ -23,18 +27,26 @@ module _ (s : Bytes) {r : IntegerRead} (a : r ≡ u64Read s) where
   not-a-count e = rw (sym a ∙ e)
 
 module _ (s : Bytes) (quoted : Bool) {c : Bool} (a : c ≡ isCount s) where
-  pub count-given : (local : Bool) → c ≡ true → true ≡ (isCount s || isIn (meaning quoted s) (lettersOf local))
-  count-given local e = rw (sym a ∙ e)
+  pub count-given : (ls : Letters) → c ≡ true → true ≡ (isCount s || isIn (meaning quoted s) (lettersOf ls))
+  count-given ls e = rw (sym a ∙ e)
 
-  pub local-letter : (local : Bool) → c ≡ false → local ≡ true → {q : Bool} → q ≡ isIn (meaning quoted s) (listedRow (ascii "A,R,G,.,LA,LR,LG,P,M"))
-      → q ≡ (isCount s || isIn (meaning quoted s) (lettersOf local))
-  unfolding listedRow
-  local-letter local e l d = rw (sym a ∙ e, l) d
+  -- `text` lists the letters of this case
+  module _ (ls : Letters) (no : c ≡ false) where
+    lettered-by : {which : Letters} (text : Bytes) → listedRow text ≡ lettersOf which → ls ≡ which → {q : Bool} → q ≡ isIn (meaning quoted s) (listedRow text)
+        → q ≡ (isCount s || isIn (meaning quoted s) (lettersOf ls))
+    lettered-by text t l d = rw (sym a ∙ no, l) (d ∙ ap (isIn (meaning quoted s)) t)
 
-  pub common-letter : (local : Bool) → c ≡ false → local ≡ false → {q : Bool} → q ≡ isIn (meaning quoted s) (listedRow (ascii "A,R,G,."))
-      → q ≡ (isCount s || isIn (meaning quoted s) (lettersOf local))
-  unfolding listedRow
-  common-letter local e l d = rw (sym a ∙ e, l) d
+    pub letter-common : ls ≡ Common → {q : Bool} → q ≡ isIn (meaning quoted s) (listedRow (ascii "A,R,G,.")) → q ≡ (isCount s || isIn (meaning quoted s) (lettersOf ls))
+    unfolding listedRow
+    letter-common l d = lettered-by (ascii "A,R,G,.") refl l d
+
+    pub letter-phased : ls ≡ Phased → {q : Bool} → q ≡ isIn (meaning quoted s) (listedRow (ascii "A,R,G,.,P")) → q ≡ (isCount s || isIn (meaning quoted s) (lettersOf ls))
+    unfolding listedRow
+    letter-phased l d = lettered-by (ascii "A,R,G,.,P") refl l d
+
+    pub letter-local : ls ≡ Local → {q : Bool} → q ≡ isIn (meaning quoted s) (listedRow (ascii "A,R,G,.,P,LA,LR,LG,M")) → q ≡ (isCount s || isIn (meaning quoted s) (lettersOf ls))
+    unfolding listedRow
+    letter-local l d = lettered-by (ascii "A,R,G,.,P,LA,LR,LG,M") refl l d
 
 module _ (s : Bytes) (quoted : Bool) {r : IntegerRead} (a : r ≡ u64Read s) where
   pub same-count : {x : Number} {n : ℕ} → x ≡ Count n → {m : ℕ} → r ≡ integer.Value m → eqb m n ≡ isNumberOf x s quoted
@@ -55,19 +67,21 @@ module _ (s : Bytes) (quoted : Bool) where
   pub type-named : (x : ValueType) {y : ValueType} → x ≡ y → {q : Bool} → q ≡ same (typeName y) (meaning quoted s) → q ≡ same (typeName x) (meaning quoted s)
   type-named x e c = rw e c
 
-  pub letter-A : (x : Number) → x ≡ A → {q : Bool} → q ≡ same (ascii "A") (meaning quoted s) → q ≡ isNumberOf x s quoted
-  letter-A x e c = rw e c
+  pub letter-asked : (x : Number) {a b : ℕ} → x ≡ Letter a b → {q : Bool} → q ≡ same (lettered a b) (meaning quoted s) → q ≡ isNumberOf x s quoted
+  letter-asked x e c = rw e c
 
-  pub letter-R : (x : Number) → x ≡ R → {q : Bool} → q ≡ same (ascii "R") (meaning quoted s) → q ≡ isNumberOf x s quoted
-  letter-R x e c = rw e c
+  pub one-letter : (a b : ℕ) → b ≡ 32 → {q : Bool} → q ≡ same (a ∷ []) (meaning quoted s) → q ≡ same (lettered a b) (meaning quoted s)
+  one-letter a b e c = rw (lettered, eq-eqb b 32 e) c
 
-  pub letter-G : (x : Number) → x ≡ G → {q : Bool} → q ≡ same (ascii "G") (meaning quoted s) → q ≡ isNumberOf x s quoted
-  letter-G x e c = rw e c
+  pub two-letters : (a b : ℕ) → (b ≡ 32 → ⊥) → {q : Bool} → q ≡ same (a ∷ b ∷ []) (meaning quoted s) → q ≡ same (lettered a b) (meaning quoted s)
+  two-letters a b e c = rw (lettered, ne-eqb b 32 e) c
 
 pub ruleset integers = (a-count, not-a-count)
 
-pub ruleset counts = (count-given, local-letter, common-letter)
+pub ruleset counts = (count-given, letter-common, letter-phased, letter-local)
 
 pub ruleset types = (flag-type, plain-type)
 
-pub ruleset numbers = (same-count, no-count, letter-A, letter-R, letter-G)
+pub ruleset numbers = (same-count, no-count, letter-asked)
+
+pub ruleset letterings = (one-letter, two-letters)

@@ -15,8 +15,9 @@ use Rattle.values.proofs.Tests.{pass, fail, test, never}
 use Rattle.rules.specs.Answer.{refuse, unless, first, judged}
 use Rattle.rules.specs.Version.{Version, v4-3, since}
 use Rattle.rules.specs.Known.{kindOf, KnownField, idField, rows, rowNamed, nameOf, required, alwaysMap}
-use Rattle.rules.specs.Reserved.{tableOf, lookRow, reserved}
-use Rattle.rules.specs.Map.{Scan, after, scan, readFields, isMeta, checkFields, isSome, fieldNamed, missing, misdeclared, mapRefusal, readMap}
+use Rattle.rules.specs.Reserved.{reservedPages}
+use Rattle.rules.proofs.Fits.{reserved-none}
+use Rattle.rules.specs.Map.{Scan, after, scan, readFields, isMeta, checkFields, isSome, fieldNamed, valueNamed, missing, misdeclared, mapRefusal, readMap}
 use Rattle.rules.specs.Entry.{textNamed}
 use Rattle.rules.specs.House.{writeFields}
 use Rattle.rules.proofs.Fields.{was-more, was-done, was-wrong, see-after, no-field, a-field, see-field}
@@ -136,9 +137,9 @@ first-pair zero (suc b) e = absurd (omega arith)
 first-pair (suc a) b e = absurd (omega arith)
 
 -- nothing reserved, nothing declared otherwise
-misdeclared-not : (v : Version) (k : Bytes) (fs : List Field) → tableOf (kindOf k) ≡ [] → misdeclared v k fs ≡ 0
-unfolding misdeclared reserved lookRow
-misdeclared-not v k fs e = elim (test (since v4-3 v)) [ pass a ↦ rw (misdeclared, reserved, a, e) | fail a ↦ rw (misdeclared, reserved, a) ]
+misdeclared-not : (v : Version) (k : Bytes) (fs : List Field) → reservedPages (kindOf k) ≡ [] → misdeclared v k fs ≡ 0
+unfolding misdeclared
+misdeclared-not v k fs e = rw (misdeclared, reserved-none v (kindOf k) (valueNamed v k (ascii "ID") fs) e)
 
 judged-first : (v : Version) (k : Bytes) (z : Scan) → scanRefusal v k z ≡ 0 → mapRefusal v k z ≡ first (missing v k (z .0) ∷ misdeclared v k (z .0) ∷ [])
 unfolding mapRefusal first
@@ -254,7 +255,7 @@ module _ (v : Version) (key : MapKey) (s : Bytes) (c : Cursor) {r : FieldsRead} 
       past-id : {rs : List KnownField} → required (kindOf (caseBytes key)) ≡ idField ∷ rs → missing v (caseBytes key) (f .fs) ≡ first (map (asks v (caseBytes key) (f .fs)) rs)
       past-id q = asks-of f q ∙ asked-later (isSome (fieldNamed v (caseBytes key) (ascii "ID") (f .fs))) 14 _ (has f Id (keeps-id (caseBytes key)) i)
 
-      given : missing v (caseBytes key) (f .fs) ≡ 0 → tableOf (kindOf (caseBytes key)) ≡ [] → ParsesMap v key s (c .at) (maps.Map id g)
+      given : missing v (caseBytes key) (f .fs) ≡ 0 → reservedPages (kindOf (caseBytes key)) ≡ [] → ParsesMap v key s (c .at) (maps.Map id g)
       given m t = record {
         is = (f .fs, whole f m ∙ ap (λ (n : ℕ). judged n (f .fs)) (misdeclared-not v (caseBytes key) (f .fs) t), holds f Id (keeps-id (caseBytes key)) i);
       }

@@ -1,22 +1,25 @@
--- Reserved IDs as the code lists them. Assumes nothing.
+-- Reserved IDs as the code has them: texts of rows whose IDs are of one length, an ID, two bytes for its Number, one for its Type. Assumes nothing.
+use Prim.Native.Nat.{ℕ, zero, suc, _+_, _-_}
+use mathlib.Core.Bool.{Bool, true, false, _||_}
 use mathlib.Core.List.{List, [], _∷_}
 use mathlib.Core.Option.{Option, none, some}
-use Rattle.values.specs.Bytes.{Bytes, ascii}
+use lib.Dec.{eqb, ltb}
+use lib.ListN.{length, getD, drop, take}
+use Rattle.values.specs.Bytes.{Bytes}
 use Rattle.rules.specs.Known.{count, letter}
 use Rattle.rules.specs.Known.{Number as Asked}
-use Rattle.rules.specs.Reserved.{ReservedRow, reservedRow}
-use Rattle.records.specs.Lists.{listedRow}
-use Rattle.records.specs.Numbers.{typeName}
+use Rattle.rules.specs.Reserved.{ReservedRow}
+use Rattle.records.specs.Numbers.{lettered, typeName}
 use Rattle.records.specs.declared.number.Number.{Number}
-use Rattle.records.specs.declared.number.Number.the-variants.{Count, A, R, G}
+use Rattle.records.specs.declared.number.Number.the-variants.{Count, Letter}
+use Rattle.records.specs.declared.number.ValueType.{ValueType}
+use Rattle.records.specs.declared.number.ValueType.the-variants.{Integer, Float, Flag, String}
 use Rattle.records.specs.declared.definition.Definition.{Definition}
 use Rattle.records.specs.declared.definition.Definition.the-variants.{Of, Unreserved}
 
 abbrev pub asked : Number → Asked
 asked (Count n) = count n
-asked A = letter (ascii "A")
-asked R = letter (ascii "R")
-asked G = letter (ascii "G")
+asked (Letter a b) = letter (lettered a b)
 
 -- the Number and Type that an ID must have
 abbrev pub definitionMeans : Definition → Option (Asked × Bytes)
@@ -27,34 +30,19 @@ abbrev pub outline : Option ReservedRow → Option (Asked × Bytes)
 outline none = none
 outline (some r) = some (r .number, r .type)
 
-abbrev pub infoCounts : List ReservedRow
-infoCounts =
-    reservedRow (listedRow (ascii "AA")) (count 1) (ascii "String")
-    ∷ reservedRow (listedRow (ascii "AN,DP,END,MQ0,NS")) (count 1) (ascii "Integer")
-    ∷ reservedRow (listedRow (ascii "BQ,MQ")) (count 1) (ascii "Float")
-    ∷ reservedRow (listedRow (ascii "SB")) (count 4) (ascii "Integer")
-    ∷ reservedRow (listedRow (ascii "DB,H2,H3,SOMATIC,VALIDATED,1000G")) (count 0) (ascii "Flag")
-    ∷ []
+-- a digit is a count, anything else a letter
+abbrev pub numberCoded : ℕ → ℕ → Number
+numberCoded a b = elim (ltb a 48 || ltb 57 a) [ true ↦ Letter a b | false ↦ Count (a - 48) ]
 
-abbrev pub infoList : List ReservedRow
-infoList =
-    reservedRow (listedRow (ascii "AC")) (letter (ascii "A")) (ascii "Integer")
-    ∷ reservedRow (listedRow (ascii "CIGAR")) (letter (ascii "A")) (ascii "String")
-    ∷ reservedRow (listedRow (ascii "AF")) (letter (ascii "A")) (ascii "Float")
-    ∷ reservedRow (listedRow (ascii "AD,ADF,ADR")) (letter (ascii "R")) (ascii "Integer")
-    ∷ infoCounts
+-- `I`, `F`, `f`; anything else is a String
+abbrev pub typeCoded : ℕ → ValueType
+typeCoded t = elim (eqb t 73) [ true ↦ Integer | false ↦ elim (eqb t 70) [ true ↦ Float | false ↦ elim (eqb t 102) [ true ↦ Flag | false ↦ String ] ] ]
 
-abbrev pub formatScores : List ReservedRow
-formatScores =
-    reservedRow (listedRow (ascii "HQ")) (count 2) (ascii "Integer")
-    ∷ reservedRow (listedRow (ascii "GL,GP")) (letter (ascii "G")) (ascii "Float")
-    ∷ reservedRow (listedRow (ascii "PL,PP")) (letter (ascii "G")) (ascii "Integer")
-    ∷ []
+-- the row at the front of a text, whose ID has n bytes
+abbrev pub rowCoded : ℕ → Bytes → ReservedRow
+rowCoded n bs = record { id = take n bs; number = asked (numberCoded (getD bs n 0) (getD bs (n + 1) 0)); type = typeName (typeCoded (getD bs (n + 2) 0)) }
 
-abbrev pub formatList : List ReservedRow
-formatList =
-    reservedRow (listedRow (ascii "AD,ADF,ADR")) (letter (ascii "R")) (ascii "Integer")
-    ∷ reservedRow (listedRow (ascii "EC")) (letter (ascii "A")) (ascii "Integer")
-    ∷ reservedRow (listedRow (ascii "DP,GQ,MQ,PQ,PS")) (count 1) (ascii "Integer")
-    ∷ reservedRow (listedRow (ascii "FT,GT")) (count 1) (ascii "String")
-    ∷ formatScores
+-- the rows of a text, at most as many as the first argument says; a rest that is no whole row is none
+unfoldable pub rowsIn : ℕ → ℕ → Bytes → List ReservedRow
+rowsIn zero n bs = []
+rowsIn (suc most) n bs = elim (ltb (length bs) (n + 3)) [ true ↦ [] | false ↦ rowCoded n bs ∷ rowsIn most n (drop (n + 3) bs) ]

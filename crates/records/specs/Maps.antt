@@ -14,7 +14,7 @@ use Rattle.values.specs.declared.string.Text.{Text}
 use Rattle.rules.specs.Answer.{ok, refuse, unless, first, judged}
 use Rattle.rules.specs.Version.{Version}
 use Rattle.rules.specs.Known.{Kind, Reads, KnownField, anyText, aNumber, aType, anInteger, rows, rowNamed, idField, numberField, typeField, descriptionField, isIn, kindOf, required, nameOf, tagOf, letters, types, alwaysMap}
-use Rattle.rules.specs.Reserved.{tableOf}
+use Rattle.rules.specs.Reserved.{reservedPages}
 use Rattle.rules.specs.Map.{After, more, done, wrong, after, Scan, scan, readFields, isMeta, knownNamed, checkFields, valueNamed, misdeclared, readMap}
 use Rattle.rules.specs.Entry.{textNamed}
 use Rattle.records.specs.Refusals.{number}
@@ -255,11 +255,11 @@ pub record ParsesMap (v : Version) (key : MapKey) (s : Bytes) (at : ℕ) (r : Ma
 -- the kinds in which the ID alone is required, and those with a Description too; neither has reserved IDs
 pub record Identified (key : MapKey) : Type 0 where
   pub needs : required (kindOf (caseBytes key)) ≡ idField ∷ []
-  pub free : tableOf (kindOf (caseBytes key)) ≡ []
+  pub free : reservedPages (kindOf (caseBytes key)) ≡ []
 
 pub record Described (key : MapKey) : Type 0 where
   pub needs : required (kindOf (caseBytes key)) ≡ idField ∷ descriptionField ∷ []
-  pub free : tableOf (kindOf (caseBytes key)) ≡ []
+  pub free : reservedPages (kindOf (caseBytes key)) ≡ []
   pub known : rowNamed (ascii "Description") (rows (kindOf (caseBytes key))) ≡ some descriptionField
 
 -- INFO and FORMAT: the ID, a Number, a Type and a Description are required

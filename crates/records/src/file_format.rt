@@ -14,6 +14,8 @@ pub struct FileFormat {
 impl FileFormat {
     pub const V4_3: FileFormat = FileFormat { major: 4, minor: 3 };
 
+    pub const V4_4: FileFormat = FileFormat { major: 4, minor: 4 };
+
     pub const V4_5: FileFormat = FileFormat { major: 4, minor: 5 };
 
     pub fn new(major: u32, minor: u32) -> FileFormat

@@ -5,6 +5,7 @@ use crate::file_format::FileFormat;
 use crate::key::MapContext;
 use crate::key::MapKey;
 use crate::number;
+use crate::number::Letters;
 use crate::refusal::Refusal;
 use crate::tag;
 use crate::tag::Tag;
@@ -14,15 +15,14 @@ use values::field::FieldRead;
 use values::field::Separator;
 use values::string::Text;
 ghost use mathlib.Core.Path.{_≡_};
-ghost use mathlib.Core.Bool.{_&&_};
 ghost use lib.ListN.{drop};
 ghost use Rattle.rules.specs.Answer.{unless};
-ghost use Rattle.rules.specs.Version.{v4-5, since};
-ghost use Rattle.rules.specs.Known.{isFormat, alwaysMap};
+ghost use Rattle.rules.specs.Known.{letters, alwaysMap};
 ghost use Rattle.rules.specs.Record.{looksMap};
 ghost use Rattle.records.specs.Formats.{versionOf};
 ghost use Rattle.records.specs.Refusals.{number};
 ghost use Rattle.records.specs.Keys.{caseBytes, kindBy};
+ghost use Rattle.records.specs.Numbers.{lettersOf};
 ghost use Rattle.records.specs.Tags.{tagRow};
 ghost use Rattle.records.specs.Maps.{opensAt, closesAt, afterAt, checkNumber, rawRefusal, noSlots, get, putSlot, mixed, HasKey, Repeats, TakesField, ReadsField, WalksFields, bareAt, ReadsFields, OpensMap, Identified, Described, ParsesMap};
 
@@ -149,14 +149,19 @@ fn pass_or(passed: bool, refusal: Refusal) -> Check
 }
 
 impl MapKey {
-    // FORMAT from 4.5 has more letters.
-    fn has_local_letters(self, version: FileFormat) -> bool
-        ensures { λ r. ⌜ r ≡ (isFormat (kindBy self) && since v4-5 (versionOf version)) ⌝ }
+    fn letters(self, version: FileFormat) -> Letters
+        ensures { λ r. ⌜ lettersOf r ≡ letters (versionOf version) (kindBy self) ⌝ }
     {
         if !self.is_format() {
-            return false;
+            return Letters::Common;
         }
-        !version.lt(FileFormat::V4_5)
+        if version.lt(FileFormat::V4_4) {
+            return Letters::Common;
+        }
+        if version.lt(FileFormat::V4_5) {
+            return Letters::Phased;
+        }
+        Letters::Local
     }
 
     // Number, Type, IDX and length have rules of their own.
@@ -166,8 +171,11 @@ impl MapKey {
         match tag {
             Tag::Id => Check::Passed,
             Tag::Number => {
-                let local = self.has_local_letters(version);
-                pass_or(number::is_number(s, quoted, local), Refusal::InvalidNumber)
+                let letters = self.letters(version);
+                pass_or(
+                    number::is_number(s, quoted, letters),
+                    Refusal::InvalidNumber,
+                )
             }
             Tag::ValueType => {
                 let flag = self.is_info();

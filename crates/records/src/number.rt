@@ -8,14 +8,19 @@ ghost use mathlib.Core.Bool.{_||_};
 ghost use Rattle.values.specs.Bytes.{same};
 ghost use Rattle.values.specs.Value.{meaning};
 ghost use Rattle.rules.specs.Known.{isIn};
-ghost use Rattle.records.specs.Numbers.{isCount, lettersOf, typesOf, isNumberOf, typeName};
+ghost use Rattle.records.specs.Numbers.{isCount, lettersOf, typesOf, lettered, isNumberOf, typeName};
 
-// What a reserved ID asks of a Number.
+// What a reserved ID asks of a Number: a count, or a letter of two bytes, of which the second is a blank where it has one.
 pub enum Number {
     Count(u64),
-    A,
-    R,
-    G,
+    Letter(u8, u8),
+}
+
+// The letters that a Number may be: those of every version, those of FORMAT in 4.4, and from 4.5 on.
+pub enum Letters {
+    Common,
+    Phased,
+    Local,
 }
 
 pub enum ValueType {
@@ -36,17 +41,18 @@ pub fn is_count(s: &[u8]) -> bool
     }
 }
 
-// A count, or a letter; `local`: FORMAT from 4.5, which has more letters.
-pub fn is_number(s: &[u8], quoted: bool, local: bool) -> bool
-    ensures { λ r. ⌜ r ≡ (isCount (now (s .entry)) || isIn (meaning quoted (now (s .entry))) (lettersOf local)) ⌝ }
+// A count, or one of the letters.
+pub fn is_number(s: &[u8], quoted: bool, letters: Letters) -> bool
+    ensures { λ r. ⌜ r ≡ (isCount (now (s .entry)) || isIn (meaning quoted (now (s .entry))) (lettersOf letters)) ⌝ }
 {
     if is_count(s) {
         return true;
     }
-    if local {
-        return list::is_listed(b"A,R,G,.,LA,LR,LG,P,M", s, quoted);
+    match letters {
+        Letters::Common => list::is_listed(b"A,R,G,.", s, quoted),
+        Letters::Phased => list::is_listed(b"A,R,G,.,P", s, quoted),
+        Letters::Local => list::is_listed(b"A,R,G,.,P,LA,LR,LG,M", s, quoted),
     }
-    list::is_listed(b"A,R,G,.", s, quoted)
 }
 
 // `flag`: INFO, which has Flag too.
@@ -57,6 +63,17 @@ pub fn is_type(s: &[u8], quoted: bool, flag: bool) -> bool
         return list::is_listed(b"Integer,Float,Character,String,Flag", s, quoted);
     }
     list::is_listed(b"Integer,Float,Character,String", s, quoted)
+}
+
+fn is_letter(a: u8, b: u8, s: &[u8], quoted: bool) -> bool
+    ensures { λ r. ⌜ r ≡ same (lettered a b) (meaning quoted (now (s .entry))) ⌝ }
+{
+    if b == b' ' {
+        let one = [a];
+        return string::same_meaning(&one, false, s, quoted);
+    }
+    let two = [a, b];
+    string::same_meaning(&two, false, s, quoted)
 }
 
 impl Number {
@@ -70,9 +87,7 @@ impl Number {
                 };
                 m == n
             }
-            Number::A => string::same_meaning(b"A", false, s, quoted),
-            Number::R => string::same_meaning(b"R", false, s, quoted),
-            Number::G => string::same_meaning(b"G", false, s, quoted),
+            Number::Letter(a, b) => is_letter(a, b, s, quoted),
         }
     }
 }

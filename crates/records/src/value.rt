@@ -53,10 +53,8 @@ fn validate_definition(
 ) -> bool
     ensures { λ r. ⌜ Declared (versionOf version) key (now (s .entry)) id number kind r ⌝ }
 {
-    if version.lt(FileFormat::V4_3) {
-        return true;
-    }
-    let definition = definition::definition_of(key, bytes::part(s, id.start, id.end), id.quoted);
+    let named = bytes::part(s, id.start, id.end);
+    let definition = definition::definition_of(version, key, named, id.quoted);
     let n = bytes::part(s, number.start, number.end);
     let t = bytes::part(s, kind.start, kind.end);
     is_defined(definition, n, number.quoted, t, kind.quoted)

@@ -12,9 +12,9 @@ use Rattle.values.specs.declared.integer.IntegerRead.the-variants as integer
 use Rattle.values.proofs.Tests.{pass, fail, test, or-l, or-r, and-l, and-r, not-false, both}
 use Rattle.values.proofs.Lists.{OnSome}
 use Rattle.rules.specs.Answer.{unless, first}
-use Rattle.rules.specs.Version.{Version, v4-3, since}
+use Rattle.rules.specs.Version.{Version, v4-3, since, atVersion}
 use Rattle.rules.specs.Known.{Kind, INFO, FILTER, FORMAT, ALT, contig, other, kindOf, isIn, Reads, KnownField, anyText, aNumber, aType, anInteger, rows, required, known, numeric, rowNamed, nameOf, readNumber, count}
-use Rattle.rules.specs.Reserved.{tableOf, lookRow, reserved}
+use Rattle.rules.specs.Reserved.{reservedPages, lookRow, reserved}
 use Rattle.rules.specs.Map.{isSome, isMeta, misread, valueRefusal, knownNamed, fieldNamed, meaningOfField as valueIn, valueNamed, missing, misdeclared}
 use Rattle.rules.specs.Meaning.{Known, knownValue, knownOf, others}
 use Rattle.rules.specs.House.{closes, isValues, isWrittenQuoted, writeField, writeKnown, keyWritten, knownFields, otherFields}
@@ -174,9 +174,9 @@ required-known ALT = (refl, (refl, tt))
 required-known contig = (refl, tt)
 required-known other = (refl, tt)
 
-reserved-none : (v : Version) (kind : Kind) (id : Bytes) → tableOf kind ≡ [] → reserved v kind id ≡ none
-unfolding reserved lookRow
-reserved-none v kind id e = elim (test (since v4-3 v)) [ pass q ↦ rw (reserved, q, e) | fail q ↦ rw (reserved, q) ]
+pub reserved-none : (v : Version) (kind : Kind) (id : Bytes) → reservedPages kind ≡ [] → reserved v kind id ≡ none
+unfolding reserved lookRow atVersion
+reserved-none v kind id e = rw (reserved, e)
 
 -- The values of known names
 
@@ -219,8 +219,8 @@ module _ (v : Version) (k : Bytes) (fs : List Field) where
   unfolding misdeclared isIn same
   declared-tidy h = go (kindOf k) refl
     where
-      tableless : (kind : Kind) → kindOf k ≡ kind → tableOf kind ≡ [] → misdeclared v k (tidy v k fs) ≡ 0
-      tableless kind e t = rw (reserved-none v (kindOf k) (valueNamed v k (ascii "ID") (tidy v k fs)) (ap tableOf e ∙ t))
+      tableless : (kind : Kind) → kindOf k ≡ kind → reservedPages kind ≡ [] → misdeclared v k (tidy v k fs) ≡ 0
+      tableless kind e t = rw (reserved-none v (kindOf k) (valueNamed v k (ascii "ID") (tidy v k fs)) (ap reservedPages e ∙ t))
 
       tabled : (kind : Kind) → kindOf k ≡ kind → isIn (ascii "ID") (known kind) ≡ true → isIn (ascii "Number") (known kind) ≡ true → isIn (ascii "Type") (known kind) ≡ true
           → isIn (ascii "ID") (numeric kind) ≡ false → isIn (ascii "Type") (numeric kind) ≡ false → misdeclared v k (tidy v k fs) ≡ 0

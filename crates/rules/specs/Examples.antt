@@ -13,7 +13,7 @@ use Rattle.values.specs.Field.{writtenField, readKey, readField}
 use Rattle.rules.specs.Answer.{first}
 use Rattle.rules.specs.Sizes.{limits}
 use Rattle.rules.specs.Lines.{pieces, ends, dropEnd, lineOf, writeLine, writeLines}
-use Rattle.rules.specs.Version.{Version, version, earlier, readParts, readVersion, writeVersion}
+use Rattle.rules.specs.Version.{Version, version, earlier, atVersion, readParts, readVersion, writeVersion}
 use Rattle.rules.specs.Known.{INFO, FILTER, ALT, contig, other, isIn, isTyped, kindOf, alwaysMap, rowNamed, namesId, nameOf, letters, types, readNumber}
 use Rattle.rules.specs.Reserved.{lookRow, reserved}
 use Rattle.rules.specs.Map.{after, scan, readFields, checkFields, fieldNamed, missing, misdeclared, mapRefusal, readMap}
@@ -27,7 +27,7 @@ use Rattle.rules.specs.Report.{report}
 
 -- what the definitions need to compute
 unfoldable pub opened : Unit {0}
-unfolding begins any before from same completes followers unsignedRead withoutSign numberOf decimal digitsOf written unescaped quotedText readValues readValue escape writtenField readKey readField first pieces ends dropEnd lineOf writeLine writeLines earlier starts readParts readVersion writeVersion isIn isTyped kindOf alwaysMap namesId nameOf letters types readNumber lookRow reserved after scan readFields rowNamed checkFields fieldNamed missing misdeclared mapRefusal readMap looksMap readRecordValue readKeyed readRecord split afterColumns distinct readColumns textNamed recordEntry tabbed samplesStart sampleEntries columnEntries beside clash stepText step run reading knownValue others saying under without otherKeys groups headerMeaning closes isWrittenQuoted knownFields otherFields recordOf recordsOf writeMore writeFields writeRecord parted writeColumns houseLines houseForm tooLong formAnswer house report
+unfolding begins any before from same completes followers unsignedRead withoutSign numberOf decimal digitsOf written unescaped quotedText readValues readValue escape writtenField readKey readField first pieces ends dropEnd lineOf writeLine writeLines earlier starts readParts readVersion writeVersion isIn isTyped kindOf alwaysMap namesId nameOf atVersion letters types readNumber lookRow reserved after scan readFields rowNamed checkFields fieldNamed missing misdeclared mapRefusal readMap looksMap readRecordValue readKeyed readRecord split afterColumns distinct readColumns textNamed recordEntry tabbed samplesStart sampleEntries columnEntries beside clash stepText step run reading knownValue others saying under without otherKeys groups headerMeaning closes isWrittenQuoted knownFields otherFields recordOf recordsOf writeMore writeFields writeRecord parted writeColumns houseLines houseForm tooLong formAnswer house report
 opened = tt
 
 -- a header, the version imposed, the entries that the table has room for and the output's bytes

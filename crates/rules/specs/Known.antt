@@ -8,7 +8,7 @@ use Rattle.values.specs.Bytes.{Bytes, ascii, same}
 use Rattle.values.specs.Integer.{u64Read}
 use Rattle.values.specs.declared.integer.IntegerRead.{IntegerRead}
 use Rattle.values.specs.declared.integer.IntegerRead.the-variants as integer
-use Rattle.rules.specs.Version.{Version, v4-3, v4-5, since, earlier}
+use Rattle.rules.specs.Version.{Version, v4-3, v4-4, v4-5, earlier, atVersion}
 
 pub data Kind : Type 0 where
   INFO FILTER FORMAT ALT contig other : Kind
@@ -148,12 +148,24 @@ isFormat ALT = false
 isFormat contig = false
 isFormat other = false
 
--- FORMAT from 4.5 has more
+-- every version has these
+abbrev pub commonLetters : List Bytes
+commonLetters = ascii "A" ∷ ascii "R" ∷ ascii "G" ∷ ascii "." ∷ []
+
+-- the letters of each version, from the version on that lists them
+abbrev pub letterPages : Kind → List (Version × List Bytes)
+letterPages FORMAT =
+    (v4-5, commonLetters ++ ascii "P" ∷ ascii "LA" ∷ ascii "LR" ∷ ascii "LG" ∷ ascii "M" ∷ [])
+    ∷ (v4-4, commonLetters ++ ascii "P" ∷ [])
+    ∷ []
+letterPages INFO = []
+letterPages FILTER = []
+letterPages ALT = []
+letterPages contig = []
+letterPages other = []
+
 unfoldable pub letters : Version → Kind → List Bytes
-letters v kind = (ascii "A" ∷ ascii "R" ∷ ascii "G" ∷ ascii "." ∷ []) ++ elim (isFormat kind && since v4-5 v) [
-  | true ↦ ascii "LA" ∷ ascii "LR" ∷ ascii "LG" ∷ ascii "P" ∷ ascii "M" ∷ []
-  | false ↦ []
-]
+letters v kind = atVersion commonLetters (letterPages kind) v
 
 -- INFO has Flag too
 unfoldable pub types : Kind → List Bytes

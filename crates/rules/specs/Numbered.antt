@@ -124,3 +124,35 @@ formed =
 pub formed-cases : map (λ (c : Bytes × Bytes). house limits none 9 999 (c .0) .form) formed ≡ map (λ (c : Bytes × Bytes). c .1) formed
 unfolding opened
 formed-cases = refl
+
+-- a line under a version, and the number of its refusal; 26, since no column line follows, where it is accepted
+abbrev pub versioned : List (String × String × ℕ)
+versioned =
+    -- SVLEN before 4.3, in 4.3, from 4.4 on, and in versions that are not listed
+    ("##fileformat=VCFv4.2\n", "##INFO=<ID=SVLEN,Number=2,Type=Float,Description=>", 26)
+    ∷ ("##fileformat=VCFv4.3\n", "##INFO=<ID=SVLEN,Number=.,Type=Integer,Description=>", 26)
+    ∷ ("##fileformat=VCFv4.3\n", "##INFO=<ID=SVLEN,Number=A,Type=Integer,Description=>", 18)
+    ∷ ("##fileformat=VCFv4.4\n", "##INFO=<ID=SVLEN,Number=.,Type=Integer,Description=>", 18)
+    ∷ ("##fileformat=VCFv4.4\n", "##INFO=<ID=SVLEN,Number=A,Type=Integer,Description=>", 26)
+    ∷ ("##fileformat=VCFv4.10\n", "##INFO=<ID=SVLEN,Number=.,Type=Integer,Description=>", 18)
+    ∷ ("##fileformat=VCFv5.0\n", "##INFO=<ID=SVLEN,Number=A,Type=Integer,Description=>", 26)
+    -- a row that a version drops, and one that a version adds
+    ∷ ("##fileformat=VCFv4.3\n", "##INFO=<ID=DPADJ,Number=1,Type=Integer,Description=>", 18)
+    ∷ ("##fileformat=VCFv4.4\n", "##INFO=<ID=DPADJ,Number=1,Type=Integer,Description=>", 26)
+    ∷ ("##fileformat=VCFv4.4\n", "##FORMAT=<ID=LAA,Number=1,Type=Integer,Description=>", 26)
+    ∷ ("##fileformat=VCFv4.5\n", "##FORMAT=<ID=LAA,Number=1,Type=Integer,Description=>", 18)
+    -- the row is that of the line's kind
+    ∷ ("##fileformat=VCFv4.5\n", "##FORMAT=<ID=CN,Number=1,Type=Float,Description=>", 26)
+    ∷ ("##fileformat=VCFv4.5\n", "##INFO=<ID=CN,Number=1,Type=Float,Description=>", 18)
+    -- P from 4.4, LA, LR, LG and M from 4.5, in FORMAT alone
+    ∷ ("##fileformat=VCFv4.3\n", "##FORMAT=<Number=P,Type=Q>", 11)
+    ∷ ("##fileformat=VCFv4.4\n", "##FORMAT=<Number=P,Type=Q>", 12)
+    ∷ ("##fileformat=VCFv4.4\n", "##FORMAT=<Number=M,Type=Q>", 11)
+    ∷ ("##fileformat=VCFv4.5\n", "##FORMAT=<Number=M,Type=Q>", 12)
+    ∷ ("##fileformat=VCFv4.5\n", "##INFO=<Number=P,Type=Q>", 11)
+    ∷ []
+
+pub versioned-cases : map (λ (c : String × String × ℕ). placeOf (onHeader (ascii (c .0) ++ ascii (c .1))) .0) versioned
+    ≡ map (λ (c : String × String × ℕ). c .2) versioned
+unfolding opened
+versioned-cases = refl

@@ -1,7 +1,7 @@
 -- Document 01, "Lines" and "Records": versions. Assumes nothing.
 use Prim.Native.Nat.{ℕ}
 use mathlib.Core.Bool.{Bool, true, false, not, _||_, _&&_}
-use mathlib.Core.List.{_∷_, _++_, tail}
+use mathlib.Core.List.{List, [], _∷_, _++_, tail}
 use mathlib.Core.Option.{Option, none, some}
 use lib.Dec.{eqb, ltb}
 use lib.ListN.{drop}
@@ -20,6 +20,9 @@ version a b = record { major = a; minor = b }
 abbrev pub v4-3 : Version
 v4-3 = version 4 3
 
+abbrev pub v4-4 : Version
+v4-4 = version 4 4
+
 abbrev pub v4-5 : Version
 v4-5 = version 4 5
 
@@ -30,6 +33,11 @@ earlier a b = ltb (a .major) (b .major) || (eqb (a .major) (b .major) && ltb (a 
 -- from w on
 abbrev pub since : Version → Version → Bool
 since w v = not (earlier v w)
+
+-- what goes by version: pages, the latest first, each from its version on; before all of them, the first argument
+unfoldable pub atVersion : {A : Type 0} → A → List (Version × A) → Version → A
+atVersion before [] v = before
+atVersion before (p ∷ ps) v = elim (since (p .0) v) [ true ↦ p .1 | false ↦ atVersion before ps v ]
 
 -- the file's version, or the one that the caller imposed
 abbrev pub inForce : Option Version → Version → Version

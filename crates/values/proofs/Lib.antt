@@ -17,3 +17,4 @@ pub mod Fields
 pub mod Places
 pub mod Escapes
 pub mod Raws
+pub mod Plains

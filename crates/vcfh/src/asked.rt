@@ -2,16 +2,26 @@
 use crate::say;
 use records::definition;
 use records::definition::Definition;
+use records::file_format::FileFormat;
 use records::key;
 use records::number::Number;
 use records::number::ValueType;
 
+// A letter of one byte has a blank behind it.
+fn say_letter(a: u8, b: u8) {
+    if b == b' ' {
+        let one = [a];
+        say::text(2, &one);
+        return;
+    }
+    let two = [a, b];
+    say::text(2, &two);
+}
+
 fn say_number(number: Number) {
     match number {
         Number::Count(n) => say::decimal(2, n),
-        Number::A => say::text(2, b"A"),
-        Number::R => say::text(2, b"R"),
-        Number::G => say::text(2, b"G"),
+        Number::Letter(a, b) => say_letter(a, b),
     }
 }
 
@@ -25,9 +35,9 @@ fn say_type(kind: ValueType) {
     }
 }
 
-// The Number and Type of an ID under a key.
-pub fn say_asked(name: &[u8], id: &[u8], quoted: bool) {
-    match definition::definition_of(key::map_key_of(name), id, quoted) {
+// The Number and Type of an ID under a key, in a version.
+pub fn say_asked(version: FileFormat, name: &[u8], id: &[u8], quoted: bool) {
+    match definition::definition_of(version, key::map_key_of(name), id, quoted) {
         Definition::Of(number, kind) => {
             say::text(2, b"Number=");
             say_number(number);

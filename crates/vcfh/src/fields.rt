@@ -239,6 +239,6 @@ pub fn say_mismatch(l: &[u8], version: FileFormat) {
     say::text(2, b", but VCF ");
     say_version(version);
     say::text(2, b" reserves it with ");
-    asked::say_asked(key_of(l), name, id.quoted);
+    asked::say_asked(version, key_of(l), name, id.quoted);
     say::text(2, b"\n");
 }

@@ -4,64 +4,64 @@ use Rattle.records.proofs.key.MapKey.check_value.Statement.{statement}
 use Rattle.records.proofs.key.MapKey.check_value.Tie as tie
 
 enum-told : tie.Need-enum-told
-enum-told c = search (values, needs)
+enum-told c = search needs
 
 enum-told-2 : tie.Need-enum-told-2
-enum-told-2 c = search (values, needs)
+enum-told-2 c = search needs
 
-has-local-letters-requires : tie.Need-has-local-letters-requires
-has-local-letters-requires c κs = search (values, needs)
+letters-requires : tie.Need-letters-requires
+letters-requires c κs = search needs
 
 is-number-requires : tie.Need-is-number-requires
-is-number-requires c κs = search (values, needs)
+is-number-requires c κs = search needs
 
 pass-or-requires : tie.Need-pass-or-requires
-pass-or-requires c κs = search (values, needs)
+pass-or-requires c κs = search needs
 
 enum-told-3 : tie.Need-enum-told-3
-enum-told-3 c = search (values, needs)
+enum-told-3 c = search needs
 
 is-info-requires : tie.Need-is-info-requires
-is-info-requires c κs = search (values, needs)
+is-info-requires c κs = search needs
 
 is-type-requires : tie.Need-is-type-requires
-is-type-requires c κs = search (values, needs)
+is-type-requires c κs = search needs
 
 pass-or-requires-2 : tie.Need-pass-or-requires-2
-pass-or-requires-2 c κs = search (values, needs)
+pass-or-requires-2 c κs = search needs
 
 enum-told-4 : tie.Need-enum-told-4
-enum-told-4 c = search (values, needs)
+enum-told-4 c = search needs
 
 enum-told-5 : tie.Need-enum-told-5
-enum-told-5 c = search (values, needs)
+enum-told-5 c = search needs
 
 is-count-requires : tie.Need-is-count-requires
-is-count-requires c κs = search (values, needs)
+is-count-requires c κs = search needs
 
 pass-or-requires-3 : tie.Need-pass-or-requires-3
-pass-or-requires-3 c κs = search (values, needs)
+pass-or-requires-3 c κs = search needs
 
 enum-told-6 : tie.Need-enum-told-6
-enum-told-6 c = search (values, needs)
+enum-told-6 c = search needs
 
 enum-told-7 : tie.Need-enum-told-7
-enum-told-7 c = search (values, needs)
+enum-told-7 c = search needs
 
 enum-told-8 : tie.Need-enum-told-8
-enum-told-8 c = search (values, needs)
+enum-told-8 c = search needs
 
 is-count-requires-2 : tie.Need-is-count-requires-2
-is-count-requires-2 c κs = search (values, needs)
+is-count-requires-2 c κs = search needs
 
 pass-or-requires-4 : tie.Need-pass-or-requires-4
-pass-or-requires-4 c κs = search (values, needs)
+pass-or-requires-4 c κs = search needs
 
 enum-told-9 : tie.Need-enum-told-9
-enum-told-9 c = search (values, needs)
+enum-told-9 c = search needs
 
 returns : tie.Need-returns
-returns c = search (values, needs)
+returns c = search needs
 
 returns-2 : tie.Need-returns-2
 returns-2 c = search (values, needs)
@@ -70,22 +70,22 @@ returns-3 : tie.Need-returns-3
 returns-3 c = search (values, needs)
 
 returns-4 : tie.Need-returns-4
-returns-4 c = search (values, needs)
+returns-4 c = search needs
 
 returns-5 : tie.Need-returns-5
 returns-5 c = search (values, needs)
 
 returns-6 : tie.Need-returns-6
-returns-6 c = search (values, needs)
+returns-6 c = search needs
 
 returns-7 : tie.Need-returns-7
-returns-7 c = search (values, needs)
+returns-7 c = search needs
 
 returns-8 : tie.Need-returns-8
 returns-8 c = search (values, needs)
 
 returns-9 : tie.Need-returns-9
-returns-9 c = search (values, needs)
+returns-9 c = search needs
 
 pub check-value-spec : {M : Type 1} → statement M
 check-value-spec =
@@ -93,7 +93,7 @@ check-value-spec =
     (tie.spec
     enum-told
     enum-told-2
-    has-local-letters-requires
+    letters-requires
     is-number-requires
     pass-or-requires
     enum-told-3

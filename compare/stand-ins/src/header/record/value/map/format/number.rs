@@ -1,5 +1,5 @@
-// Stand-in: this file is not among the sources given. Written from document 01, for the comparison alone.
-//! A count, or A, R, G, `.`; from 4.5 also LA, LR, LG, P, M.
+// Stand-in: this file is not among the sources given. Written from documents 01 and 02, for the comparison alone.
+//! A count, or A, R, G, `.`; from 4.4 also P, from 4.5 LA, LR, LG, M.
 
 #[derive(Clone, Copy, Debug, Eq, PartialEq)]
 pub enum Number {

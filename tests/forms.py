@@ -2,6 +2,7 @@
 """Makes the recorded house forms, crates/cases/data/forms, and the input and output of crates/vcfhouse, from model.py. A name
 begins with the number that the case must answer; asked are the version imposed (own: none), the table's words and the output's
 bytes. Of every form it sees that it is its own form and means what its header means."""
+import itertools
 import os
 import random
 
@@ -39,6 +40,18 @@ def differ(name, *headers):
     """Headers of which no two mean the same."""
     forms = {add(0, f'unlike-{name}-{index}', header) for index, header in enumerate(headers, 1)}
     assert len(forms) == len(headers), name
+
+
+def exchanged(name, upper, lower, alike=True, number=0, above=text(F), below=text(COLS), **asked):
+    """Document 02, §12: two neighbouring lines in both orders, each with its own ending. Where they may change places the answers are
+    alike in all but the entries' order; where nothing is claimed the forms differ."""
+    answers = []
+    for index, header in enumerate((above + upper + lower + below, above + lower + upper + below), 1):
+        case = f'exchanged-{name}-{index}'
+        add(number, case, header, **asked)
+        answer = CASES[f'{number}-{case}'][-1]
+        answers.append((answer.line, answer.start, len(answer.entries), answer.form))
+    assert (answers[0] == answers[1]) == alike, name
 
 
 def of(*lines, version='4.3', columns=COLS):
@@ -137,6 +150,36 @@ def many_forms():
     differ('values-version', of(b'##META=<ID=x,Values="[a">'), of(b'##META=<ID=x,Values="[a">', version='4.2'))
     differ('kinds-of-one-map',
            *[of(map_line(key, GOOD[b'INFO'])) for key in (b'INFO', b'FORMAT', b'FILTER', b'ALT', b'contig', b'a', b'META')])
+
+
+def exchanges():
+    typed = {key.decode(): text(map_line(key, GOOD[key])) for key in (b'INFO', b'FILTER', b'FORMAT', b'ALT', b'contig')}
+    other = {'text': text(b'##a=b'), 'map': text(b'##a=<ID=x>'), 'META': text(b'##META=<ID=x>'), 'PEDIGREE': text(b'##PEDIGREE=<ID=x>')}
+    for first, second in itertools.combinations(typed, 2):
+        exchanged(f'{first}-{second}', typed[first], typed[second])
+    for first, second in itertools.product(typed, other):
+        exchanged(f'{first}-{second}', typed[first], other[second])
+    for first, second in itertools.combinations(other, 2):
+        if (first, second) != ('text', 'map'):  # one key has texts or maps: 20
+            exchanged(f'{first}-{second}', other[first], other[second], alike=False)
+    exchanged('texts', b'##a=1\n', b'##b=1\n', alike=False)
+    exchanged('texts-of-one-key', b'##a=1\n', b'##a=2\n', alike=False)
+    exchanged('maps', b'##a=<ID=x>\n', b'##b=<ID=x>\n', alike=False)
+    for key in typed:
+        exchanged(f'two-{key}', typed[key], typed[key].replace(b'ID=x', b'ID=y'), alike=False)
+    info, contig = typed['INFO'], typed['contig']
+    exchanged('crlf-upper', info.replace(b'\n', b'\r\n'), contig)
+    exchanged('crlf-lower', info, contig.replace(b'\n', b'\r\n'))
+    exchanged('text-with-cr', b'##a=b\r\r\n', contig)
+    exchanged('last-line-without-lf', contig, info, below=COLS)
+    exchanged('child-before-4.3', b'##PEDIGREE=<Child=x>\n', contig, above=text(F.replace(b'4.3', b'4.2')))
+    exchanged('imposed', b'##a=<K=x>\n', contig, imposed=(4, 2))
+    between = {'above': text(F, b'##b=1', b'##contig=<ID=y>', b'##a=c'), 'below': text(b'##contig=<ID=z>', b'##a=d', b'##b=2', COLS)}
+    exchanged('between', contig, b'##a=b\n', **between)
+    exchanged('between-typed', contig, info, **between)
+    form = model.house(text(F) + contig + info + text(COLS)).form
+    for output in (len(form), len(form) - 1):
+        exchanged(f'output-{output}-of-{len(form)}', contig, info, number=0 if output == len(form) else 28, room=8, output=output)
 
 
 def refusals():
@@ -239,7 +282,7 @@ def answer_lines(answer):
     return first.encode() + (form if len(form) <= 2048 else form[-64:])
 
 
-for group in (one_form, many_forms, refusals, limits, drawn, compared):
+for group in (one_form, many_forms, exchanges, refusals, limits, drawn, compared):
     group()
 assert model.house(QUOTED_EXAMPLE).form == EXAMPLE
 record.write('forms', [(name, words('form', imposed, room, output), record.stretched(header, length), answer_lines(answer))

@@ -64,13 +64,13 @@ pub form-answered : (a : ReadAnswer) (f : FileFormat) → f .major < 4294967296 
 form-answered a f i j w e = record { form = _; writes = w; answers = e; sized = record { major = omega arith; minor = omega arith } }
 
 -- an accepted reading: the version in force is that of the answer
-record Read (r : Reading) (v : Version) (n : ℕ) : Type 0 where
-  records : List Record
-  columns : Columns
-  accepted : Accepted v records columns r
-  samples : length (columns .samples) ≡ n
+pub record Read (r : Reading) (v : Version) (n : ℕ) : Type 0 where
+  pub records : List Record
+  pub columns : Columns
+  pub accepted : Accepted v records columns r
+  pub samples : length (columns .samples) ≡ n
 
-was-accepted : (r : Reading) (v : Version) (n : ℕ) → r .number ≡ 0 → acceptedIn (r .number) (r .state) ≡ some (v, n) → Read r v n
+pub was-accepted : (r : Reading) (v : Version) (n : ℕ) → r .number ≡ 0 → acceptedIn (r .number) (r .state) ≡ some (v, n) → Read r v n
 was-accepted r v n z e = go (r .state) refl (rw z at e)
   where
     go : (s : State) → r .state ≡ s → acceptedIn 0 s ≡ some (v, n) → Read r v n

@@ -7,3 +7,4 @@ pub mod Arranged
 pub mod Answers
 pub mod Program
 pub mod Determined
+pub mod Exchange

@@ -4,7 +4,7 @@ use native.Mathlib.Omega.{arith}
 use mathlib.Core.Path.{_≡_, refl, sym, ap, subst, _∙_}
 use mathlib.Core.List.{List}
 use mathlib.Core.Option.{Option, none, some}
-use mathlib.Core.Logic.{_↔_, _⊎_, ⊎-elim}
+use mathlib.Core.Logic.{_↔_}
 use lib.Dec.{leb}
 use lib.ListN.{length, take, drop}
 use lib.Seq.{sets, sets-eq, take-append-seam}
@@ -20,7 +20,7 @@ use Rattle.rules.specs.Reading.{State, empty, ready, done, Reading, reading}
 use Rattle.rules.specs.Meaning.{Meaning, headerMeaning}
 use Rattle.rules.specs.House.{houseLines, houseForm, HouseReading, tooLong, fitted, lined, formAnswer, houseOf, house}
 use Rattle.rules.proofs.House.{house-reads-back, house-canonical}
-use Rattle.rules.proofs.Rooms.{rooms}
+use Rattle.rules.proofs.Rooms.{roomier}
 use Rattle.records.specs.Formats.{versionOf}
 use Rattle.records.specs.declared.file_format.FileFormat.{FileFormat}
 use Rattle.records.proofs.Refusals.{number-suc}
@@ -73,15 +73,15 @@ module _ (room : ℕ) (r : Reading) (m : Meaning) where
       go (suc n) e = let k : r .number ≡ 0 = rw (houseOf, e) at z in absurd (omega arith)
 
 -- an accepted call: the records, and the form that it wrote
-record Wrote (imposed : Option Version) (h : Bytes) (t : List ℕ) (out : Bytes) (r : HouseAnswer) (out′ : Bytes) : Type 0 where
-  version : Version
-  records : List Record
-  columns : Columns
-  accepted : Accepted version records columns (reading limits imposed (room t) h)
-  fits : Fits limits (headerMeaning version records columns)
-  size : r .length ≡ length (houseForm (headerMeaning version records columns))
-  form : formWritten r out′ ≡ houseForm (headerMeaning version records columns)
-  inside : length (houseForm (headerMeaning version records columns)) ≤ length out
+pub record Wrote (imposed : Option Version) (h : Bytes) (t : List ℕ) (out : Bytes) (r : HouseAnswer) (out′ : Bytes) : Type 0 where
+  pub version : Version
+  pub records : List Record
+  pub columns : Columns
+  pub accepted : Accepted version records columns (reading limits imposed (room t) h)
+  pub fits : Fits limits (headerMeaning version records columns)
+  pub size : r .length ≡ length (houseForm (headerMeaning version records columns))
+  pub form : formWritten r out′ ≡ houseForm (headerMeaning version records columns)
+  pub inside : length (houseForm (headerMeaning version records columns)) ≤ length out
 
 module _ {imposed : Option Version} {h : Bytes} {t : List ℕ} {out : Bytes} {r : HouseAnswer} {t′ : List ℕ} {out′ : Bytes} (call : HouseCall limits imposed h t out r t′ out′) where
   abbrev read : Reading
@@ -96,7 +96,7 @@ module _ {imposed : Option Version} {h : Bytes} {t : List ℕ} {out : Bytes} {r 
       let n : r .length ≡ length form = ap (λ (x : FormMeaning). x .size) (call .answer) ∙ ap length e in
       (n, ap (take (r .length)) (call .output ∙ ap (sets out 0) e) ∙ take-sets out form (r .length) n l)
 
-  wrote : IsAccepted r → Wrote imposed h t out r out′
+  pub wrote : IsAccepted r → Wrote imposed h t out r out′
   unfolding house
   wrote a = go (read .state) refl (rw number at (sym (ap (λ (x : FormMeaning). x .accepted) (call .answer)) ∙ ap outcomeSays (a .2)))
     where
@@ -122,7 +122,7 @@ module _ {imposed : Option Version} {h : Bytes} {t : List ℕ} {out : Bytes} {r 
             inside = f .inside;
           }
 
-means-is : (imposed : Option Version) (room : ℕ) (h : Bytes) {v : Version} {rs : List Record} {c : Columns} → Accepted v rs c (reading limits imposed room h) → means imposed room h ≡ some (headerMeaning v rs c)
+pub means-is : (imposed : Option Version) (room : ℕ) (h : Bytes) {v : Version} {rs : List Record} {c : Columns} → Accepted v rs c (reading limits imposed room h) → means imposed room h ≡ some (headerMeaning v rs c)
 means-is imposed room h a = rw (a .number, a .state)
 
 -- a header with a meaning was accepted
@@ -188,11 +188,8 @@ module _ {imposed : Option Version} {h : Bytes} {t : List ℕ} {out : Bytes} {r 
       let x = wrote call a in
       let b = house-reads-back limits imposed (room t) h sized (x .accepted) (x .fits) in
       let g = houseForm (headerMeaning (x .version) (x .records) (x .columns)) in
-      rw (x .form) (b .0, more g (b .1) (rooms limits none (room t) n g l), b .2)
-    where
-      more : (g : Bytes) {v : Version} {rs : List Record} {c : Columns} → Accepted v rs c (reading limits none (room t) g)
-          → (reading limits none (room t) g .number ≡ 24) ⊎ (reading limits none n g ≡ reading limits none (room t) g) → Accepted v rs c (reading limits none n g)
-      more g {v} {rs} {c} d = ⊎-elim (λ e. absurd (omega (arith, d .number, e))) (λ e. subst (Accepted v rs c) (sym e) d)
+      let more : reading limits none n g ≡ reading limits none (room t) g = roomier limits none (room t) n g l (b .1 .number) in
+      rw (x .form) (b .0, subst (Accepted (x .version) (b .0) (x .columns)) (sym more) (b .1), b .2)
 
   -- reading what was written gives the same meaning
   pub reads-back : (n : ℕ) → room t ≤ n → means none n (formWritten r out₁) ≡ means imposed (room t) h

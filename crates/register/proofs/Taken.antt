@@ -1,25 +1,25 @@
 -- The lines of an accepted header, each with the record that it is read as. Assumes nothing.
 use Prim.Native.Nat.{ℕ, suc, _+_}
-use native.Mathlib.Omega.{arith}
 use mathlib.Core.Path.{_≡_, refl, sym, ap, subst, _∙_}
 use mathlib.Core.List.{List, [], _∷_, _++_, append-assoc, append-nil}
 use mathlib.Core.Option.{Option}
 use lib.Dec.{leb}
 use lib.ListN.{length}
-use Rattle.values.specs.Bytes.{Bytes, ascii, starts}
+use Rattle.values.specs.Bytes.{Bytes}
 use Rattle.values.proofs.Tests.{pass, fail, test, never}
 use Rattle.rules.specs.Answer.{ok}
 use Rattle.rules.specs.Sizes.{Limits}
 use Rattle.rules.specs.Lines.{pieces, lineOf}
 use Rattle.rules.specs.Version.{Version, v4-5, inForce}
 use Rattle.rules.specs.Record.{Record, fileformat, fields, text, readRecord}
-use Rattle.rules.specs.Columns.{Columns, readColumns}
+use Rattle.rules.specs.Columns.{Columns}
 use Rattle.rules.specs.Entry.{Entry}
-use Rattle.rules.specs.Reading.{clash, State, empty, ready, done, begin, enter, stepText, step, Reading, run, reading}
-use Rattle.rules.proofs.Firsts.{OnOk, on-ok, judged-ok, was, not-read, see}
+use Rattle.rules.specs.Reading.{State, empty, ready, done, begin, stepText, run, reading}
+use Rattle.rules.proofs.Firsts.{OnOk, on-ok, was, not-read, see}
+use Rattle.rules.proofs.Pieces.{last-of}
 use Rattle.rules.proofs.Groups.{Apart, apart-snoc}
-use Rattle.rules.proofs.Sound.{Taken, step-taken, run-refused, run-full, run-more}
-use Rattle.rules.proofs.Refusals.{after-column}
+use Rattle.rules.proofs.Runs.{first-taken, done-more}
+use Rattle.rules.proofs.Trace.{Stepped, entered, finished, text-steps}
 use Rattle.rules.specs.Claims.{Accepted}
 
 -- lines that are read as these records, one by one
@@ -28,23 +28,6 @@ Reads v [] [] = Unit {0}
 Reads v [] (r ∷ rs) = ⊥
 Reads v (p ∷ ps) [] = ⊥
 Reads v (p ∷ ps) (r ∷ rs) = (readRecord v (lineOf p) ≡ ok r) × Reads v ps rs
-
--- what a line does in Ready
-data Went (v : Version) (rs : List Record) (l : Bytes) (s : State) : Type 0 where
-  entered : (r : Record) → readRecord v l ≡ ok r → clash v r rs ≡ 0 → s ≡ ready v (rs ++ r ∷ []) → Went v rs l s
-  finished : (c : Columns) → s ≡ done v rs c → Went v rs l s
-
-enter-went : (v : Version) (rs : List Record) (start : ℕ) (l : Bytes) (r : Record) → readRecord v l ≡ ok r → OnOk (λ q. Went v rs l (q .0)) (enter v rs start l r)
-enter-went v rs start l (fileformat w) e = tt
-enter-went v rs start l (fields k fs) e = judged-ok (λ (q : State × List Entry). Went v rs l (q .0)) (clash v (fields k fs) rs) _ (λ z. entered (fields k fs) e z refl)
-enter-went v rs start l (text k t) e = judged-ok (λ (q : State × List Entry). Went v rs l (q .0)) (clash v (text k t) rs) _ (λ z. entered (text k t) e z refl)
-
-text-went : (imposed : Option Version) (start : ℕ) (v : Version) (rs : List Record) (l : Bytes) → OnOk (λ q. Went v rs l (q .0)) (stepText imposed start (ready v rs) l)
-unfolding stepText
-text-went imposed start v rs l = elim (test (starts (ascii "#CHROM") l)) [
-  | pass e ↦ elim (see (readColumns l)) [ was c a ↦ rw (stepText, e, a) (finished c refl) | not-read m a ↦ rw (stepText, e, a) tt ]
-  | fail e ↦ elim (see (readRecord v l)) [ was r a ↦ rw (stepText, e, a) (enter-went v rs start l r a) | not-read m a ↦ rw (stepText, e, a) tt ]
-]
 
 -- what the first line does
 record Begun (imposed : Option Version) (l : Bytes) (s : State) : Type 0 where
@@ -78,59 +61,30 @@ empty-not e = never cc
 done-parts : {v w : Version} {rs rs′ : List Record} {c c′ : Columns} → _≡_ {A = State} (done v rs c) (done w rs′ c′) → (v ≡ w) × (rs ≡ rs′)
 done-parts e = (cc, cc)
 
--- an accepted run is one of the rest, after its first line was taken
-module _ (lim : Limits) (imposed : Option Version) (room n start count : ℕ) (s : State) (p : Bytes) (ps : List Bytes) {w : Version} {rs′ : List Record} {c : Columns}
-    (a : Accepted w rs′ c (run lim imposed room n start count s (p ∷ ps))) where
-  pub record First : Type 0 where
-    pub after : State × List Entry
-    pub taken : stepText imposed start s (lineOf p) ≡ ok after
-    pub rest : Accepted w rs′ c (run lim imposed room (suc n) (start + length p) (count + length (after .1)) (after .0) ps)
-
-  pub first-taken : (s ≡ done w rs′ c → ⊥) → First
-  first-taken other = elim (see (step lim imposed start s (lineOf p))) [
-    | not-read m b ↦ absurd (other (sym (ap (λ (r : Reading). r .state) (run-refused lim imposed room n start count s p ps b)) ∙ a .state))
-    | was q b ↦ elim (test (leb (count + length (q .1)) room)) [
-      | fail t ↦ absurd (other (sym (ap (λ (r : Reading). r .state) (run-full lim imposed room n start count s p ps b t)) ∙ a .state))
-      | pass t ↦
-          let m = run-more lim imposed room n start count s p ps b t in
-          record {
-            after = q;
-            taken = on-ok (Taken lim imposed start s (lineOf p)) (step-taken lim imposed start s (lineOf p)) b .2;
-            rest = record { number = sym (ap (λ (r : Reading). r .number) m) ∙ a .number; state = sym (ap (λ (r : Reading). r .state) m) ∙ a .state };
-          }
-    ]
-  ]
-
--- a line after the column line
-done-more : (lim : Limits) (imposed : Option Version) (room n start count : ℕ) (v : Version) (rs : List Record) (c : Columns) (p : Bytes) (ps : List Bytes)
-    {w : Version} {rs′ : List Record} {c′ : Columns} {A : Type 0} → Accepted w rs′ c′ (run lim imposed room n start count (done v rs c) (p ∷ ps)) → A
-done-more lim imposed room n start count v rs c p ps a =
-    absurd (omega (arith, sym (ap (λ (r : Reading). r .number) (run-refused lim imposed room n start count (done v rs c) p ps (after-column lim imposed start v rs c (lineOf p)))) ∙ a .number))
-
 -- the lines of a run that ends with the column line
 pub run-took : (lim : Limits) (imposed : Option Version) (room n start count : ℕ) (v : Version) (rs : List Record) (ps : List Bytes) (z : Bytes)
     {w : Version} {rs′ : List Record} {c : Columns} → Accepted w rs′ c (run lim imposed room n start count (ready v rs) (ps ++ z ∷ [])) → Took v rs ps w rs′
 unfolding run
 run-took lim imposed room n start count v rs [] z {w} {rs′} {c} a =
-    let f = first-taken lim imposed room n start count (ready v rs) z [] a (λ e. ready-not e) in
-    go (f .after) (on-ok (λ q. Went v rs (lineOf z) (q .0)) (text-went imposed start v rs (lineOf z)) (f .taken)) (f .rest)
+    let f = first-taken lim imposed room n start count (ready v rs) z [] a in
+    go (f .after) (on-ok (Stepped imposed v rs start (lineOf z)) (text-steps imposed start v rs (lineOf z)) (f .line .2)) (f .rest)
   where
-    go : (q : State × List Entry) → Went v rs (lineOf z) (q .0) → Accepted w rs′ c (run lim imposed room (suc n) (start + length z) (count + length (q .1)) (q .0) []) → Took v rs [] w rs′
-    go q (entered r x y e) b = ready-not (rw e at (b .state))
-    go q (finished d e) b = let i = done-parts (rw e at (b .state)) in record { version = i .0; new = []; records = sym (i .1) ∙ sym (append-nil rs); reads = tt; apart = λ g. subst (Apart v) (i .1) g }
+    go : (q : State × List Entry) → Stepped imposed v rs start (lineOf z) q → Accepted w rs′ c (run lim imposed room (suc n) (start + length z) (count + length (q .1)) (q .0) []) → Took v rs [] w rs′
+    go q (entered r x e y more) b = ready-not (rw e at (b .state))
+    go q (finished d x e) b = let i = done-parts (rw e at (b .state)) in record { version = i .0; new = []; records = sym (i .1) ∙ sym (append-nil rs); reads = tt; apart = λ g. subst (Apart v) (i .1) g }
 run-took lim imposed room n start count v rs (p ∷ ps) z {w} {rs′} {c} a =
-    let f = first-taken lim imposed room n start count (ready v rs) p (ps ++ z ∷ []) a (λ e. ready-not e) in
-    go (f .after) (on-ok (λ q. Went v rs (lineOf p) (q .0)) (text-went imposed start v rs (lineOf p)) (f .taken)) (f .rest)
+    let f = first-taken lim imposed room n start count (ready v rs) p (ps ++ z ∷ []) a in
+    go (f .after) (on-ok (Stepped imposed v rs start (lineOf p)) (text-steps imposed start v rs (lineOf p)) (f .line .2)) (f .rest)
     (λ r m b. run-took lim imposed room (suc n) (start + length p) m v (rs ++ r ∷ []) ps z b)
   where
     last : (m : ℕ) (d : Columns) (ps : List Bytes) → Accepted w rs′ c (run lim imposed room (suc n) (start + length p) m (done v rs d) (ps ++ z ∷ [])) → Took v rs (p ∷ ps) w rs′
     last m d [] b = done-more lim imposed room (suc n) (start + length p) m v rs d z [] b
     last m d (x ∷ xs) b = done-more lim imposed room (suc n) (start + length p) m v rs d x (xs ++ z ∷ []) b
 
-    go : (q : State × List Entry) → Went v rs (lineOf p) (q .0) → Accepted w rs′ c (run lim imposed room (suc n) (start + length p) (count + length (q .1)) (q .0) (ps ++ z ∷ []))
+    go : (q : State × List Entry) → Stepped imposed v rs start (lineOf p) q → Accepted w rs′ c (run lim imposed room (suc n) (start + length p) (count + length (q .1)) (q .0) (ps ++ z ∷ []))
         → ((r : Record) (m : ℕ) → Accepted w rs′ c (run lim imposed room (suc n) (start + length p) m (ready v (rs ++ r ∷ [])) (ps ++ z ∷ [])) → Took v (rs ++ r ∷ []) ps w rs′) → Took v rs (p ∷ ps) w rs′
-    go q (entered r x y e) b more =
-        let t = more r (count + length (q .1)) (subst (λ (s : State). Accepted w rs′ c (run lim imposed room (suc n) (start + length p) (count + length (q .1)) s (ps ++ z ∷ []))) e b) in
+    go q (entered r x e y again) b more =
+        let t = more r (count + 1) (rw e at b) in
         record {
           version = t .version;
           new = r ∷ t .new;
@@ -138,7 +92,7 @@ run-took lim imposed room n start count v rs (p ∷ ps) z {w} {rs′} {c} a =
           reads = (x, t .reads);
           apart = λ g. t .apart (apart-snoc v rs r g y);
         }
-    go q (finished d e) b more = last (count + length (q .1)) d ps (subst (λ (s : State). Accepted w rs′ c (run lim imposed room (suc n) (start + length p) (count + length (q .1)) s (ps ++ z ∷ []))) e b)
+    go q (finished d x e) b more = last _ d ps (rw e at b)
 
 -- an accepted header: its fileformat line, the lines of its records, its column line
 pub record Lines (imposed : Option Version) (f : Bytes) (ps : List Bytes) (v : Version) (rs : List Record) : Type 0 where
@@ -151,8 +105,8 @@ pub record Lines (imposed : Option Version) (f : Bytes) (ps : List Bytes) (v : V
 lines-took : (lim : Limits) (imposed : Option Version) (room : ℕ) (f : Bytes) (ps : List Bytes) (z : Bytes) {v : Version} {rs : List Record} {c : Columns}
     → Accepted v rs c (run lim imposed room 0 0 0 empty (f ∷ (ps ++ z ∷ []))) → Lines imposed f ps v rs
 lines-took lim imposed room f ps z {v} {rs} {c} a =
-    let t = first-taken lim imposed room 0 0 0 empty f (ps ++ z ∷ []) a (λ e. empty-not e) in
-    go (t .after) (on-ok (λ q. Begun imposed (lineOf f) (q .0)) (text-begun imposed 0 (lineOf f)) (t .taken)) (t .rest)
+    let t = first-taken lim imposed room 0 0 0 empty f (ps ++ z ∷ []) a in
+    go (t .after) (on-ok (λ q. Begun imposed (lineOf f) (q .0)) (text-begun imposed 0 (lineOf f)) (t .line .2)) (t .rest)
   where
     go : (q : State × List Entry) → Begun imposed (lineOf f) (q .0) → Accepted v rs c (run lim imposed room 1 (0 + length f) (0 + length (q .1)) (q .0) (ps ++ z ∷ [])) → Lines imposed f ps v rs
     go q b a =
@@ -182,10 +136,6 @@ pub record Split (h : Bytes) : Type 0 where
   pub last : Bytes
   pub is : pieces h ≡ first ∷ (records ++ last ∷ [])
 
-last-of : (p : Bytes) (ps : List Bytes) → (qs : List Bytes) × (z : Bytes) × (p ∷ ps ≡ qs ++ z ∷ [])
-last-of p [] = ([], p, refl)
-last-of p (x ∷ ps) = let d = last-of x ps in (p ∷ d .0, d .1, ap (p ∷_) (d .2))
-
 pub header-splits : (lim : Limits) (imposed : Option Version) (room : ℕ) (h : Bytes) {v : Version} {rs : List Record} {c : Columns}
     → Accepted v rs c (reading lim imposed room h) → Split h
 unfolding reading run
@@ -200,9 +150,9 @@ header-splits lim imposed room h {v} {rs} {c} a = elim (test (leb (length h) (li
     go : (ps : List Bytes) → pieces h ≡ ps → Accepted v rs c (run lim imposed room 0 0 0 empty ps) → Split h
     go [] e a = empty-not (a .state)
     go (f ∷ []) e a =
-        let t = first-taken lim imposed room 0 0 0 empty f [] a (λ e. empty-not e) in
-        one f (t .after) (on-ok (λ q. Begun imposed (lineOf f) (q .0)) (text-begun imposed 0 (lineOf f)) (t .taken)) (t .rest)
-    go (f ∷ p ∷ ps) e a = let d = last-of p ps in record { first = f; records = d .0; last = d .1; is = e ∙ ap (f ∷_) (d .2) }
+        let t = first-taken lim imposed room 0 0 0 empty f [] a in
+        one f (t .after) (on-ok (λ q. Begun imposed (lineOf f) (q .0)) (text-begun imposed 0 (lineOf f)) (t .line .2)) (t .rest)
+    go (f ∷ p ∷ ps) e a = let d = last-of [] p ps in record { first = f; records = d .0; last = d .1; is = e ∙ ap (f ∷_) (d .2) }
 
 pub header-apart : (lim : Limits) (imposed : Option Version) (room : ℕ) (h : Bytes) {v : Version} {rs : List Record} {c : Columns}
     → Accepted v rs c (reading lim imposed room h) → Apart v rs

@@ -24,7 +24,7 @@ use Rattle.rules.proofs.Tidy.{tidied}
 use Rattle.rules.proofs.Groups.{Clear, all-split}
 use Rattle.rules.proofs.Samples.{GoodColumns, columns-back, columns-start}
 use Rattle.rules.proofs.Records.{Entered, record-back, format-back, not-column}
-use Rattle.rules.proofs.Sound.{samples-count, run-more}
+use Rattle.rules.proofs.Sound.{samples-count, step-text, run-more}
 use Rattle.rules.specs.Claims.{All, Sized, Accepted}
 
 -- a line that is not too long and holds what a line may
@@ -32,13 +32,9 @@ pub record Line (lim : Limits) (l : Bytes) : Type 0 where
   pub short : length l ≤ lim .line
   pub pure : Pure l
 
-step-text : (lim : Limits) (start : ℕ) (s : State) (l : Bytes) → Line lim l → isDone s ≡ false → step lim none start s l ≡ stepText none start s l
-unfolding step
-step-text lim start s l h d = rw (d, le-leb (length l) (lim .line) (h .short), h .pure .utf8, step)
-
 step-line : (lim : Limits) (start : ℕ) (s : State) (l : Bytes) → Line lim l → isDone s ≡ false
     → step lim none start s (lineOf (writeLine l)) ≡ stepText none start s l
-step-line lim start s l h d = ap (step lim none start s) (written l [] (h .pure .line) .line) ∙ step-text lim start s l h d
+step-line lim start s l h d = ap (step lim none start s) (written l [] (h .pure .line) .line) ∙ step-text lim none start s l (h .short) (h .pure .utf8) d
 
 enter-ok : (v : Version) (seen : List Record) (start : ℕ) (l : Bytes) (x : Record) → Entered v x → clash v (tidied v x) seen ≡ 0
     → enter v seen start l (tidied v x) ≡ ok (ready v (seen ++ tidied v x ∷ []), recordEntry v start l (tidied v x) ∷ [])

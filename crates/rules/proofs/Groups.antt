@@ -323,12 +323,12 @@ abbrev pub Clear : Version → List Record → List Record → Type 0
 Clear v seen [] = Unit {0}
 Clear v seen (r ∷ rs) = (clash v r seen ≡ 0) × Clear v (seen ++ r ∷ []) rs
 
-clash-all : (v : Version) (r : Record) (seen : List Record) → clash v r seen ≡ 0 → All (λ s. beside v r s ≡ 0) seen
+pub clash-all : (v : Version) (r : Record) (seen : List Record) → clash v r seen ≡ 0 → All (λ s. beside v r s ≡ 0) seen
 unfolding clash
 clash-all v r [] h = tt
 clash-all v r (s ∷ seen) h = let z = first-zero (beside v r s) _ h in (z .0, clash-all v r seen (first-zero (clash v r seen) [] (z .1) .0))
 
-all-clash : (v : Version) (r : Record) (seen : List Record) → All (λ s. beside v r s ≡ 0) seen → clash v r seen ≡ 0
+pub all-clash : (v : Version) (r : Record) (seen : List Record) → All (λ s. beside v r s ≡ 0) seen → clash v r seen ≡ 0
 unfolding clash
 all-clash v r [] h = refl
 all-clash v r (s ∷ seen) h = zero-first (beside v r s) _ (h .0) (zero-first (clash v r seen) [] (all-clash v r seen (h .1)) first-nil)
@@ -353,7 +353,7 @@ clear v seen (r ∷ rs) a h = (all-clash v r seen (h .0), clear v (seen ++ r ∷
     add [] p q = tt
     add (x ∷ xs) p q = (all-append (λ s. beside v x s ≡ 0) seen (r ∷ []) (q .0) (p .0, tt), add xs (p .1) (q .1))
 
-beside-other : (v : Version) (r s : Record) → same (keyOf s) (keyOf r) ≡ false → beside v r s ≡ 0
+pub beside-other : (v : Version) (r s : Record) → same (keyOf s) (keyOf r) ≡ false → beside v r s ≡ 0
 unfolding beside
 beside-other v r s e = rw e
 

@@ -4,7 +4,7 @@ use native.Mathlib.Omega.{arith}
 use mathlib.Core.Path.{_≡_, sym, ap, _∙_}
 use mathlib.Core.List.{List, [], _∷_, _++_, map}
 use mathlib.Core.Option.{Option, none, some}
-use mathlib.Core.Logic.{_↔_, ⊎-elim}
+use mathlib.Core.Logic.{_↔_}
 use lib.Dec.{leb}
 use lib.ListN.{length, length-map}
 use borrow.Author.Tests.{leb-true}
@@ -25,7 +25,7 @@ use Rattle.rules.proofs.Samples.{GoodColumns, columns-pure}
 use Rattle.rules.proofs.Records.{Entered, record-pure, format-pure}
 use Rattle.rules.proofs.Sound.{Good, reading-good}
 use Rattle.rules.proofs.Back.{Line, recordLines, columnLine, lines-back}
-use Rattle.rules.proofs.Rooms.{rooms}
+use Rattle.rules.proofs.Rooms.{roomier}
 use Rattle.rules.specs.Claims.{All, SizedOption, Accepted, Fits}
 
 short : (limit n start : ℕ) (ls : List Bytes) → tooLong limit n start ls ≡ none → All (λ l. length l ≤ limit) ls
@@ -96,7 +96,7 @@ house-fixed lim imposed room h i a f = let b = house-reads-back lim imposed room
 -- an accepted reading with more room
 more-room : (lim : Limits) (imposed : Option Version) (less more : ℕ) (h : Bytes) {v : Version} {rs : List Record} {c : Columns} → less ≤ more
     → Accepted v rs c (reading lim imposed less h) → reading lim imposed more h .state ≡ done v rs c
-more-room lim imposed less more h r a = ⊎-elim (λ e. absurd (omega (arith, a .number, e))) (λ e. ap (λ (x : Reading). x .state) e ∙ a .state) (rooms lim imposed less more h r)
+more-room lim imposed less more h r a = ap (λ (x : Reading). x .state) (roomier lim imposed less more h r (a .number)) ∙ a .state
 
 abbrev meant : State → Option Meaning
 meant State.empty = none

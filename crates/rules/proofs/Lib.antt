@@ -17,8 +17,10 @@ pub mod Back
 pub mod Rooms
 pub mod House
 pub mod Texts
+pub mod Runs
 pub mod Trace
 pub mod Shows
 pub mod Stands
 pub mod Demands
 pub mod Refusals
+pub mod Exchange

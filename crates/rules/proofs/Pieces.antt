@@ -170,3 +170,9 @@ line-prefix p = elim (test (ends LF p)) [
       rw (e, lineOf) (b .0 ++ a .0, a .1 ∙ ap (_++ a .0) (b .1) ∙ append-assoc (dropEnd CR (dropEnd LF p)) (b .0) (a .0))
   | fail e ↦ rw (e, lineOf) ([], sym (append-nil p))
 ]
+
+-- what stands last
+pub last-of : (xs : List Bytes) (z : Bytes) (zs : List Bytes) → (ys : List Bytes) × (y : Bytes) × (xs ++ z ∷ zs ≡ ys ++ y ∷ [])
+last-of [] z [] = ([], z, refl)
+last-of [] z (y ∷ zs) = let d = last-of [] y zs in (z ∷ d .0, d .1, ap (z ∷_) (d .2))
+last-of (x ∷ xs) z zs = let d = last-of xs z zs in (x ∷ d .0, d .1, ap (x ∷_) (d .2))

@@ -121,7 +121,7 @@ after-column lim imposed start v rs c l = refl
 -- What a refused header keeps
 
 -- after a line the machine has begun
-abbrev Begun : State → Type 0
+abbrev pub Begun : State → Type 0
 Begun empty = ⊥
 Begun (ready v rs) = Unit {0}
 Begun (done v rs c) = Unit {0}
@@ -145,7 +145,7 @@ text-begun imposed start (ready v rs) l = elim (test (starts (ascii "#CHROM") l)
 ]
 text-begun imposed start (done v rs c) l = tt
 
-step-begun : (lim : Limits) (imposed : Option Version) (start : ℕ) (s : State) (l : Bytes) {q : State × List Entry} → step lim imposed start s l ≡ ok q → Begun (q .0)
+pub step-begun : (lim : Limits) (imposed : Option Version) (start : ℕ) (s : State) (l : Bytes) {q : State × List Entry} → step lim imposed start s l ≡ ok q → Begun (q .0)
 step-begun lim imposed start s l a =
     on-ok (λ q. Begun (q .0)) (text-begun imposed start s l) (on-ok (Taken lim imposed start s l) (step-taken lim imposed start s l) a .2)
 

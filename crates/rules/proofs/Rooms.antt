@@ -43,3 +43,8 @@ rooms lim imposed less more h r = elim (test (leb (length h) (lim .header))) [
   | pass e ↦ rw (e, reading) (run-rooms lim imposed less more 0 0 0 empty (pieces h) r)
   | fail e ↦ rw (e, reading) (inr refl)
 ]
+
+-- an accepted reading is the same with more room
+pub roomier : (lim : Limits) (imposed : Option Version) (less more : ℕ) (h : Bytes) → less ≤ more → reading lim imposed less h .number ≡ 0
+    → reading lim imposed more h ≡ reading lim imposed less h
+roomier lim imposed less more h r z = ⊎-elim (λ e. absurd (omega (arith, z, e))) (λ e. e) (rooms lim imposed less more h r)

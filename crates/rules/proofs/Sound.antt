@@ -7,7 +7,7 @@ use mathlib.Core.List.{List, [], _∷_, _++_}
 use mathlib.Core.Option.{Option}
 use lib.Dec.{leb}
 use lib.ListN.{length, length-append}
-use borrow.Author.Tests.{leb-true}
+use borrow.Author.Tests.{leb-true, le-leb}
 use Rattle.values.specs.Bytes.{Bytes, LF, ascii, is, any, starts}
 use Rattle.values.specs.Utf8.{isUtf8}
 use Rattle.values.proofs.Tests.{pass, fail, test}
@@ -102,6 +102,12 @@ step-taken lim imposed start s l = elim (test (isDone s)) [
     same : (a : Answer (State × List Entry)) → length l ≤ lim .line → isUtf8 l ≡ true → OnOk (λ q. (length l ≤ lim .line) × (isUtf8 l ≡ true) × (a ≡ ok q)) a
     same (ok q) e u = (e, u, refl)
     same (refuse n) e u = tt
+
+-- a line that may be taken is judged by its text
+pub step-text : (lim : Limits) (imposed : Option Version) (start : ℕ) (s : State) (l : Bytes) → length l ≤ lim .line → isUtf8 l ≡ true → isDone s ≡ false
+    → step lim imposed start s l ≡ stepText imposed start s l
+unfolding step
+step-text lim imposed start s l h u d = rw (d, le-leb (length l) (lim .line) h, u, step)
 
 pub step-good : (lim : Limits) (imposed : Option Version) (start : ℕ) (s : State) (l : Bytes) → SizedOption imposed → Inv s → any (is LF) l ≡ false
     → OnOk (Stepped s) (step lim imposed start s l)

@@ -2,7 +2,7 @@
 use Prim.Native.Nat.{ℕ, zero, suc, _+_}
 use native.Mathlib.Omega.{arith}
 use mathlib.Core.Path.{_≡_, refl, sym, ap, _∙_}
-use mathlib.Core.Bool.{Bool, not, _||_, _&&_}
+use mathlib.Core.Bool.{Bool, true, not, _||_, _&&_}
 use mathlib.Core.List.{List, [], _∷_, _++_, tail, append-assoc}
 use mathlib.Core.Option.{Option, none, some}
 use lib.ListN.{length, drop}
@@ -11,6 +11,7 @@ use Rattle.values.specs.Bytes.{Bytes, ascii, is, empty, begins, before, from, s
 use Rattle.values.specs.Field.{Field, writtenField, readField}
 use Rattle.values.proofs.Tests.{pass, fail, test, and-r}
 use Rattle.values.proofs.Lists.{on-some, before-from}
+use Rattle.values.proofs.Sames.{same-sound}
 use Rattle.values.proofs.Fields.{tail-is, text-here}
 use Rattle.values.proofs.Places.{FieldIn, field-in}
 use Rattle.rules.specs.Version.{Version, readVersion}
@@ -18,11 +19,13 @@ use Rattle.rules.specs.Known.{alwaysMap}
 use Rattle.rules.specs.Map.{After, more, done, wrong, after, Scan, scan, closingRefusal, readFields, isMeta, mapRefusal, readMap}
 use Rattle.rules.specs.Record.{Record, fileformat, fields, text, isMap, fileformatRead, readRecordValue, readKeyed, readRecord}
 use Rattle.rules.specs.Entry.{fieldsStart}
+use Rattle.rules.specs.Reading.{keyOf}
 use Rattle.rules.specs.House.{writeMore, writeFields, writeRecord}
 use Rattle.rules.proofs.Firsts.{OnOk, map-ok, bind-ok, judged-ok}
 use Rattle.rules.proofs.Checks.{fine}
 use Rattle.rules.proofs.Fields.{AfterIn, after-in, was-more, was-done, was-wrong, see-after, no-field, a-field, see-field}
 use Rattle.rules.proofs.Records.{starts-is}
+use Rattle.rules.specs.Claims.{keyIn}
 
 -- fields that end with nothing refused
 abbrev ScanIn : Bytes → Scan → Type 0
@@ -91,21 +94,25 @@ map-in v k x = elim (test (begins 60 x)) [
 past-value : (k x l : Bytes) → l ≡ ascii "##" ++ (k ++ 61 ∷ x) → drop (fieldsStart k) l ≡ drop 1 x
 past-value k x l e = sym (drop-drop 2 (2 + length k) l) ∙ ap (λ (y : Bytes). drop 2 y) (text-here l 2 k (61 ∷ x) (ap (drop 2) e) .1)
 
-value-in : (v : Version) (k x l : Bytes) → l ≡ ascii "##" ++ (k ++ 61 ∷ x) → OnOk (λ r. LineOf l r × Scanned v l r) (readRecordValue v k x)
+-- what is read of a line with the key k
+abbrev RecordIn : Version → Bytes → Bytes → Record → Type 0
+RecordIn v k l r = LineOf l r × Scanned v l r × (keyOf r ≡ k)
+
+value-in : (v : Version) (k x l : Bytes) → l ≡ ascii "##" ++ (k ++ 61 ∷ x) → OnOk (RecordIn v k l) (readRecordValue v k x)
 unfolding readRecordValue writeRecord
 value-in v k x l h = elim (test (same k (ascii "fileformat"))) [
-  | pass e ↦ rw (readRecordValue, e) (format (readVersion x))
+  | pass e ↦ rw (readRecordValue, e) (format (readVersion x) e)
   | fail e ↦ elim (test (isMap v k x)) [
-    | pass m ↦ rw (readRecordValue, e, m) (bind-ok (MapIn v k x) (λ r. LineOf l r × Scanned v l r) (readMap v k x) _ (map-in v k x) (λ fs q. (h ∙ rw (q .0), rw (past-value k x l h) (q .1))))
-    | fail m ↦ rw (readRecordValue, e, m) (h, tt)
+    | pass m ↦ rw (readRecordValue, e, m) (bind-ok (MapIn v k x) (RecordIn v k l) (readMap v k x) _ (map-in v k x) (λ fs q. (h ∙ rw (q .0), rw (past-value k x l h) (q .1), refl)))
+    | fail m ↦ rw (readRecordValue, e, m) (h, tt, refl)
   ]
 ]
   where
-    format : (a : Option Version) → OnOk (λ r. LineOf l r × Scanned v l r) (fileformatRead a)
-    format none = tt
-    format (some w) = (tt, tt)
+    format : (a : Option Version) → same k (ascii "fileformat") ≡ true → OnOk (RecordIn v k l) (fileformatRead a)
+    format none e = tt
+    format (some w) e = (tt, tt, sym (same-sound k (ascii "fileformat") e))
 
-line-in : (v : Version) (l : Bytes) → OnOk (λ r. LineOf l r × Scanned v l r) (readRecord v l)
+line-in : (v : Version) (l : Bytes) → OnOk (RecordIn v (keyIn l) l) (readRecord v l)
 unfolding readRecord readKeyed
 line-in v l = elim (test (starts (ascii "##") l)) [
   | pass e ↦ let b = before (is 61) (drop 2 l) in let f = from (is 61) (drop 2 l) in
@@ -118,7 +125,11 @@ line-in v l = elim (test (starts (ascii "##") l)) [
 ]
 
 pub record-in : (v : Version) (l : Bytes) → OnOk (LineOf l) (readRecord v l)
-record-in v l = map-ok (λ r. LineOf l r × Scanned v l r) (LineOf l) (readRecord v l) (λ r h. h .0) (line-in v l)
+record-in v l = map-ok (RecordIn v (keyIn l) l) (LineOf l) (readRecord v l) (λ r h. h .0) (line-in v l)
 
 pub record-scanned : (v : Version) (l : Bytes) → OnOk (Scanned v l) (readRecord v l)
-record-scanned v l = map-ok (λ r. LineOf l r × Scanned v l r) (Scanned v l) (readRecord v l) (λ r h. h .1) (line-in v l)
+record-scanned v l = map-ok (RecordIn v (keyIn l) l) (Scanned v l) (readRecord v l) (λ r h. h .1) (line-in v l)
+
+-- and its key is the line's
+pub record-key : (v : Version) (l : Bytes) → OnOk (λ r. keyOf r ≡ keyIn l) (readRecord v l)
+record-key v l = map-ok (RecordIn v (keyIn l) l) (λ r. keyOf r ≡ keyIn l) (readRecord v l) (λ r h. h .2) (line-in v l)

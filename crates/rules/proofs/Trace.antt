@@ -2,6 +2,7 @@
 use Prim.Native.Nat.{ℕ, suc, _+_, _≤_}
 use native.Mathlib.Omega.{arith}
 use mathlib.Core.Path.{_≡_, refl, sym, ap, subst, _∙_}
+use mathlib.Core.Bool.{false}
 use mathlib.Core.List.{List, [], _∷_, _++_, append-assoc, append-nil}
 use mathlib.Core.Option.{Option, none}
 use lib.Dec.{leb}
@@ -16,23 +17,21 @@ use Rattle.rules.specs.Version.{Version, v4-5, inForce}
 use Rattle.rules.specs.Record.{Record, fileformat, fields, text, readRecord}
 use Rattle.rules.specs.Columns.{Columns, readColumns}
 use Rattle.rules.specs.Entry.{Entry, recordEntry, columnEntries}
-use Rattle.rules.specs.Reading.{clash, State, empty, ready, done, begin, enter, stepText, step, Reading, stop, following, run, reading}
-use Rattle.rules.proofs.Firsts.{OnOk, on-ok, judged-ok, was, not-read, see}
+use Rattle.rules.specs.Reading.{clash, State, empty, ready, done, begin, enter, stepText, step, Reading, stop, run, reading}
+use Rattle.rules.proofs.Firsts.{OnOk, on-ok, judged-ok, judged-zero, was, not-read, see}
 use Rattle.rules.proofs.Pieces.{nothing, cut, cut-first, line-prefix}
-use Rattle.rules.proofs.Sound.{Taken, step-taken, run-refused, run-full, run-more}
+use Rattle.rules.proofs.Sound.{run-refused, run-more}
+use Rattle.rules.proofs.Runs.{first-taken}
 use Rattle.rules.specs.Claims.{Accepted, LineAt, Rows}
 
--- what a line does in Ready
-data Stepped (v : Version) (rs : List Record) (start : ℕ) (l : Bytes) (q : State × List Entry) : Type 0 where
-  entered : (r : Record) → readRecord v l ≡ ok r → q ≡ (ready v (rs ++ r ∷ []), recordEntry v start l r ∷ []) → Stepped v rs start l q
-  finished : (c : Columns) → readColumns l ≡ ok c → q ≡ (done v rs c, columnEntries start l c) → Stepped v rs start l q
+-- what a line does in Ready: it enters its record, as it would at any place after any records that it goes with; or it is the column line
+pub data Stepped (imposed : Option Version) (v : Version) (rs : List Record) (start : ℕ) (l : Bytes) (q : State × List Entry) : Type 0 where
+  entered : (r : Record) → readRecord v l ≡ ok r → q ≡ (ready v (rs ++ r ∷ []), recordEntry v start l r ∷ []) → clash v r rs ≡ 0
+      → ((at : ℕ) (xs : List Record) → clash v r xs ≡ 0 → stepText imposed at (ready v xs) l ≡ ok (ready v (xs ++ r ∷ []), recordEntry v at l r ∷ []))
+      → Stepped imposed v rs start l q
+  finished : (c : Columns) → readColumns l ≡ ok c → q ≡ (done v rs c, columnEntries start l c) → Stepped imposed v rs start l q
 
-enter-steps : (v : Version) (rs : List Record) (start : ℕ) (l : Bytes) (r : Record) → readRecord v l ≡ ok r → OnOk (Stepped v rs start l) (enter v rs start l r)
-enter-steps v rs start l (fileformat w) e = tt
-enter-steps v rs start l (fields k fs) e = judged-ok (Stepped v rs start l) (clash v (fields k fs) rs) _ (λ z. entered (fields k fs) e refl)
-enter-steps v rs start l (text k t) e = judged-ok (Stepped v rs start l) (clash v (text k t) rs) _ (λ z. entered (text k t) e refl)
-
-text-steps : (imposed : Option Version) (start : ℕ) (v : Version) (rs : List Record) (l : Bytes) → OnOk (Stepped v rs start l) (stepText imposed start (ready v rs) l)
+pub text-steps : (imposed : Option Version) (start : ℕ) (v : Version) (rs : List Record) (l : Bytes) → OnOk (Stepped imposed v rs start l) (stepText imposed start (ready v rs) l)
 unfolding stepText
 text-steps imposed start v rs l = elim (test (starts (ascii "#CHROM") l)) [
   | pass e ↦ elim (see (readColumns l)) [
@@ -40,10 +39,15 @@ text-steps imposed start v rs l = elim (test (starts (ascii "#CHROM") l)) [
     | not-read m a ↦ rw (stepText, e, a) tt
   ]
   | fail e ↦ elim (see (readRecord v l)) [
-    | was r a ↦ rw (stepText, e, a) (enter-steps v rs start l r a)
+    | was r a ↦ rw (stepText, e, a) (go e r a)
     | not-read m a ↦ rw (stepText, e, a) tt
   ]
 ]
+  where
+    go : starts (ascii "#CHROM") l ≡ false → (r : Record) → readRecord v l ≡ ok r → OnOk (Stepped imposed v rs start l) (enter v rs start l r)
+    go e (fileformat w) a = tt
+    go e (fields k fs) a = judged-ok (Stepped imposed v rs start l) (clash v (fields k fs) rs) _ (λ z. entered (fields k fs) a refl z (λ at xs c. rw (stepText, e, a) (judged-zero _ c)))
+    go e (text k t) a = judged-ok (Stepped imposed v rs start l) (clash v (text k t) rs) _ (λ z. entered (text k t) a refl z (λ at xs c. rw (stepText, e, a) (judged-zero _ c)))
 
 -- the first line of what is left of a header, and what is left after it
 pub record FirstLine (h : Bytes) (start : ℕ) (p : Bytes) (ps : List Bytes) : Type 0 where
@@ -95,12 +99,6 @@ unfolding run step
 done-only lim imposed room n start count v rs c [] z = refl
 done-only lim imposed room n start count v rs c (p ∷ ps) z = absurd (omega (arith, sym (ap (λ (r : Reading). r .number) (run-refused lim imposed room n start count (done v rs c) p ps refl)) ∙ z))
 
-ready-not : {v w : Version} {rs rs′ : List Record} {c : Columns} → _≡_ {A = State} (ready v rs) (done w rs′ c) → ⊥
-ready-not e = never cc
-
-accepted-rest : {v : Version} {rs : List Record} {c : Columns} {r t : Reading} (es : List Entry) → r ≡ following es t → Accepted v rs c r → Accepted v rs c t
-accepted-rest es e a = record { number = sym (ap (λ (r : Reading). r .number) e) ∙ a .number; state = sym (ap (λ (r : Reading). r .state) e) ∙ a .state }
-
 -- one record more, and the column line
 module _ (lim : Limits) (h : Bytes) (v : Version) (rs : List Record) (start : ℕ) (l : Bytes) (here : LineAt lim h start l) where
   traced-record : {w : Version} {rs′ : List Record} {c : Columns} (r : Record) (es : List Entry) → readRecord v l ≡ ok r → Traced lim h v (rs ++ r ∷ []) w rs′ c es
@@ -146,8 +144,8 @@ module _ (lim : Limits) (imposed : Option Version) (room : ℕ) (h : Bytes) (n n
   Later = (r : Record) → Accepted w rs′ c (run lim imposed room n next (count + 1) (ready v (rs ++ r ∷ [])) ps)
       → Traced lim h v (rs ++ r ∷ []) w rs′ c (run lim imposed room n next (count + 1) (ready v (rs ++ r ∷ [])) ps .entries)
 
-  rest-traced : (q : State × List Entry) → LineAt lim h start l → Stepped v rs start l q → Later → Rest q
-  rest-traced q here (entered r x y) ih = subst Rest (sym y) (λ a. traced-record lim h v rs start l here r _ x (ih r a))
+  rest-traced : (q : State × List Entry) → LineAt lim h start l → Stepped imposed v rs start l q → Later → Rest q
+  rest-traced q here (entered r x y _ _) ih = subst Rest (sym y) (λ a. traced-record lim h v rs start l here r _ x (ih r a))
   rest-traced q here (finished c′ x y) ih = subst Rest (sym y) (λ a.
       let k = count + length (columnEntries start l c′) in
       let o = done-only lim imposed room n next k v rs c′ ps (a .number) in
@@ -164,21 +162,13 @@ unfolding run
 traced lim imposed room h [] n start count v rs l e a = absurd (omega (arith, a .number))
 traced lim imposed room h (p ∷ ps) n start count v rs l e {w} {rs′} {c} a =
     let f = first-line h start p ps l e in
-    elim (see (step lim imposed start (ready v rs) (lineOf p))) [
-      | not-read m b ↦ absurd (ready-not (sym (ap (λ (r : Reading). r .state) (run-refused lim imposed room n start count (ready v rs) p ps b)) ∙ a .state))
-      | was q b ↦ elim (test (leb (count + length (q .1)) room)) [
-        | fail t ↦ absurd (ready-not (sym (ap (λ (r : Reading). r .state) (run-full lim imposed room n start count (ready v rs) p ps b t)) ∙ a .state))
-        | pass t ↦
-            let k = on-ok (Taken lim imposed start (ready v rs) (lineOf p)) (step-taken lim imposed start (ready v rs) (lineOf p)) b in
-            let m = run-more lim imposed room n start count (ready v rs) p ps b t in
-            subst (λ (r : Reading). Traced lim h v rs w rs′ c (r .entries)) (sym m)
-            (rest-traced lim imposed room h (suc n) (start + length p) count start v rs (lineOf p) ps w rs′ c q
-            (record { here = f .here; inside = f .inside; short = k .0; utf8 = k .1 })
-            (on-ok (Stepped v rs start (lineOf p)) (text-steps imposed start v rs (lineOf p)) (k .2))
-            (λ r a′. traced lim imposed room h ps (suc n) (start + length p) (count + 1) v (rs ++ r ∷ []) (f .next) (f .left) a′)
-            (accepted-rest (q .1) m a))
-      ]
-    ]
+    let t = first-taken lim imposed room n start count (ready v rs) p ps a in
+    subst (λ (r : Reading). Traced lim h v rs w rs′ c (r .entries)) (sym (run-more lim imposed room n start count (ready v rs) p ps (t .taken) (t .roomy)))
+    (rest-traced lim imposed room h (suc n) (start + length p) count start v rs (lineOf p) ps w rs′ c (t .after)
+    (record { here = f .here; inside = f .inside; short = t .line .0; utf8 = t .line .1 })
+    (on-ok (Stepped imposed v rs start (lineOf p)) (text-steps imposed start v rs (lineOf p)) (t .line .2))
+    (λ r a′. traced lim imposed room h ps (suc n) (start + length p) (count + 1) v (rs ++ r ∷ []) (f .next) (f .left) a′)
+    (t .rest))
 
 -- what the first line does
 data Begun (imposed : Option Version) (l : Bytes) (q : State × List Entry) : Type 0 where
@@ -244,18 +234,10 @@ unfolding run
 run-empty lim imposed room h [] e a = absurd (empty-not (a .state))
 run-empty lim imposed room h (p ∷ ps) e {v} {rs} {c} a =
     let f = first-line h 0 p ps (omega arith) e in
-    elim (see (step lim imposed 0 empty (lineOf p))) [
-      | not-read m b ↦ absurd (empty-not (sym (ap (λ (r : Reading). r .state) (run-refused lim imposed room 0 0 0 empty p ps b)) ∙ a .state))
-      | was q b ↦ elim (test (leb (0 + length (q .1)) room)) [
-        | fail t ↦ absurd (empty-not (sym (ap (λ (r : Reading). r .state) (run-full lim imposed room 0 0 0 empty p ps b t)) ∙ a .state))
-        | pass t ↦
-            let k = on-ok (Taken lim imposed 0 empty (lineOf p)) (step-taken lim imposed 0 empty (lineOf p)) b in
-            let m = run-more lim imposed room 0 0 0 empty p ps b t in
-            subst (λ (r : Reading). TracedHeader lim imposed h v rs c (r .entries)) (sym m)
-            (first-traced lim imposed room h p ps v rs c q (record { here = f .here; inside = f .inside; short = k .0; utf8 = k .1 }) f
-            (on-ok (Begun imposed (lineOf p)) (begin-steps imposed (lineOf p)) (k .2)) (accepted-rest (q .1) m a))
-      ]
-    ]
+    let t = first-taken lim imposed room 0 0 0 empty p ps a in
+    subst (λ (r : Reading). TracedHeader lim imposed h v rs c (r .entries)) (sym (run-more lim imposed room 0 0 0 empty p ps (t .taken) (t .roomy)))
+    (first-traced lim imposed room h p ps v rs c (t .after) (record { here = f .here; inside = f .inside; short = t .line .0; utf8 = t .line .1 }) f
+    (on-ok (Begun imposed (lineOf p)) (begin-steps imposed (lineOf p)) (t .line .2)) (t .rest))
 
 pub header-traced : (lim : Limits) (imposed : Option Version) (room : ℕ) (h : Bytes) {v : Version} {rs : List Record} {c : Columns}
     → Accepted v rs c (reading lim imposed room h) → TracedHeader lim imposed h v rs c (reading lim imposed room h .entries)

@@ -7,20 +7,20 @@ use mathlib.Core.Path.{_≡_}
 use Rattle.rules.specs.Record.{Record, fileformat, fields, text, readRecord}
 use Rattle.rules.specs.Columns.{Columns}
 use Rattle.rules.specs.Reading.{done, Reading, State, step}
-use lib.ListN.{length}
+use lib.ListN.{length, drop}
 use Rattle.rules.specs.Sizes.{Limits}
-use Rattle.rules.specs.Known.{kindOf}
+use Rattle.rules.specs.Known.{kindOf, isTyped}
 use Rattle.rules.specs.Map.{fieldNamed, valueNamed}
-use Rattle.rules.specs.Meaning.{Meaning, tagIn}
+use Rattle.rules.specs.Meaning.{Meaning, headerMeaning, tagIn}
 use Rattle.rules.specs.House.{houseLines, houseForm, tooLong}
-use mathlib.Core.Bool.{true}
-use Rattle.values.specs.Bytes.{Bytes, ascii, part}
+use mathlib.Core.Bool.{Bool, true, false, not}
+use Rattle.values.specs.Bytes.{Bytes, ascii, is, before, same, part, EQUALS}
 use Rattle.values.specs.Utf8.{isUtf8}
 use Rattle.rules.specs.Answer.{ok}
 use Rattle.rules.specs.Entry.{Entry, mapKind, textKind, recordEntry}
 use Rattle.values.specs.Field.{Field, writtenField}
 use Rattle.rules.specs.Shown.{Part, wellFormed, lineIn, idMeaning, idPart, entryFieldPart}
-use Rattle.rules.specs.Lines.{lineOf}
+use Rattle.rules.specs.Lines.{pieces, lineOf}
 
 -- the property holds of each one of a list
 abbrev pub All : {A : Type 0} → (A → Type 0) → List A → Type 0
@@ -132,3 +132,51 @@ LinesTaken lim imposed (suc k) start s (p ∷ ps) es =
 pub data Keeps (lim : Limits) (imposed : Option Version) (n start : ℕ) (s : State) (ps : List Bytes) (r : Reading) : Type 0 where
   all-taken : r .line ≡ n + length ps → LinesTaken lim imposed (length ps) start s ps (r .entries) → Keeps lim imposed n start s ps r
   stopped : (k : ℕ) → r .line ≡ suc (n + k) → LinesTaken lim imposed k start s ps (r .entries) → Keeps lim imposed n start s ps r
+
+-- Document 02, §12: lines that may change places
+
+-- the key of a record line: what stands after its `##`, up to the first `=`
+abbrev pub keyIn : Bytes → Bytes
+keyIn l = before (is EQUALS) (drop 2 l)
+
+-- the first key is typed; the second is; they are the same. Two different typed kinds, or one is typed and the other isn't
+abbrev pub mayChangeOf : Bool → Bool → Bool → Bool
+mayChangeOf true true equal = not equal
+mayChangeOf true false equal = true
+mayChangeOf false true equal = true
+mayChangeOf false false equal = false
+
+unfoldable pub mayChange : Bytes → Bytes → Bool
+mayChange l m = mayChangeOf (isTyped (keyIn l)) (isTyped (keyIn m)) (same (keyIn l) (keyIn m))
+
+-- pieces as one text
+unfoldable pub joined : List Bytes → Bytes
+joined [] = []
+joined (p ∷ ps) = p ++ joined ps
+
+-- h has two neighbouring lines that may change places, and h′ has them exchanged, each with its own ending. Neither is the first line
+-- or the last, which in an accepted header is the column line; so both end in LF
+pub record Exchanged (h h′ : Bytes) : Type 0 where
+  pub first : Bytes
+  pub above : List Bytes
+  pub upper : Bytes
+  pub lower : Bytes
+  pub below : List Bytes
+  pub last : Bytes
+  pub was : pieces h ≡ first ∷ (above ++ upper ∷ lower ∷ (below ++ last ∷ []))
+  pub becomes : h′ ≡ joined (first ∷ (above ++ lower ∷ upper ∷ (below ++ last ∷ [])))
+  pub may : mayChange (lineOf upper) (lineOf lower) ≡ true
+
+-- one such exchange after another, or none
+pub data Moved (h : Bytes) : Bytes → Type 0 where
+  unmoved : Moved h h
+  moved : {g h′ : Bytes} → Moved h g → Exchanged g h′ → Moved h h′
+
+-- beside a reading r that was accepted with these records: r′ was accepted too, with the same version, columns, places, number of entries and meaning
+pub record SameMeaning (v : Version) (rs : List Record) (c : Columns) (r r′ : Reading) : Type 0 where
+  pub records : List Record
+  pub accepted : Accepted v records c r′
+  pub line : r′ .line ≡ r .line
+  pub start : r′ .start ≡ r .start
+  pub count : length (r′ .entries) ≡ length (r .entries)
+  pub meaning : headerMeaning v records c ≡ headerMeaning v rs c

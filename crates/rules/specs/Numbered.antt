@@ -1,12 +1,15 @@
 -- Document 01, "Refusal numbers": for each number the smallest header that is refused by it, with its place, computed by the checker. Assumes nothing.
 use Prim.Native.Nat.{ℕ}
 use mathlib.Core.Path.{_≡_, refl}
+use mathlib.Core.Bool.{Bool, true, false}
 use mathlib.Core.List.{List, [], _∷_, _++_, map}
 use mathlib.Core.Option.{none}
 use Prim.Native.String.{String}
-use Rattle.values.specs.Bytes.{Bytes, ascii}
+use Rattle.values.specs.Bytes.{Bytes, ascii, same}
 use Rattle.rules.specs.Sizes.{Limits, limits}
+use Rattle.rules.specs.Lines.{lineOf}
 use Rattle.rules.specs.House.{HouseReading, house}
+use Rattle.rules.specs.Claims.{mayChange, joined, Exchanged}
 use Rattle.rules.specs.Examples.{opened, F, COLS, filters}
 
 -- a house-form call without a version imposed: the limits, the entries and the bytes that there is room for, and the header
@@ -156,3 +159,49 @@ pub versioned-cases : map (λ (c : String × String × ℕ). placeOf (onHeader (
     ≡ map (λ (c : String × String × ℕ). c .2) versioned
 unfolding opened
 versioned-cases = refl
+
+-- Document 02, §12: two lines with their endings; whether they may change places, and whether the form stays when they do
+abbrev pub neighbours : List ((String × String) × (Bool × Bool))
+neighbours =
+    -- two different typed kinds, one of them with an ending of its own
+    (("##contig=<ID=c>\n", "##INFO=<ID=x,Number=1,Type=Float,Description=>\n"), (true, true))
+    ∷ (("##FILTER=<ID=x,Description=>\r\n", "##FORMAT=<ID=x,Number=1,Type=Float,Description=>\n"), (true, true))
+    -- one is typed and the other isn't: a text, another map, META
+    ∷ (("##a=b\n", "##ALT=<ID=x,Description=>\n"), (true, true))
+    ∷ (("##contig=<ID=c>\n", "##a=<ID=c>\n"), (true, true))
+    ∷ (("##META=<ID=x>\n", "##contig=<ID=x>\n"), (true, true))
+    -- one typed kind: the order of its lines is part of the meaning
+    ∷ (("##contig=<ID=c>\n", "##contig=<ID=d>\n"), (false, false))
+    -- two other keys: their first appearance is part of the meaning
+    ∷ (("##a=b\n", "##b=a\n"), (false, false))
+    ∷ (("##META=<ID=x>\n", "##PEDIGREE=<ID=x>\n"), (false, false))
+    -- nothing is claimed of one other key, even where the form stays
+    ∷ (("##a=b\n", "##a=b\n"), (false, true))
+    ∷ []
+
+-- between a fileformat line and a column line
+abbrev pub withLines : Bytes → Bytes → Bytes
+withLines p q = joined (F ∷ p ∷ q ∷ COLS ∷ [])
+
+abbrev pub mayAndStays : Bytes → Bytes → Bool × Bool
+mayAndStays p q =
+    (mayChange (lineOf p) (lineOf q), same (house limits none 9 999 (withLines p q) .form) (house limits none 9 999 (withLines q p) .form))
+
+pub neighbours-cases : map (λ (c : (String × String) × (Bool × Bool)). mayAndStays (ascii (c .0 .0)) (ascii (c .0 .1))) neighbours ≡ map (λ (c : (String × String) × (Bool × Bool)). c .1) neighbours
+unfolding opened mayChange joined
+neighbours-cases = refl
+
+-- a contig above an INFO line, and below it
+pub contig-moved : Exchanged (withLines (ascii "##contig=<ID=c>\n") (ascii "##INFO=<ID=x>\n")) (withLines (ascii "##INFO=<ID=x>\n") (ascii "##contig=<ID=c>\n"))
+unfolding opened mayChange joined
+contig-moved = record {
+  first = F;
+  above = [];
+  upper = ascii "##contig=<ID=c>\n";
+  lower = ascii "##INFO=<ID=x>\n";
+  below = [];
+  last = COLS;
+  was = refl;
+  becomes = refl;
+  may = refl;
+}

@@ -19,6 +19,23 @@ def utf8_cases():
     return good + bad + mixed
 
 
+# a character of each row of RFC 3629 beyond ASCII, and the byte that must not follow its first one
+ROWS = [(b'\xc3\xa9', 0x7f), (b'\xe0\xa0\x80', 0x9f), (b'\xe2\x82\xac', 0xc0), (b'\xed\x9f\xbf', 0xa0), (b'\xef\xbf\xbf', 0x7f),
+        (b'\xf0\x90\x80\x80', 0x8f), (b'\xf3\xa0\x80\x81', 0xc0), (b'\xf4\x8f\xbf\xbf', 0x90)]
+
+
+def edge_cases():
+    """A character that begins at each place round the thirty-third byte, where a second block begins: whole, cut with ASCII behind it,
+    cut at the end, and with a wrong second byte; before it ASCII, or the same character where the place is odd."""
+    for whole, wrong in ROWS:
+        for place in range(28, 34):
+            before = (whole * (place // len(whole)) if place % 2 else b'').rjust(place, b'a')
+            yield before + whole + b'z' * 40
+            yield before + whole[:-1] + b'z' * 40
+            yield before + whole[:-1]
+            yield before + whole[:1] + bytes([wrong]) + whole[2:] + b'z' * 40
+
+
 def number_cases():
     plain = ['', '0', '5', '+5', '-0', '-5', '+', '++5', ' 5', '5 ', '007', '+007', '0' * 40 + '9', '0' * 41, '1_000', '0x10', '5.0', '\u0665']
     edges = [str(n + d) for n in (2**32 - 1, 2**64 - 1) for d in (-1, 0, 1)] + ['1' * 25, '99999999999999999999', '+' + str(2**64), '18446744073709551620', '4294967300']
@@ -50,7 +67,7 @@ def numbered(asked, inputs, expect):
     return [(f'{asked}-{i:03}', asked, record.escaped(data), expect(data)) for i, data in enumerate(inputs)]
 
 
-record.write('values', numbered('utf8', utf8_cases(), lambda d: b'utf8' if model.is_utf8(d) else b'refused')
+record.write('values', numbered('utf8', utf8_cases() + list(edge_cases()), lambda d: b'utf8' if model.is_utf8(d) else b'refused')
              + numbered('u64', number_cases(), lambda d: number_line(model.u64(d)))
              + numbered('u32', number_cases(), lambda d: number_line(model.u32(d)))
              + numbered('field', field_cases(), lambda d: field_line(d, False))

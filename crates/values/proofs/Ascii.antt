@@ -2,14 +2,14 @@
 use Prim.Native.Nat.{ℕ, zero, suc, _+_, _≤_, _<_}
 use native.Mathlib.Omega.{arith}
 use mathlib.Core.Path.{_≡_, refl, sym, _∙_}
-use mathlib.Core.Bool.{Bool, true, false, _&&_}
+use mathlib.Core.Bool.{Bool, true, _&&_}
 use mathlib.Core.List.{[], _∷_}
 use lib.Dec.{ltb}
 use lib.ListN.{length, getD, take, drop, drop-of-length-le}
 use borrow.Author.Tests.{ltb-true, lt-ltb}
 use Rattle.values.specs.Bytes.{Bytes}
 use Rattle.values.specs.Utf8.{completes, isUtf8, isAscii}
-use Rattle.values.proofs.Tests.{pass, fail, test, and-l, and-r, and-off}
+use Rattle.values.proofs.Tests.{pass, fail, test, and-l, and-r, and-off, and-on}
 use Rattle.values.proofs.Lists.{here}
 use Rattle.values.proofs.Texts.{utf8-ascii}
 
@@ -81,11 +81,7 @@ module _ {s : Bytes} {highest i : ℕ} (g : Rising s highest i) (h : i < length 
 
 pub ended : {s : Bytes} {highest i : ℕ} → Rising s highest i → length s ≤ i → ltb highest 128 ≡ isAscii s
 unfolding isAscii
-ended {s} {highest} g h = sym (g .same ∙ rw (drop-of-length-le s h) (whole (ltb highest 128)))
-  where
-    whole : (q : Bool) → (q && true) ≡ q
-    whole true = refl
-    whole false = refl
+ended {s} {highest} g h = sym (g .same ∙ rw (drop-of-length-le s h) (and-on (ltb highest 128)))
 
 -- what answers the needs of `is_ascii`
 pub ruleset rises = (started, higher, lower, ended)

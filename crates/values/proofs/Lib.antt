@@ -4,6 +4,8 @@ pub mod Sames
 pub mod Rows
 pub mod Texts
 pub mod Ascii
+pub mod Fitting
+pub mod Blocks
 pub mod Integers
 pub mod Decimals
 pub mod Outputs

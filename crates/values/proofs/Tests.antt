@@ -47,6 +47,10 @@ pub and-off : (a : Bool) {b : Bool} → b ≡ false → a && b ≡ false
 and-off true e = e
 and-off false e = refl
 
+pub and-on : (a : Bool) → (a && true) ≡ a
+and-on true = refl
+and-on false = refl
+
 -- a test is not both
 pub both : {A : Type 0} {b : Bool} → b ≡ true → b ≡ false → A
 both {b = b} e f = absurd (true≢false (rw e at f))

@@ -1,20 +1,14 @@
--- UTF-8: a turn of `utf8`'s loop on plain values, and how a text is put together and falls apart. Assumes nothing.
-use Prim.Native.Nat.{ℕ, zero, suc, _+_, _-_, _≤_, _<_}
+-- UTF-8: how a text is put together and falls apart. Assumes nothing.
+use Prim.Native.Nat.{ℕ, _≤_, _<_}
 use native.Mathlib.Omega.{arith}
-use mathlib.Core.Path.{_≡_, refl, sym, ap, _∙_}
+use mathlib.Core.Path.{_≡_, refl}
 use mathlib.Core.Bool.{true, false, _&&_}
 use mathlib.Core.List.{List, [], _∷_, _++_}
 use mathlib.Core.Option.{Option, none, some}
-use lib.Dec.{leb, eqb, eqb·suc-zero}
-use lib.ListN.{length, getD, drop, replicate, drop-of-length-le}
-use borrow.Author.Tests.{le-leb, lt-leb}
+use borrow.Author.Tests.{lt-leb}
 use Rattle.values.specs.Bytes.{Bytes}
-use Rattle.values.specs.Utf8.{Range, Character, upTo, tail, within, look, characters, followers, completes, isUtf8}
-use Rattle.values.specs.declared.utf8.Lead.{Lead}
-use Rattle.values.specs.declared.utf8.Lead.the-variants.{Follow, Refused}
-use Rattle.values.specs.Lead.{due, leadMeans}
-use Rattle.values.proofs.Tests.{pass, fail, test, and-off}
-use Rattle.values.proofs.Lists.{here}
+use Rattle.values.specs.Utf8.{Range, Character, within, look, characters, followers, completes, isUtf8}
+use Rattle.values.proofs.Tests.{pass, fail, test}
 use Rattle.values.proofs.Rows.{spans}
 
 pub begin-bad : (b : ℕ) (t : Bytes) → followers b ≡ none → completes [] (b ∷ t) ≡ false
@@ -32,58 +26,6 @@ next-bad b t r p e = rw (e, completes)
 pub next : (b : ℕ) (t : Bytes) (r : Range) (p : List Range) → within r b ≡ true → completes (r ∷ p) (b ∷ t) ≡ completes p t
 unfolding completes
 next b t r p e = rw (e, completes)
-
-tails : (n : ℕ) → replicate n tail ≡ due n 0x80 0xBF
-tails zero = refl
-tails (suc n) = refl
-
--- what the bytes from i on still have to be
-pub record Going (s : Bytes) (left low high i : ℕ) : Type 0 where
-  pub inside : i ≤ length s
-  pub same : isUtf8 s ≡ completes (due left low high) (drop i s)
-
-module _ {s : Bytes} {left low high i : ℕ} (g : Going s left low high i) (h : i < length s) where
-  abbrev b : ℕ
-  b = getD s i 0
-
-  abbrev t : Bytes
-  t = drop (i + 1) s
-
-  pub first-bad : left ≡ 0 → {r : Lead} → leadMeans r ≡ followers b → r ≡ Refused → false ≡ isUtf8 s
-  first-bad e f q = sym (g .same ∙ rw (here s i, e) (begin-bad b t (sym f ∙ ap leadMeans q)))
-
-  pub first : left ≡ 0 → {r : Lead} → leadMeans r ≡ followers b → {n l u : ℕ} → r ≡ Follow n l u → Going s n l u (i + 1)
-  first e f q = record { inside = omega arith; same = g .same ∙ rw (here s i, e) (begin b t (sym f ∙ ap leadMeans q)) }
-
-  tailing : (left ≡ 0 → ⊥) → isUtf8 s ≡ completes (upTo low high ∷ due (left - 1) 0x80 0xBF) (b ∷ t)
-  tailing ne = g .same ∙ rw (here s i) (ap (λ (p : List Range). completes p (b ∷ t)) (head left ne))
-    where
-      head : (m : ℕ) → (m ≡ 0 → ⊥) → due m low high ≡ upTo low high ∷ due (m - 1) 0x80 0xBF
-      head zero ne = absurd (ne refl)
-      head (suc n) ne = let e : n ≡ suc n - 1 = omega arith in rw (← e, ← (tails n))
-
-  pub below : (left ≡ 0 → ⊥) → b < low → false ≡ isUtf8 s
-  below ne lt = sym (tailing ne ∙ next-bad b t (upTo low high) _ (simp (lt-leb low b lt)))
-
-  pub above : (left ≡ 0 → ⊥) → high < b → false ≡ isUtf8 s
-  above ne lt = sym (tailing ne ∙ next-bad b t (upTo low high) _ (and-off (leb low b) (lt-leb b high lt)))
-
-  pub later : (left ≡ 0 → ⊥) → low ≤ b → b ≤ high → Going s (left - 1) 0x80 0xBF (i + 1)
-  later ne l u = record { inside = omega arith; same = tailing ne ∙ next b t (upTo low high) _ (simp (le-leb low b l, le-leb b high u)) }
-
-pub started : (s : Bytes) → Going s 0 0x80 0xBF 0
-started s = record { inside = omega arith; same = refl }
-
-pub ended : {s : Bytes} {left low high i : ℕ} → Going s left low high i → length s ≤ i → eqb left 0 ≡ isUtf8 s
-unfolding completes
-ended {s} {left} {low} {high} g h = sym (g .same ∙ rw (drop-of-length-le s h) (none-left left))
-  where
-    none-left : (n : ℕ) → completes (due n low high) [] ≡ eqb n 0
-    none-left zero = refl
-    none-left (suc n) = sym (eqb·suc-zero n)
-
--- what answers the needs of `utf8`
-pub ruleset turns = (started, first-bad, first, below, above, later, ended)
 
 pub data Led (o : Option (List Range)) : Type 0 where
   no-row : o ≡ none → Led o

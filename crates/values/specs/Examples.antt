@@ -1,11 +1,12 @@
 -- Worked examples, one table for each definition, computed by the checker. Assumes nothing.
 use Prim.Native.Nat.{ℕ, _-_, _^_}
 use mathlib.Core.Path.{_≡_, refl}
-use mathlib.Core.Bool.{Bool, true, false}
+use mathlib.Core.Bool.{Bool, true, false, not, _&&_}
 use mathlib.Core.List.{List, [], _∷_, _++_, map}
-use lib.ListN.{replicate}
+use lib.ListN.{length, replicate}
 use Rattle.values.specs.Bytes.{Bytes, ascii, begins, any, before, from, same}
 use Rattle.values.specs.Utf8.{isUtf8, isAscii, completes, followers}
+use Rattle.values.specs.Fitting.{allFit, byteBefore, partFits, isCut}
 use Rattle.values.specs.Integer.{u32Read, u64Read, unsignedRead, withoutSign, numberOf, decimal, digitsOf}
 use Rattle.values.specs.Value.{Value, written, quotedText, readValues, readValue, unescaped, meaning, escape, writeValue}
 use Rattle.values.specs.Field.{readKey, readField, writtenField}
@@ -24,11 +25,12 @@ Table {A} {B} f rows = map (λ (r : A × B). f (r .0)) rows ≡ map (λ (r : A �
 
 -- what the definitions need to compute
 unfoldable pub opened : Unit {0}
-unfolding hashed hashOf hashByte begins any before from same completes followers isAscii unsignedRead withoutSign numberOf decimal digitsOf written quotedText readValues readValue unescaped escape readKey readField writtenField unescapedAt fieldAt
+unfolding hashed hashOf hashByte begins any before from same completes followers isAscii allFit byteBefore partFits isCut unsignedRead withoutSign numberOf decimal digitsOf written quotedText readValues readValue unescaped escape readKey readField writtenField unescapedAt fieldAt
 opened = tt
 
 -- RFC 3629, section 7; then an overlong form, a surrogate, more than 10FFFF, lone and missing tails, and a cut last character
-utf8-table : Table isUtf8 (
+abbrev texts : List (Bytes × Bool)
+texts =
     ([], true)
     ∷ (0x41 ∷ 0xE2 ∷ 0x89 ∷ 0xA2 ∷ 0xCE ∷ 0x91 ∷ 0x2E ∷ [], true)
     ∷ (0xED ∷ 0x95 ∷ 0x9C ∷ 0xEA ∷ 0xB5 ∷ 0xAD ∷ 0xEC ∷ 0x96 ∷ 0xB4 ∷ [], true)
@@ -43,9 +45,15 @@ utf8-table : Table isUtf8 (
     ∷ (0xC3 ∷ 0x41 ∷ [], false)
     ∷ (0x41 ∷ 0xE2 ∷ 0x89 ∷ [], false)
     ∷ []
-    )
+
+utf8-table : Table isUtf8 texts
 unfolding opened
 utf8-table = refl
+
+-- and by the three bytes before each byte
+fitting-table : Table (λ (s : Bytes). partFits s 0 (length s) && not (isCut s)) texts
+unfolding opened
+fitting-table = refl
 
 ascii-table : Table isAscii (([], true) ∷ (0x00 ∷ 0x7F ∷ [], true) ∷ (0x80 ∷ 0x41 ∷ [], false) ∷ (0x41 ∷ 0xCE ∷ 0x91 ∷ [], false) ∷ [])
 unfolding opened

@@ -1,6 +1,6 @@
 pub mod Bytes
 pub mod Utf8
-pub mod Lead
+pub mod Fitting
 pub mod Integer
 pub mod Value
 pub mod Field

@@ -4,6 +4,7 @@ of forged ones. Asked are the version of the field calls, the table's words, the
 past the last), and the words forged (-: the word that reading left)."""
 import model
 import record
+from calls_table import identity, place
 from pieces import COLS, EXAMPLE, F, FILTER_CASE, QUOTED_EXAMPLE, text, words
 
 LAST = 2**64 - 1
@@ -74,14 +75,6 @@ def part(call, *arguments):
 
 def said(shown):
     return b'%d-%d' % shown if shown else b'29'
-
-
-def place(kind, start, length, zero=0):
-    return kind << 60 | start << 40 | length << 24 | zero
-
-
-def identity(offset, length, quoted=0, tag=0, zero=0):
-    return offset << 48 | length << 32 | quoted << 31 | tag << 29 | zero
 
 
 def as_read():

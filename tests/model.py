@@ -408,6 +408,38 @@ def entry_field(header, table, n, index, version):
     return e.start + r.fields[index].start, e.start + r.fields[index].end
 
 
+# How numbers were spelled
+
+NUMBERS = (b'Number', b'IDX', b'length')
+PLAIN = re.compile(rb'0|[1-9][0-9]*')
+
+
+def is_odd(kind, f, version):
+    """Whether a field is a number, by the kind's table, and not plainly spelled."""
+    return f.key in NUMBERS and f.key in KNOWN[kind] and u64(f.value) is not None and not PLAIN.fullmatch(f.value)
+
+
+def odd_entry(header, table, n, version):
+    e = well_formed(header, table, n)
+    if e.kind not in KNOWN:
+        return False
+    line = header[e.start:e.start + e.length]
+    require(is_utf8(line), 29)
+    try:
+        r = record(line, version)
+    except Refused:
+        raise Refused(29) from None
+    require(r.kind == e.kind, 29)
+    return any(is_odd(r.kind, f, version) for f in r.fields)
+
+
+def odd_entries(header, table, version, room):
+    """The numbers of the entries that carry an oddly spelled number."""
+    odd = [n for n in range(len(table) // 2) if odd_entry(header, table, n, version)]
+    require(len(odd) <= room, 31)
+    return odd
+
+
 # Meaning and house form
 
 Meaning = namedtuple('Meaning', 'version groups format_stood samples')

@@ -59,8 +59,8 @@ def field_line(data, meta):
     return places.encode() + b' means ' + f.value + b' written ' + model.quote(f.value)
 
 
-def number_line(number):
-    return b'refused' if number is None else b'value=%d' % number
+def number_line(number, data):
+    return b'refused' if number is None else b'value=%d' % number + (b'' if model.PLAIN.fullmatch(data) else b' odd')
 
 
 def numbered(asked, inputs, expect):
@@ -68,7 +68,7 @@ def numbered(asked, inputs, expect):
 
 
 record.write('values', numbered('utf8', utf8_cases() + list(edge_cases()), lambda d: b'utf8' if model.is_utf8(d) else b'refused')
-             + numbered('u64', number_cases(), lambda d: number_line(model.u64(d)))
-             + numbered('u32', number_cases(), lambda d: number_line(model.u32(d)))
+             + numbered('u64', number_cases(), lambda d: number_line(model.u64(d), d))
+             + numbered('u32', number_cases(), lambda d: number_line(model.u32(d), d))
              + numbered('field', field_cases(), lambda d: field_line(d, False))
              + numbered('meta', field_cases(), lambda d: field_line(d, True)))

@@ -71,8 +71,21 @@ static void parts(void) {
     same("by 3.4 a text", vcfh_field(bytes(header), length, table, WORDS, 2, 3, 4, 1).number, 29);
 }
 
+/* Major and minor exchanged, the lines are texts under 3.4, so that 29 comes; the list is one word too short, and its last word stays. */
+static void odd(void) {
+    const char *header = "##fileformat=VCFv4.3\n##c=<ID=x,L=1>\n##contig=<ID=a,length=007>\n##contig=<ID=b,IDX=+5>\n" COLUMNS "\n";
+    size_t length = strlen(header);
+    uint64_t list[3] = {7, 7, 7};
+    size_t words = 2 * read_by(header, 0, 0, 0).entries;
+    vcfh_listed found = vcfh_odd(bytes(header), length, table, words, 4, 3, list, 3);
+    same("listed", found.number, 0), same("how many", found.listed, 2);
+    same("first", list[0], 2), same("second", list[1], 3), same("third", list[2], 7);
+    same("a list too short", vcfh_odd(bytes(header), length, table, words, 4, 3, list, 1).number, 31);
+    same("not as the entry says", vcfh_odd(bytes(header), length, table, words, 3, 4, list, 3).number, 29);
+}
+
 int main(void) {
-    versions(), places(), forms(), parts();
+    versions(), places(), forms(), parts(), odd();
     same("UTF-8", vcfh_utf8(bytes("\xc3\xa9"), 2), 1);
     same("no UTF-8", vcfh_utf8(bytes("\xc3\xa9"), 1), 0);
     printf("%u passed, %u failed\n", passed, failed);

@@ -63,6 +63,15 @@ vcfh_part vcfh_id(const uint8_t *header, size_t length, const uint64_t *table, s
 vcfh_part vcfh_field(const uint8_t *header, size_t length, const uint64_t *table, size_t words, uint64_t entry,
                      uint32_t major, uint32_t minor, uint64_t field);
 
+/* number: 0, 29 where an entry is not well formed or its line, read alone, is not what the entry says, 31 where the list is too short.
+   listed: how many entries were listed, 0 if refused. */
+typedef struct { uint64_t number, listed; } vcfh_listed;
+
+/* The numbers of the entries that carry a Number, IDX or length with a sign or a leading zero, such as +5 or 007, in table order, by the
+   version given. Nothing is written if it is refused; one word for each entry is never too few. */
+vcfh_listed vcfh_odd(const uint8_t *header, size_t length, const uint64_t *table, size_t words, uint32_t major, uint32_t minor,
+                     uint64_t *list, size_t list_words);
+
 /* 1 fileformat, 2 INFO, 3 FILTER, 4 FORMAT, 5 ALT, 6 contig, 7 other map, 8 other text, 9 column line, 10 sample. */
 static inline unsigned vcfh_kind(const uint64_t *table, uint64_t entry) { return (unsigned)(table[2 * entry] >> 60); }
 

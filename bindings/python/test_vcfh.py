@@ -53,6 +53,11 @@ class Reading(unittest.TestCase):
         header = vcfh.Header(b'##fileformat=VCFv4.3\n##cell=<K="0,98",ID=W07>\n' + COLUMNS + b"\n")
         self.assertEqual((header[1].fields, header[2].fields, header.version), ([b'K="0,98"', b"ID=W07"], [], (4, 3)))
 
+    def test_entries_with_oddly_spelled_numbers_are_listed(self):
+        lines = b"##contig=<ID=a,length=007>\n##contig=<ID=b,length=7>\n##contig=<ID=c,IDX=+5>\n"
+        self.assertEqual(vcfh.Header(b"##fileformat=VCFv4.3\n" + lines + COLUMNS).odd(), [1, 3])
+        self.assertEqual(vcfh.Header(PROBE).odd(), [])
+
     def test_headers_of_one_meaning_have_one_house_form(self):
         self.assertEqual(vcfh.house_form(PROBE.replace(b"<ID=W07,K=0.98>", b'<K="0.98",ID="W07">')), PROBE)
         with self.assertRaises(vcfh.Refused):

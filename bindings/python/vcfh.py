@@ -42,6 +42,10 @@ class _Part(ctypes.Structure):
     _fields_ = [(name, ctypes.c_uint64) for name in ("number", "start", "length")]
 
 
+class _Listed(ctypes.Structure):
+    _fields_ = [(name, ctypes.c_uint64) for name in ("number", "listed")]
+
+
 _BYTES = [ctypes.c_char_p, ctypes.c_size_t]
 _TABLE = [ctypes.POINTER(ctypes.c_uint64), ctypes.c_size_t]
 _NUMBER = [ctypes.c_uint64]
@@ -60,6 +64,7 @@ def _library():
         ("vcfh_entry", _Part, _BYTES + _TABLE + _NUMBER),
         ("vcfh_id", _Part, _BYTES + _TABLE + _NUMBER),
         ("vcfh_field", _Part, _BYTES + _TABLE + _NUMBER + _VERSION + _NUMBER),
+        ("vcfh_odd", _Listed, _BYTES + _TABLE + _VERSION + _TABLE),
     ):
         function = getattr(library, name)
         function.restype, function.argtypes = result, arguments
@@ -119,6 +124,15 @@ class Header:
         kind = KINDS[(self._table[2 * number] >> 60) - 1]
         line, identity = self._part(_vcfh.vcfh_entry, number), self._part(_vcfh.vcfh_id, number)
         return Entry(number, kind, line, identity, list(self._fields(number)))
+
+    def odd(self):
+        """The numbers of the entries that carry a Number, IDX or length with a sign or a leading zero, such as +5 or 007."""
+        room = max(self._entries, 1)
+        listed = (ctypes.c_uint64 * room)()
+        answer = _vcfh.vcfh_odd(self._data, len(self._data), self._table, 2 * self._entries, *self.version, listed, room)
+        if answer.number:
+            raise Refused(answer.number, 0, 0)
+        return list(listed[: answer.listed])
 
     def _fields(self, number):
         for n in itertools.count():

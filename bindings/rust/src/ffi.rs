@@ -54,6 +54,12 @@ pub struct Part {
     pub length: u64,
 }
 
+#[repr(C)]
+pub struct Listed {
+    pub number: u64,
+    pub listed: u64,
+}
+
 extern "C" {
     fn vcfh_utf8(bytes: *const u8, length: usize) -> u64;
     fn vcfh_read(header: *const u8, length: usize, imposed: u64, major: u32, minor: u32, table: *mut u64, words: usize) -> Answer;
@@ -86,6 +92,16 @@ extern "C" {
     fn vcfh_entry(header: *const u8, length: usize, table: *const u64, words: usize, entry: u64) -> Part;
     fn vcfh_id(header: *const u8, length: usize, table: *const u64, words: usize, entry: u64) -> Part;
     fn vcfh_field(header: *const u8, length: usize, table: *const u64, words: usize, entry: u64, major: u32, minor: u32, field: u64) -> Part;
+    fn vcfh_odd(
+        header: *const u8,
+        length: usize,
+        table: *const u64,
+        words: usize,
+        major: u32,
+        minor: u32,
+        list: *mut u64,
+        list_words: usize,
+    ) -> Listed;
 }
 
 pub fn utf8(bytes: &[u8]) -> bool {
@@ -128,6 +144,11 @@ pub fn id(header: &[u8], table: &[u64], entry: u64) -> Part {
 
 pub fn field(header: &[u8], table: &[u64], entry: u64, version: Version, field: u64) -> Part {
     unsafe { vcfh_field(header.as_ptr(), header.len(), table.as_ptr(), table.len(), entry, version.major, version.minor, field) }
+}
+
+pub fn odd(header: &[u8], table: &[u64], version: Version, list: &mut [u64]) -> Listed {
+    let (words, room) = (table.len(), list.len());
+    unsafe { vcfh_odd(header.as_ptr(), header.len(), table.as_ptr(), words, version.major, version.minor, list.as_mut_ptr(), room) }
 }
 
 pub fn dictionaries(header: &[u8], imposed: Option<Version>, table: &mut [u64], strings: &mut [u64], contigs: &mut [u64]) -> Numbers {

@@ -185,6 +185,14 @@ impl<'h> Header<'h> {
         Some(Entry { header: self, number, line })
     }
 
+    /// The numbers of the entries that carry a Number, IDX or length with a sign or a leading zero, such as `+5` or `007`.
+    pub fn odd(&self) -> Vec<u64> {
+        let mut list = vec![0; self.table.len() / 2];
+        let listed = self.version().map_or(0, |version| ffi::odd(self.bytes, &self.table, version, &mut list).listed);
+        list.truncate(listed as usize);
+        list
+    }
+
     fn part(&self, part: ffi::Part) -> Option<&'h [u8]> {
         let start = part.start as usize;
         (part.number == 0).then(|| &self.bytes[start..start + part.length as usize])

@@ -102,8 +102,15 @@ fn entry_and_field_are_told_apart() {
 }
 
 #[test]
+fn entries_with_oddly_spelled_numbers_are_listed() {
+    let lines = "##contig=<ID=a,length=007>\n##contig=<ID=b,length=7>\n##contig=<ID=c,IDX=+5>\n";
+    let bytes = format!("##fileformat=VCFv4.3\n{lines}{COLUMNS}\n");
+    assert_eq!(Header::read(bytes.as_bytes(), None).unwrap().odd(), [1, 3]);
+}
+
+#[test]
 fn every_number_has_its_own_words() {
-    let mut words: Vec<&str> = (1..=29).chain(34..=40).map(|number| Refused { number, line: 0, start: 0 }.words()).collect();
+    let mut words: Vec<&str> = (1..=29).chain([31]).chain(34..=40).map(|number| Refused { number, line: 0, start: 0 }.words()).collect();
     let none = Refused { number: 30, line: 0, start: 0 }.words();
     assert!(!words.contains(&none));
     words.sort();

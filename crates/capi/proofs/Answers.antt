@@ -34,7 +34,11 @@ use Rattle.register.specs.Compared.{listedInArrays}
 use Rattle.register.specs.Answers.{registerNumber, RegisterMeaning, registerAnswerMeans, registerMeans}
 use Rattle.register.specs.declared.probe.RegisterRead.{RegisterRead}
 use Rattle.register.specs.declared.compare.Differences.{Differences}
-use Rattle.capi.specs.Answers.{flag, imposedBy, answerInC, formInC, partOf, partAs, Ordered, registerAs, differencesAs}
+use Rattle.spelling.specs.Odd.{oddIn, oddAnswer, oddList}
+use Rattle.spelling.specs.Odd.{outcomeNumber as oddNumber}
+use Rattle.spelling.specs.declared.odd.OddAnswer.{OddAnswer}
+use Rattle.capi.specs.declared.VcfhOdd.{VcfhOdd}
+use Rattle.capi.specs.Answers.{oddAs, flag, imposedBy, answerInC, formInC, partOf, partAs, Ordered, registerAs, differencesAs}
 use Rattle.capi.specs.declared.VcfhAnswer.{VcfhAnswer}
 use Rattle.capi.specs.declared.VcfhForm.{VcfhForm}
 use Rattle.capi.specs.declared.VcfhPart.{VcfhPart}
@@ -140,3 +144,21 @@ module _ {q b : Bool} (a : q ≡ b) where
   flag-clear e = sym (ap flag (sym a ∙ e))
 
 pub ruleset flags = (flag-set, flag-clear)
+
+-- Oddly spelled numbers
+
+module _ (h t list : List ℕ) (major minor : ℕ) {f : FileFormat} (e : f ≡ record { major = major; minor = minor }) where
+  under : oddIn h t (versionOf f) ≡ oddIn h t (version major minor)
+  under = ap (λ (g : FileFormat). oddIn h t (versionOf g)) e
+
+  pub odd-answer : {r : OddAnswer} → r ≡ oddAnswer (length list) (oddIn h t (versionOf f)) → {n : ℕ} → n ≡ oddNumber (r .outcome)
+      → record { number = n; listed = r .listed } ≡ oddAs (oddAnswer (length list) (oddIn h t (version major minor)))
+  odd-answer {r} a {n} b = ap (oddOf (r .listed)) b ∙ ap oddAs (a ∙ ap (oddAnswer (length list)) under)
+    where
+      oddOf : ℕ → ℕ → VcfhOdd
+      oddOf listed n = record { number = n; listed = listed }
+
+  pub odd-list : {list′ : List ℕ} → list′ ≡ oddList list (oddIn h t (versionOf f)) → list′ ≡ oddList list (oddIn h t (version major minor))
+  odd-list a = a ∙ ap (oddList list) under
+
+pub ruleset odd = (odd-answer, odd-list)

@@ -23,6 +23,9 @@ use Rattle.capi.specs.declared.VcfhForm.{VcfhForm}
 use Rattle.capi.specs.declared.VcfhDictionaries.{VcfhDictionaries}
 use Rattle.dictionary.specs.Dictionary.{Dictionaries, dictionaries}
 use Rattle.capi.specs.declared.VcfhPart.{VcfhPart}
+use Rattle.spelling.specs.Odd.{outcomeNumber}
+use Rattle.spelling.specs.declared.odd.OddAnswer.{OddAnswer}
+use Rattle.capi.specs.declared.VcfhOdd.{VcfhOdd}
 use Rattle.capi.specs.declared.VcfhRegister.{VcfhRegister}
 use Rattle.capi.specs.declared.VcfhDifferences.{VcfhDifferences}
 
@@ -79,3 +82,6 @@ differencesAs ds = record {
   old = filled (map (λ (d : Difference). d .old) ds);
   new = filled (map (λ (d : Difference). d .new) ds);
 }
+
+abbrev pub oddAs : OddAnswer → VcfhOdd
+oddAs r = record { number = outcomeNumber (r .outcome); listed = r .listed }

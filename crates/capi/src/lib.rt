@@ -6,6 +6,7 @@ use records::file_format::FileFormat;
 use records::refusal::Refusal;
 use register::compare;
 use register::probe;
+use spelling::odd;
 ghost use mathlib.Core.Path.{_≡_};
 ghost use lib.ListN.{length};
 ghost use lib.Seq.{sets};
@@ -18,7 +19,8 @@ ghost use Rattle.header.specs.Verdicts.{imposedOf};
 ghost use Rattle.header.specs.Parsers.{outcomeNumber, readInto};
 ghost use Rattle.register.specs.Register.{registerOf};
 ghost use Rattle.register.specs.Compare.{differing};
-ghost use Rattle.capi.specs.Answers.{flag, imposedBy, answerInC, formInC, dictionariesIn, dictionariesInC, partOf, partAs, Ordered, registerAs, differencesAs};
+ghost use Rattle.spelling.specs.Odd.{oddIn, oddAnswer, oddList};
+ghost use Rattle.capi.specs.Answers.{flag, imposedBy, answerInC, formInC, dictionariesIn, dictionariesInC, partOf, partAs, Ordered, registerAs, differencesAs, oddAs};
 
 // Document 01's number, 0 if accepted; the line and its start; how many entries the table keeps.
 #[repr(C)]
@@ -48,6 +50,13 @@ pub struct VcfhDictionaries {
     pub entries: u64,
     pub strings: u64,
     pub contigs: u64,
+}
+
+// Document 02's number, 0 if the entries are listed, and how many there are, 0 if refused.
+#[repr(C)]
+pub struct VcfhOdd {
+    pub number: u64,
+    pub listed: u64,
 }
 
 // Number 0 and a part of the header, or number 29 and no part.
@@ -296,4 +305,26 @@ pub extern "C" fn vcfh_field(
     let under = FileFormat::new(major, minor);
     let shown = header::shown::field(header, table, entry as usize, under, field as usize);
     part_of(shown)
+}
+
+// The numbers of the entries that carry a number with a sign or a leading zero, in table order, by the version given.
+#[no_mangle]
+pub extern "C" fn vcfh_odd(
+    header: &[u8],
+    table: &[u64],
+    major: u32,
+    minor: u32,
+    list: &mut [u64],
+) -> VcfhOdd
+    ensures answer { λ r. ⌜ r ≡ oddAs (oddAnswer (length (now (list .entry))) (oddIn (now (header .entry)) (now (table .entry)) (version major minor))) ⌝ }
+    ensures list { λ _. ⌜ now (list .exit) ≡ oddList (now (list .entry)) (oddIn (now (header .entry)) (now (table .entry)) (version major minor)) ⌝ }
+{
+    let under = FileFormat::new(major, minor);
+    let answer = odd::odd_entries(header, table, under, list);
+    let outcome = answer.outcome;
+    let number = outcome.number();
+    VcfhOdd {
+        number,
+        listed: answer.listed as u64,
+    }
 }

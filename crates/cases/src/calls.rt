@@ -80,7 +80,7 @@ fn put_entry(
 ) -> usize {
     let placed = put_places(out, at, header, table, n);
     match field {
-        IntegerRead::Value(i) => {
+        IntegerRead::Value(i, _) => {
             let next = output::put_bytes(out, placed, b" fields: ");
             put_shown(
                 out,
@@ -119,12 +119,12 @@ fn forge_word(table: &mut [u64], k: usize, word: IntegerRead) {
         return;
     }
     match word {
-        IntegerRead::Value(value) => table[k] = value,
+        IntegerRead::Value(value, _) => table[k] = value,
         IntegerRead::Refused => {}
     }
 }
 
-fn forge(table: &mut [u64], asked: &[u8]) {
+pub fn forge(table: &mut [u64], asked: &[u8]) {
     let mut k = 0;
     while k < table.len() {
         forge_word(table, k, words::number(asked, k + 5));
@@ -139,7 +139,7 @@ fn put_calls(out: &mut [u8], header: &[u8], asked: &[u8], table: &mut [u64]) -> 
     let version = words::version(asked, 1);
     let field = words::number(asked, 4);
     match words::number(asked, 3) {
-        IntegerRead::Value(n) => put_entry(out, 0, header, table, n as usize, version, field),
+        IntegerRead::Value(n, _) => put_entry(out, 0, header, table, n as usize, version, field),
         IntegerRead::Refused => put_entries(out, header, table, version, field),
     }
 }

@@ -4,6 +4,7 @@ mod calls;
 mod dictionaries;
 mod forms;
 mod library;
+mod odd;
 mod reads;
 mod registers;
 mod text;
@@ -47,6 +48,9 @@ fn answer(asked: &[u8], input: &[u8], form: &mut [u8], out: &mut [u8]) -> usize 
     }
     if bytes::same(what, b"register") {
         return registers::put(out, input, asked);
+    }
+    if bytes::same(what, b"odd") {
+        return odd::put(out, input, asked);
     }
     if bytes::starts_with(what, b"c-") {
         return library::put(out, input, asked, form);

@@ -57,7 +57,7 @@ fn escaped(b: u8) -> u8 {
 
 fn count_of(s: &[u8]) -> usize {
     match integer::parse_u64(s) {
-        IntegerRead::Value(n) => n as usize,
+        IntegerRead::Value(n, _) => n as usize,
         IntegerRead::Refused => 0,
     }
 }

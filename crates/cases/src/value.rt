@@ -18,7 +18,13 @@ fn put_utf8(out: &mut [u8], s: &[u8]) -> usize {
 
 fn put_integer(out: &mut [u8], read: IntegerRead) -> usize {
     match read {
-        IntegerRead::Value(n) => text::put_number(out, 0, b"value=", n),
+        IntegerRead::Value(n, plain) => {
+            let at = text::put_number(out, 0, b"value=", n);
+            if plain {
+                return at;
+            }
+            output::put_bytes(out, at, b" odd")
+        }
         IntegerRead::Refused => output::put_bytes(out, 0, b"refused"),
     }
 }

@@ -32,7 +32,7 @@ pub fn number(asked: &[u8], n: usize) -> IntegerRead {
 
 pub fn size(asked: &[u8], n: usize) -> usize {
     match number(asked, n) {
-        IntegerRead::Value(size) => size as usize,
+        IntegerRead::Value(size, _) => size as usize,
         IntegerRead::Refused => 0,
     }
 }

@@ -74,7 +74,7 @@ module _ (h : Bytes) (e : CodeEntry) {line : Bytes} (el : line ≡ lineIn h (ent
     pub idx-unread : v ≡ integer.Refused → none ≡ entryIdx h (entryOf e)
     idx-unread w = sym (read ∙ ap integerIn w)
 
-    pub idx-read : {n : ℕ} → v ≡ integer.Value n → some n ≡ entryIdx h (entryOf e)
+    pub idx-read : {n : ℕ} {p : Bool} → v ≡ integer.Value n p → some n ≡ entryIdx h (entryOf e)
     idx-read w = sym (read ∙ ap integerIn w)
 
 pub ruleset idxs = (idx-missing, idx-unread, idx-read)

@@ -43,7 +43,7 @@ pub record Line : Type 0 where
   pub idx : Option ℕ
 
 abbrev pub integerIn : IntegerRead → Option ℕ
-integerIn (integer.Value n) = some n
+integerIn (integer.Value n plain) = some n
 integerIn integer.Refused = none
 
 abbrev pub idxOf : Option Field → Option ℕ

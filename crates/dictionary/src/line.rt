@@ -57,7 +57,8 @@ pub fn line_idx(h: &[u8], e: Entry) -> IdxRead
     let FieldFound::Found(text) = field::find_field(line, start, false, b"IDX") else {
         return IdxRead::Missing;
     };
-    let IntegerRead::Value(n) = integer::parse_u64(bytes::part(line, text.start, text.end)) else {
+    let IntegerRead::Value(n, _) = integer::parse_u64(bytes::part(line, text.start, text.end))
+    else {
         return IdxRead::Missing;
     };
     IdxRead::Idx(n)

@@ -63,7 +63,7 @@ module _ (meta : Bool) (key s : Bytes) (q : Bool) {i : IntegerRead} (a : i ≡ u
   pub number-unread : i ≡ integer.Refused → {r : ℕ} {o : Bytes} → Wrote out at (writtenField (fieldBy meta key (meaning q s))) r o → PutsNumber meta key s q out at r o
   number-unread e {r} {o} w = record { is = λ d raw. subst (λ (x : IntegerRead). Wrote out at (writtenField (fieldBy meta key (writeKnown (numberOrWord (meaning q s) x)))) r o) (sym (raw ∙ sym a ∙ e)) w }
 
-  pub number-read : {n : ℕ} → i ≡ integer.Value n → {r : ℕ} {o : Bytes} → Wrote out at (key ++ 61 ∷ []) r o → {r′ : ℕ} {o′ : Bytes} → Wrote o r (decimal n) r′ o′ → PutsNumber meta key s q out at r′ o′
+  pub number-read : {n : ℕ} {p : Bool} → i ≡ integer.Value n p → {r : ℕ} {o : Bytes} → Wrote out at (key ++ 61 ∷ []) r o → {r′ : ℕ} {o′ : Bytes} → Wrote o r (decimal n) r′ o′ → PutsNumber meta key s q out at r′ o′
   unfolding written
   number-read {n} e w {r′} {o′} w′ = record {
     is = λ d raw. subst (λ (x : IntegerRead). Wrote out at (writtenField (fieldBy meta key (writeKnown (numberOrWord (meaning q s) x)))) r′ o′) (sym (raw ∙ sym a ∙ e))

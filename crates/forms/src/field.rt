@@ -41,7 +41,7 @@ pub fn put_number(
 ) -> usize
     ensures { λ r. ⌜ PutsNumber meta (now (key .entry)) (now (s .entry)) quoted (now (out .entry)) at r (now (out .exit)) ⌝ }
 {
-    let IntegerRead::Value(n) = integer::parse_u64(s) else {
+    let IntegerRead::Value(n, _) = integer::parse_u64(s) else {
         return put_field(out, at, key, s, quoted, meta);
     };
     let next = put_key(out, at, key);

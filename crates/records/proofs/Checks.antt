@@ -15,11 +15,12 @@ use Rattle.rules.specs.Answer.{unless}
 use Rattle.rules.specs.Version.{Version}
 use Rattle.rules.specs.Known.{Kind, Reads, KnownField, anyText, aNumber, aType, anInteger, isIn, letters, countOr, letterIn, readNumber}
 use Rattle.rules.specs.Map.{isSome, isValue, misread, valueRefusal}
+use Rattle.rules.specs.Spelling.{isOdd, oddRead, oddValue}
 use Rattle.records.specs.Maps.{misreadRaw, rawRefusal}
 
 -- a Number is a count or one of the letters
 number-some : (ls : List Bytes) (t : Bytes) (r : IntegerRead) → isSome (countOr (letterIn ls t) r) ≡ (isValue r || isIn t ls)
-number-some ls t (integer.Value n) = refl
+number-some ls t (integer.Value n p) = refl
 number-some ls t integer.Refused = elim (test (isIn t ls)) [ pass e ↦ rw (letterIn, e) | fail e ↦ rw (letterIn, e) ]
 
 module _ (v : Version) (kind : Kind) (value : Value) (raw : Raw true (2 ^ 64 - 1) value) where
@@ -31,6 +32,16 @@ module _ (v : Version) (kind : Kind) (value : Value) (raw : Raw true (2 ^ 64 - 1
       ∙ ap (λ (i : IntegerRead). isValue i || isIn (meaningOf value) (letters v kind)) raw)
   read-checked aType = refl
   read-checked anInteger = ap (λ (i : IntegerRead). unless (isValue i) 13) raw
+
+  read-spelled : (r : Reads) → oddRead (meaningOf value) r ≡ oddRead (textOf value) r
+  read-spelled anyText = refl
+  read-spelled aNumber = ap isOdd raw
+  read-spelled aType = refl
+  read-spelled anInteger = ap isOdd raw
+
+  pub value-spelled : (o : Option KnownField) → oddValue (meaningOf value) o ≡ oddValue (textOf value) o
+  value-spelled none = refl
+  value-spelled (some r) = read-spelled (r .reads)
 
   pub value-checked : (o : Option KnownField) → valueRefusal v kind (meaningOf value) o ≡ rawRefusal v kind (textOf value) (isQuoted value) o
   value-checked none = refl

@@ -47,7 +47,7 @@ eqb-sym a b = elim (test (eqb b a)) [
 
 -- a letter among those that the kind has, which is no integer
 module _ (v : Version) (kind : Kind) (l t : Bytes) (no : u64Read l ≡ integer.Refused) (known : isIn l (letters v kind) ≡ true) where
-  integer-not : {m : ℕ} → u64Read t ≡ integer.Value m → false ≡ same l t
+  integer-not : {m : ℕ} {p : Bool} → u64Read t ≡ integer.Value m p → false ≡ same l t
   integer-not e = elim (test (same l t)) [
     | pass q ↦ let z = sym (ap u64Read (same-sound l t q) ∙ e) ∙ no in never cc
     | fail q ↦ sym q
@@ -60,11 +60,11 @@ module _ (v : Version) (kind : Kind) (l t : Bytes) (no : u64Read l ≡ integer.R
   ]
 
   letter-asked : (i : IntegerRead) → u64Read t ≡ i → isNumber (letter l) (countOr (letterIn (letters v kind) t) i) ≡ same l t
-  letter-asked (integer.Value m) e = integer-not e
+  letter-asked (integer.Value m p) e = integer-not e
   letter-asked integer.Refused e = elim (test (isIn t (letters v kind))) [ pass q ↦ rw (isNumber, q) | fail q ↦ rw (isNumber, q) (letter-not q) ]
 
 count-asked : (n : ℕ) (ls : List Bytes) (t : Bytes) (i : IntegerRead) → isNumber (count n) (countOr (letterIn ls t) i) ≡ isInteger n i
-count-asked n ls t (integer.Value m) = eqb-sym n m
+count-asked n ls t (integer.Value m p) = eqb-sym n m
 count-asked n ls t integer.Refused = elim (test (isIn t ls)) [ pass q ↦ rw (isNumber, q) | fail q ↦ rw (isNumber, q) ]
 
 -- a count, or a letter that is no integer and is one of those that the version and the kind have
@@ -81,7 +81,7 @@ readableRows v kind [] = true
 readableRows v kind (r ∷ rs) = readable v kind (r .number) && readableRows v kind rs
 
 no-value : (i : IntegerRead) → not (isValue i) ≡ true → i ≡ integer.Refused
-no-value (integer.Value m) e = absurd (false≢true e)
+no-value (integer.Value m p) e = absurd (false≢true e)
 no-value integer.Refused e = refl
 
 module _ (v : Version) (kind : Kind) (t raw : Bytes) (q : Bool) (m : t ≡ meaning q raw) (i : u64Read t ≡ u64Read raw) where
@@ -284,7 +284,7 @@ pub reserved-asked : (v : Version) (key : MapKey) (s : Bytes) (id number kind : 
     → Declared v key s id number kind r
 unfolding misdeclared reserved
 reserved-asked v key s id number kind {n} {x} {y} i j l d m {r} z = record {
-  is = λ at tag t.
+  is = λ at tag odd t.
       let row : reserved v (kindOf (caseBytes key)) (valueNamed v (caseBytes key) (ascii "ID") (t .fs)) ≡ reserved v (kindBy key) (meaning (id .quoted) n)
       = ap₂ (reserved v) (kind-by-case key) (t .id-is ∙ ap (meaning (id .quoted)) (sym i)) in
       rw (misdeclared, row) (ap (λ (b : Bool). unless b 18) (

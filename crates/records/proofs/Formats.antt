@@ -65,7 +65,7 @@ module _ (s : Bytes) {q : Bool} (a : q ≡ starts (ascii "VCFv") s) (e : not q �
     pub bad-major : {m : IntegerRead} → m ≡ u32Read (take (p - 4) (drop 4 s)) → m ≡ integer.Refused → read.Refused ≡ formatRead (readVersion s)
     bad-major i r = rw (parts, both-parts, sym i ∙ r)
 
-    module _ {m : IntegerRead} (i : m ≡ u32Read (take (p - 4) (drop 4 s))) {major : ℕ} (r : m ≡ integer.Value major) where
+    module _ {m : IntegerRead} (i : m ≡ u32Read (take (p - 4) (drop 4 s))) {major : ℕ} {plain : Bool} (r : m ≡ integer.Value major plain) where
       pub major-small : major < 2 ^ 32
       major-small = let b = read-bound false (2 ^ 32 - 1) (take (p - 4) (drop 4 s)) (sym i ∙ r) in omega arith
 
@@ -73,7 +73,7 @@ module _ (s : Bytes) {q : Bool} (a : q ≡ starts (ascii "VCFv") s) (e : not q �
         pub bad-minor : n ≡ integer.Refused → read.Refused ≡ formatRead (readVersion s)
         bad-minor w = rw (parts, both-parts, sym i ∙ r, sym j ∙ w)
 
-        module _ {minor : ℕ} (w : n ≡ integer.Value minor) where
+        module _ {minor : ℕ} {plain′ : Bool} (w : n ≡ integer.Value minor plain′) where
           pub minor-small : minor < 2 ^ 32
           minor-small = let b = read-bound false (2 ^ 32 - 1) (take (length s - (p + 1)) (drop (p + 1) s)) (sym j ∙ w) in omega arith
 

@@ -18,6 +18,7 @@ use Rattle.rules.specs.Known.{Kind, INFO, FILTER, FORMAT, ALT, contig, other, K
 use Rattle.rules.specs.Map.{Scan, isMeta, isSome, readFields, checkFields, fieldNamed, missing, misdeclared, mapRefusal, readMap}
 use Rattle.rules.specs.Record.{looksMap, isMap}
 use Rattle.rules.specs.Entry.{mapKind, textNamed}
+use Rattle.rules.specs.Spelling.{hasOdd}
 use Rattle.records.specs.Keys.{caseBytes, keys, among, keyNamed, Named, kindBy, isMetaKey, isPedigreeKey, contextOf}
 use Rattle.records.specs.Formats.{versionOf}
 use Rattle.records.specs.declared.file_format.FileFormat.{FileFormat}
@@ -248,6 +249,11 @@ module _ (v : Version) (k : Bytes) (key : MapKey) (n : Named k key) where
   text-by-case name at (f ∷ fs) =
       ap₂ (λ (b : Bool) (o : Option (Bytes × Text)). elim b [ true ↦ some (f .key, textAt (at + length (f .key) + 1) (f .value)) | false ↦ o ])
       (ap (λ (x : Bytes). same x name) (name-by-case (f .key))) (text-by-case name (at + length (writtenField f) + 1) fs)
+
+  pub odd-by-case : (fs : List Field) → hasOdd v k fs ≡ hasOdd v (caseBytes key) fs
+  unfolding hasOdd
+  odd-by-case [] = refl
+  odd-by-case (f ∷ fs) = rw (name-by-case (f .key), n .kind, odd-by-case fs)
 
   asks-by-case : (fs : List Field) (rs : List KnownField) → map (λ (r : KnownField). unless (isSome (fieldNamed v k (r .name) fs)) (r .missing)) rs
       ≡ map (λ (r : KnownField). unless (isSome (fieldNamed v (caseBytes key) (r .name) fs)) (r .missing)) rs

@@ -19,6 +19,7 @@ use Rattle.rules.specs.Map.{done, wrong, after, closingRefusal, Scan, scan, rea
 use Rattle.rules.specs.Entry.{textNamed}
 use Rattle.records.specs.Formats.{versionOf}
 use Rattle.records.specs.Keys.{caseBytes, contextOf, versionIn, keyBytes}
+use Rattle.rules.specs.Spelling.{hasOdd}
 use Rattle.records.specs.Maps.{get, noSlots, closesAsMap, closesAt, bareAt, Held, Walk, scannedFrom, StepIs, StepMoves, ReadsField, WalksFields, fieldsAfter, ReadsFields}
 use Rattle.records.specs.declared.file_format.FileFormat.{FileFormat}
 use Rattle.records.specs.declared.key.MapKey.{MapKey}
@@ -47,8 +48,8 @@ no-slot Idx = refl
 no-slot Other = refl
 
 none-held : (v : Version) (k : Bytes) (start : ℕ) → Held v k start [] noSlots
-unfolding textNamed
-none-held v k start = record { each = λ t e i. no-slot t; plainly = refl }
+unfolding textNamed hasOdd
+none-held v k start = record { each = λ t e i. no-slot t; plainly = refl; spelling = refl }
 
 -- the fields before the cursor
 pub record Walking (x : MapContext) (s : Bytes) (at : ℕ) (slots : Slots) : Type 0 where

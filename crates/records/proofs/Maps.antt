@@ -1,8 +1,8 @@
 -- Maps: the code's tests of what stands around the fields. Assumes nothing.
 use Prim.Native.Nat.{ℕ, _+_, _-_, _≤_, _<_}
 use native.Mathlib.Omega.{arith}
-use mathlib.Core.Path.{_≡_, refl, sym, ap, _∙_}
-use mathlib.Core.Bool.{Bool, true, false, _||_, _&&_}
+use mathlib.Core.Path.{_≡_, refl, sym, ap, subst, _∙_}
+use mathlib.Core.Bool.{Bool, true, false, not, _||_, _&&_}
 use mathlib.Core.List.{List, [], _∷_}
 use lib.Dec.{eqb}
 use lib.ListN.{length, drop, take, getD, drop-of-length-le}
@@ -17,8 +17,12 @@ use Rattle.values.proofs.Fields.{placed-comma, placed-other}
 use Rattle.rules.specs.Version.{Version, v4-3, v4-5, earlier, since}
 use Rattle.rules.specs.Map.{done, wrong, after}
 use Rattle.rules.specs.Record.{looksMap}
-use Rattle.records.specs.Maps.{opensAt, closesAsMap, closesAt, afterPlaced, afterAt, checkNumber, rawRefusal, putSlot}
+use Rattle.records.specs.Maps.{opensAt, closesAsMap, closesAt, afterPlaced, afterAt, Checked, rawRefusal, putSlot}
 use Rattle.values.specs.Value.{meaning}
+use Rattle.values.specs.Integer.{u64Read}
+use Rattle.values.specs.declared.integer.IntegerRead.{IntegerRead}
+use Rattle.values.specs.declared.integer.IntegerRead.the-variants as integer
+use Rattle.rules.specs.Spelling.{isOdd, oddValue}
 use Rattle.rules.specs.Answer.{unless}
 use Rattle.rules.specs.Known.{Kind, isInfo, isFormat, isIn, letters, types}
 use Rattle.records.specs.Refusals.{number}
@@ -28,9 +32,10 @@ use Rattle.records.specs.declared.number.Letters.{Letters}
 use Rattle.records.specs.declared.refusal.Refusal.{Refusal}
 use Rattle.records.specs.declared.refusal.Refusal.the-variants.{InvalidNumber, InvalidType, InvalidInteger}
 use Rattle.records.specs.declared.tag.Tag.{Tag}
-use Rattle.records.specs.declared.tag.Tag.the-variants.{Number, ValueType, Idx, Length}
+use Rattle.records.specs.declared.tag.Tag.the-variants.{Id, Number, ValueType, Description, Length, Md5, Url, Idx, Other}
 use Rattle.records.specs.declared.map.Slot.{Slot}
 use Rattle.records.specs.declared.map.Slots.{Slots}
+use Rattle.records.specs.declared.map.Check.{Check}
 use Rattle.records.specs.declared.map.Check.the-variants as check
 use Rattle.records.specs.declared.map.Prefix.the-variants as prefix
 use Rattle.records.specs.declared.map.After.the-variants as afters
@@ -121,31 +126,72 @@ pub ruleset afters-field = (after-comma, after-closed, after-other)
 
 -- Checks and slots
 
-pub check-passed : (x : Refusal) (b : Bool) → b ≡ true → checkNumber check.Passed ≡ unless b (number x)
-check-passed x b e = rw e
+pub check-passed : (x : Refusal) (b : Bool) → b ≡ true → Checked (check.Passed false) (unless b (number x)) false
+check-passed x b e = record { refusal = rw e; spelled = refl }
 
-pub check-refused : (x : Refusal) (b : Bool) → b ≡ false → checkNumber (check.Refused x) ≡ unless b (number x)
-check-refused x b e = rw e
+pub check-refused : (x : Refusal) (b : Bool) → b ≡ false → Checked (check.Refused x) (unless b (number x)) false
+check-refused x b e = record { refusal = rw e; spelled = tt }
 
 pub ruleset checks = (check-passed, check-refused)
 
+module _ (s : Bytes) {i : IntegerRead} (a : i ≡ u64Read s) where
+  module _ {n : ℕ} {p : Bool} (e : i ≡ integer.Value n p) where
+    spelled-so : not p ≡ isOdd (u64Read s)
+    spelled-so = rw (sym a ∙ e)
+
+    pub integer-passed : Checked (check.Passed (not p)) (unless (isCount s) 13) (isOdd (u64Read s))
+    integer-passed = record { refusal = rw (sym a ∙ e); spelled = spelled-so }
+
+    pub count-passed : (ls : List Bytes) (q : Bool) → Checked (check.Passed (not p)) (unless (isCount s || isIn (meaning q s) ls) 11) (isOdd (u64Read s))
+    count-passed ls q = record { refusal = rw (sym a ∙ e); spelled = spelled-so }
+
+  module _ (e : i ≡ integer.Refused) where
+    pub integer-refused : Checked (check.Refused InvalidInteger) (unless (isCount s) 13) (isOdd (u64Read s))
+    integer-refused = record { refusal = rw (sym a ∙ e); spelled = tt }
+
+    pub letter-checked : (ls : List Bytes) (q : Bool) {b : Bool} → b ≡ isIn (meaning q s) ls → {r : Check} → Checked r (unless b (number InvalidNumber)) false
+        → Checked r (unless (isCount s || isIn (meaning q s) ls) 11) (isOdd (u64Read s))
+    letter-checked ls q f {r} c = rw (sym a ∙ e, ← f) c
+
+pub ruleset integers = (integer-passed, integer-refused)
+
+pub ruleset counts = (count-passed, letter-checked)
+
 module _ (v : Version) (kind : Kind) (t : Tag) (s : Bytes) (q : Bool) where
-  pub number-checked : t ≡ Number → (l : Letters) → lettersOf l ≡ letters v kind → {b : Bool} → b ≡ (isCount s || isIn (meaning q s) (lettersOf l)) → {r : ℕ}
-      → r ≡ unless b (number InvalidNumber) → r ≡ rawRefusal v kind s q (tagRow t)
-  number-checked e l f g h = rw e (h ∙ ap (λ (b : Bool). unless b 11) (g ∙ ap (λ (ls : List Bytes). isCount s || isIn (meaning q s) ls) f))
+  pub number-checked : t ≡ Number → (l : Letters) → lettersOf l ≡ letters v kind → {r : Check} → Checked r (unless (isCount s || isIn (meaning q s) (lettersOf l)) 11) (isOdd (u64Read s))
+      → Checked r (rawRefusal v kind s q (tagRow t)) (oddValue s (tagRow t))
+  number-checked e l f {r} h = rw e (subst (λ (ls : List Bytes). Checked r (unless (isCount s || isIn (meaning q s) ls) 11) (isOdd (u64Read s))) f h)
 
-  pub type-checked : t ≡ ValueType → {f : Bool} → f ≡ isInfo kind → {b : Bool} → b ≡ isIn (meaning q s) (typesOf f) → {r : ℕ}
-      → r ≡ unless b (number InvalidType) → r ≡ rawRefusal v kind s q (tagRow t)
+  pub type-checked : t ≡ ValueType → {f : Bool} → f ≡ isInfo kind → {b : Bool} → b ≡ isIn (meaning q s) (typesOf f) → {r : Check}
+      → Checked r (unless b (number InvalidType)) false → Checked r (rawRefusal v kind s q (tagRow t)) (oddValue s (tagRow t))
   unfolding types
-  type-checked e f g h = rw e (h ∙ ap (λ (b : Bool). unless b 12) (g ∙ ap (λ (l : Bool). isIn (meaning q s) (typesOf l)) f))
+  type-checked e f g {r} h = rw e (subst (λ (b : Bool). Checked r (unless b 12) false) (g ∙ ap (λ (l : Bool). isIn (meaning q s) (typesOf l)) f) h)
 
-  pub idx-checked : t ≡ Idx → {b : Bool} → b ≡ isCount s → {r : ℕ} → r ≡ unless b (number InvalidInteger) → r ≡ rawRefusal v kind s q (tagRow t)
-  idx-checked e g h = rw (e, ← g) h
+  pub idx-checked : t ≡ Idx → {r : Check} → Checked r (unless (isCount s) 13) (isOdd (u64Read s)) → Checked r (rawRefusal v kind s q (tagRow t)) (oddValue s (tagRow t))
+  idx-checked e h = rw e h
 
-  pub length-checked : t ≡ Length → {b : Bool} → b ≡ isCount s → {r : ℕ} → r ≡ unless b (number InvalidInteger) → r ≡ rawRefusal v kind s q (tagRow t)
-  length-checked e g h = rw (e, ← g) h
+  pub length-checked : t ≡ Length → {r : Check} → Checked r (unless (isCount s) 13) (isOdd (u64Read s)) → Checked r (rawRefusal v kind s q (tagRow t)) (oddValue s (tagRow t))
+  length-checked e h = rw e h
 
-pub ruleset values = (number-checked, type-checked, idx-checked, length-checked)
+  abbrev Unread : Type 0
+  Unread = Checked (check.Passed false) (rawRefusal v kind s q (tagRow t)) (oddValue s (tagRow t))
 
-pub put-told : (t : Tag) (z : Slot) (x : Slots) {y : Tag} → t ≡ y → {w : Slots} → w ≡ putSlot y z x → w ≡ putSlot t z x
-put-told t z x e f = rw e f
+  pub id-unread : t ≡ Id → Unread
+  id-unread e = rw e (record { refusal = refl; spelled = refl })
+
+  pub description-unread : t ≡ Description → Unread
+  description-unread e = rw e (record { refusal = refl; spelled = refl })
+
+  pub md5-unread : t ≡ Md5 → Unread
+  md5-unread e = rw e (record { refusal = refl; spelled = refl })
+
+  pub url-unread : t ≡ Url → Unread
+  url-unread e = rw e (record { refusal = refl; spelled = refl })
+
+  pub other-unread : t ≡ Other → Unread
+  other-unread e = rw e (record { refusal = refl; spelled = refl })
+
+pub ruleset values = (number-checked, type-checked, idx-checked, length-checked, id-unread, description-unread, md5-unread, url-unread, other-unread)
+
+pub put-told : (t : Tag) (z : Slot) (o : Bool) (x : Slots) {y : Tag} → t ≡ y → {w : Slots} → w ≡ putSlot y z o x → w ≡ putSlot t z o x
+put-told t z o x e f = rw e f

@@ -103,7 +103,7 @@ module _ (v : Version) (key : MapKey) (s : Bytes) (c : Cursor) {r : FieldsRead} 
           pub no-description : slots .description ≡ slot.Empty → Full key → ParsesTyped v key s (c .at) (typed.Refused MissingDescription)
           no-description d full = record { is = lacks f (past-type full ∙ asked-first (isSome (fieldNamed v (caseBytes key) (ascii "Description") (f .fs))) 16 _ (has f Description (refl, full .described) d)) }
 
-          pub all-given : {de : Text} {l : ℕ} → slots .description ≡ slot.Filled de l → Full key → ParsesTyped v key s (c .at) (typed.Typed id g nr ty)
+          pub all-given : {de : Text} {l : ℕ} → slots .description ≡ slot.Filled de l → Full key → ParsesTyped v key s (c .at) (typed.Typed id g nr ty (slots .odd))
           unfolding first
           all-given d full = record {
             is = record {
@@ -114,6 +114,7 @@ module _ (v : Version) (key : MapKey) (s : Bytes) (c : Cursor) {r : FieldsRead} 
               number-is = value-is f Number (refl, full .numbered) n;
               kind-is = value-is f ValueType (refl, full .typed) t;
               raw = value-raw f Number (refl, full .numbered) n;
+              spelling = f .held .spelling;
             };
           }
 

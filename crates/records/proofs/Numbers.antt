@@ -1,7 +1,7 @@
 -- Number and Type: the code's tests. Assumes nothing.
 use Prim.Native.Nat.{ℕ}
 use mathlib.Core.Path.{_≡_, refl, sym, ap, _∙_}
-use mathlib.Core.Bool.{Bool, true, false, _||_}
+use mathlib.Core.Bool.{Bool, true, false}
 use mathlib.Core.List.{[], _∷_}
 use lib.Dec.{eqb}
 use borrow.Author.Tests.{eq-eqb, ne-eqb}
@@ -12,44 +12,32 @@ use Rattle.values.specs.declared.integer.IntegerRead.{IntegerRead}
 use Rattle.values.specs.declared.integer.IntegerRead.the-variants as integer
 use Rattle.rules.specs.Known.{isIn}
 use Rattle.records.specs.Lists.{listedRow}
-use Rattle.records.specs.Numbers.{isCount, lettersOf, typesOf, lettered, isNumberOf, typeName}
+use Rattle.records.specs.Numbers.{lettersOf, typesOf, lettered, isNumberOf, typeName}
 use Rattle.records.specs.declared.number.Number.{Number}
 use Rattle.records.specs.declared.number.Number.the-variants.{Count, Letter}
 use Rattle.records.specs.declared.number.Letters.{Letters}
 use Rattle.records.specs.declared.number.Letters.the-variants.{Common, Phased, Local}
 use Rattle.records.specs.declared.number.ValueType.{ValueType}
 
-module _ (s : Bytes) {r : IntegerRead} (a : r ≡ u64Read s) where
-  pub a-count : {n : ℕ} → r ≡ integer.Value n → true ≡ isCount s
-  a-count e = rw (sym a ∙ e)
-
-  pub not-a-count : r ≡ integer.Refused → false ≡ isCount s
-  not-a-count e = rw (sym a ∙ e)
-
-module _ (s : Bytes) (quoted : Bool) {c : Bool} (a : c ≡ isCount s) where
-  pub count-given : (ls : Letters) → c ≡ true → true ≡ (isCount s || isIn (meaning quoted s) (lettersOf ls))
-  count-given ls e = rw (sym a ∙ e)
-
+module _ (s : Bytes) (quoted : Bool) (ls : Letters) where
   -- `text` lists the letters of this case
-  module _ (ls : Letters) (no : c ≡ false) where
-    lettered-by : {which : Letters} (text : Bytes) → listedRow text ≡ lettersOf which → ls ≡ which → {q : Bool} → q ≡ isIn (meaning quoted s) (listedRow text)
-        → q ≡ (isCount s || isIn (meaning quoted s) (lettersOf ls))
-    lettered-by text t l d = rw (sym a ∙ no, l) (d ∙ ap (isIn (meaning quoted s)) t)
+  lettered-by : {which : Letters} (text : Bytes) → listedRow text ≡ lettersOf which → ls ≡ which → {q : Bool} → q ≡ isIn (meaning quoted s) (listedRow text) → q ≡ isIn (meaning quoted s) (lettersOf ls)
+  lettered-by text t l d = rw l (d ∙ ap (isIn (meaning quoted s)) t)
 
-    pub letter-common : ls ≡ Common → {q : Bool} → q ≡ isIn (meaning quoted s) (listedRow (ascii "A,R,G,.")) → q ≡ (isCount s || isIn (meaning quoted s) (lettersOf ls))
-    unfolding listedRow
-    letter-common l d = lettered-by (ascii "A,R,G,.") refl l d
+  pub letter-common : ls ≡ Common → {q : Bool} → q ≡ isIn (meaning quoted s) (listedRow (ascii "A,R,G,.")) → q ≡ isIn (meaning quoted s) (lettersOf ls)
+  unfolding listedRow
+  letter-common l d = lettered-by (ascii "A,R,G,.") refl l d
 
-    pub letter-phased : ls ≡ Phased → {q : Bool} → q ≡ isIn (meaning quoted s) (listedRow (ascii "A,R,G,.,P")) → q ≡ (isCount s || isIn (meaning quoted s) (lettersOf ls))
-    unfolding listedRow
-    letter-phased l d = lettered-by (ascii "A,R,G,.,P") refl l d
+  pub letter-phased : ls ≡ Phased → {q : Bool} → q ≡ isIn (meaning quoted s) (listedRow (ascii "A,R,G,.,P")) → q ≡ isIn (meaning quoted s) (lettersOf ls)
+  unfolding listedRow
+  letter-phased l d = lettered-by (ascii "A,R,G,.,P") refl l d
 
-    pub letter-local : ls ≡ Local → {q : Bool} → q ≡ isIn (meaning quoted s) (listedRow (ascii "A,R,G,.,P,LA,LR,LG,M")) → q ≡ (isCount s || isIn (meaning quoted s) (lettersOf ls))
-    unfolding listedRow
-    letter-local l d = lettered-by (ascii "A,R,G,.,P,LA,LR,LG,M") refl l d
+  pub letter-local : ls ≡ Local → {q : Bool} → q ≡ isIn (meaning quoted s) (listedRow (ascii "A,R,G,.,P,LA,LR,LG,M")) → q ≡ isIn (meaning quoted s) (lettersOf ls)
+  unfolding listedRow
+  letter-local l d = lettered-by (ascii "A,R,G,.,P,LA,LR,LG,M") refl l d
 
 module _ (s : Bytes) (quoted : Bool) {r : IntegerRead} (a : r ≡ u64Read s) where
-  pub same-count : {x : Number} {n : ℕ} → x ≡ Count n → {m : ℕ} → r ≡ integer.Value m → eqb m n ≡ isNumberOf x s quoted
+  pub same-count : {x : Number} {n : ℕ} → x ≡ Count n → {m : ℕ} {p : Bool} → r ≡ integer.Value m p → eqb m n ≡ isNumberOf x s quoted
   same-count e f = rw (e, sym a ∙ f)
 
   pub no-count : {x : Number} {n : ℕ} → x ≡ Count n → r ≡ integer.Refused → false ≡ isNumberOf x s quoted
@@ -76,9 +64,7 @@ module _ (s : Bytes) (quoted : Bool) where
   pub two-letters : (a b : ℕ) → (b ≡ 32 → ⊥) → {q : Bool} → q ≡ same (a ∷ b ∷ []) (meaning quoted s) → q ≡ same (lettered a b) (meaning quoted s)
   two-letters a b e c = rw (lettered, ne-eqb b 32 e) c
 
-pub ruleset integers = (a-count, not-a-count)
-
-pub ruleset counts = (count-given, letter-common, letter-phased, letter-local)
+pub ruleset letters = (letter-common, letter-phased, letter-local)
 
 pub ruleset types = (flag-type, plain-type)
 

@@ -255,12 +255,12 @@ module _ (v : Version) (key : MapKey) (s : Bytes) (c : Cursor) {r : FieldsRead} 
       past-id : {rs : List KnownField} → required (kindOf (caseBytes key)) ≡ idField ∷ rs → missing v (caseBytes key) (f .fs) ≡ first (map (asks v (caseBytes key) (f .fs)) rs)
       past-id q = asks-of f q ∙ asked-later (isSome (fieldNamed v (caseBytes key) (ascii "ID") (f .fs))) 14 _ (has f Id (keeps-id (caseBytes key)) i)
 
-      given : missing v (caseBytes key) (f .fs) ≡ 0 → reservedPages (kindOf (caseBytes key)) ≡ [] → ParsesMap v key s (c .at) (maps.Map id g)
+      given : missing v (caseBytes key) (f .fs) ≡ 0 → reservedPages (kindOf (caseBytes key)) ≡ [] → ParsesMap v key s (c .at) (maps.Map id g (slots .odd))
       given m t = record {
-        is = (f .fs, whole f m ∙ ap (λ (n : ℕ). judged n (f .fs)) (misdeclared-not v (caseBytes key) (f .fs) t), holds f Id (keeps-id (caseBytes key)) i);
+        is = (f .fs, whole f m ∙ ap (λ (n : ℕ). judged n (f .fs)) (misdeclared-not v (caseBytes key) (f .fs) t), holds f Id (keeps-id (caseBytes key)) i, f .held .spelling);
       }
 
-      pub id-given : Identified key → ParsesMap v key s (c .at) (maps.Map id g)
+      pub id-given : Identified key → ParsesMap v key s (c .at) (maps.Map id g (slots .odd))
       unfolding first
       id-given d = given (past-id (d .needs)) (d .free)
 
@@ -269,7 +269,7 @@ module _ (v : Version) (key : MapKey) (s : Bytes) (c : Cursor) {r : FieldsRead} 
         is = lacks f (past-id (d .needs) ∙ asked-first (isSome (fieldNamed v (caseBytes key) (ascii "Description") (f .fs))) 16 [] (has f Description (refl, d .known) x));
       }
 
-      pub description-given : {t : Text} {h : ℕ} → slots .description ≡ slot.Filled t h → Described key → ParsesMap v key s (c .at) (maps.Map id g)
+      pub description-given : {t : Text} {h : ℕ} → slots .description ≡ slot.Filled t h → Described key → ParsesMap v key s (c .at) (maps.Map id g (slots .odd))
       unfolding first
       description-given x d =
           given (past-id (d .needs) ∙ asked-later (isSome (fieldNamed v (caseBytes key) (ascii "Description") (f .fs))) 17 [] (has f Description (refl, d .known) x)) (d .free)

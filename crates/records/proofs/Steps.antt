@@ -2,7 +2,7 @@
 use Prim.Native.Nat.{ℕ, suc, _+_, _-_, _^_}
 use native.Mathlib.Omega.{arith}
 use mathlib.Core.Path.{_≡_, refl, sym, ap, ap₂, subst, _∙_}
-use mathlib.Core.Bool.{Bool, true, false, _||_, _&&_, and-assoc, false≢true}
+use mathlib.Core.Bool.{Bool, true, false, _||_, _&&_, and-assoc, or-assoc, false≢true}
 use mathlib.Core.List.{List, [], _∷_, _++_, append-nil, tail}
 use mathlib.Core.Option.{Option, none, some}
 use lib.ListN.{length, drop, take, length-drop}
@@ -25,13 +25,14 @@ use Rattle.rules.specs.Version.{Version}
 use Rattle.rules.specs.Known.{isIn, rows, rowNamed, kindOf, namesId, nameOf, tagOf}
 use Rattle.rules.specs.Map.{more, done, wrong, after, scan, isSome, knownNamed, valueRefusal, checkFields}
 use Rattle.rules.specs.Entry.{textNamed}
+use Rattle.rules.specs.Spelling.{oddValue, isOddField, hasOdd}
 use Rattle.rules.proofs.Names.{name-id, name-other}
 use Rattle.rules.proofs.Fields.{SeenAfter, was-more, was-done, was-wrong, see-after, SeenField, no-field, a-field, see-field}
 use Rattle.rules.proofs.Scans.{after-more, scan-none, scan-wrong, scan-done, scan-first}
 use Rattle.records.specs.Refusals.{number}
 use Rattle.records.specs.Keys.{kindBy, versionIn, keyBytes}
 use Rattle.records.specs.Tags.{tagRow, tagName, isRequired, isKept}
-use Rattle.records.specs.Maps.{rawRefusal, checkNumber, get, putSlot, slotted, FieldThen, FieldsFrom, keysOf, namesOf, HasKey, Held, allKept, Walk, Repeats, scanRefusal, scannedFrom, RefusedFrom, Taken, TakenIs, TakenMoves, TakesField, ReadsField, afterAt}
+use Rattle.records.specs.Maps.{rawRefusal, checkNumber, OddIs, Checked, get, putSlot, slotted, FieldThen, FieldsFrom, keysOf, namesOf, HasKey, Held, allKept, Walk, Repeats, scanRefusal, scannedFrom, RefusedFrom, Taken, TakenIs, TakenMoves, TakesField, ReadsField, afterAt}
 use Rattle.records.specs.declared.key.MapContext.{MapContext}
 use Rattle.records.specs.declared.refusal.Refusal.{Refusal}
 use Rattle.records.specs.declared.refusal.Refusal.the-variants.{InvalidField, DuplicateTag, InvalidMap}
@@ -50,7 +51,7 @@ use Rattle.records.specs.declared.map.FieldStep.the-variants as step
 use Rattle.records.proofs.Refusals.{number-suc}
 use Rattle.records.proofs.Keys.{kind-by-case}
 use Rattle.records.proofs.Tags.{kept-name, kept-known, name-same, other-lineage, other-id}
-use Rattle.records.proofs.Checks.{value-checked}
+use Rattle.records.proofs.Checks.{value-checked, value-spelled}
 use Rattle.records.proofs.Walks.{value-refused, name-refused, field-fine, orElse, text-snoc, text-in, first-suc}
 
 -- Fields that are not kept
@@ -121,43 +122,47 @@ abbrev pick : {A : Type 0} → Bool → A → A → A
 pick true x y = x
 pick false x y = y
 
-put-each : (g : Tag) (x : Slot) (slots : Slots) → putSlot g x slots ≡ record {
+put-each : (g : Tag) (x : Slot) (o : Bool) (slots : Slots) → putSlot g x o slots ≡ record {
   id = pick (same (tagName g) (ascii "ID")) x (slots .id);
   number = pick (same (tagName g) (ascii "Number")) x (slots .number);
   kind = pick (same (tagName g) (ascii "Type")) x (slots .kind);
   description = pick (same (tagName g) (ascii "Description")) x (slots .description);
   plain = pick (isKept g) (slots .plain) false;
+  odd = o;
 }
 unfolding same
-put-each Id x slots = refl
-put-each Number x slots = refl
-put-each ValueType x slots = refl
-put-each Description x slots = refl
-put-each Length x slots = refl
-put-each Md5 x slots = refl
-put-each Url x slots = refl
-put-each Idx x slots = refl
-put-each Other x slots = refl
+put-each Id x o slots = refl
+put-each Number x o slots = refl
+put-each ValueType x o slots = refl
+put-each Description x o slots = refl
+put-each Length x o slots = refl
+put-each Md5 x o slots = refl
+put-each Url x o slots = refl
+put-each Idx x o slots = refl
+put-each Other x o slots = refl
 
-get-put : (g u : Tag) (x : Slot) (slots : Slots) → isKept u ≡ true → get u (putSlot g x slots) ≡ pick (same (tagName g) (tagName u)) x (get u slots)
-get-put g Id x slots e = rw (put-each g x slots)
-get-put g Number x slots e = rw (put-each g x slots)
-get-put g ValueType x slots e = rw (put-each g x slots)
-get-put g Description x slots e = rw (put-each g x slots)
-get-put g Length x slots e = absurd (false≢true e)
-get-put g Md5 x slots e = absurd (false≢true e)
-get-put g Url x slots e = absurd (false≢true e)
-get-put g Idx x slots e = absurd (false≢true e)
-get-put g Other x slots e = absurd (false≢true e)
+get-put : (g u : Tag) (x : Slot) (o : Bool) (slots : Slots) → isKept u ≡ true → get u (putSlot g x o slots) ≡ pick (same (tagName g) (tagName u)) x (get u slots)
+get-put g Id x o slots e = rw (put-each g x o slots)
+get-put g Number x o slots e = rw (put-each g x o slots)
+get-put g ValueType x o slots e = rw (put-each g x o slots)
+get-put g Description x o slots e = rw (put-each g x o slots)
+get-put g Length x o slots e = absurd (false≢true e)
+get-put g Md5 x o slots e = absurd (false≢true e)
+get-put g Url x o slots e = absurd (false≢true e)
+get-put g Idx x o slots e = absurd (false≢true e)
+get-put g Other x o slots e = absurd (false≢true e)
 
-plain-put : (g : Tag) (x : Slot) (slots : Slots) → putSlot g x slots .plain ≡ (slots .plain && isKept g)
-plain-put g x slots = rw (put-each g x slots) (go (isKept g) (slots .plain))
+plain-put : (g : Tag) (x : Slot) (o : Bool) (slots : Slots) → putSlot g x o slots .plain ≡ (slots .plain && isKept g)
+plain-put g x o slots = rw (put-each g x o slots) (go (isKept g) (slots .plain))
   where
     go : (b p : Bool) → pick b p false ≡ (p && b)
     go true true = refl
     go true false = refl
     go false true = refl
     go false false = refl
+
+odd-put : (g : Tag) (x : Slot) (o : Bool) (slots : Slots) → putSlot g x o slots .odd ≡ o
+odd-put g x o slots = rw (put-each g x o slots)
 
 none-some : (o : Option (Bytes × Text)) → isSome o ≡ false → o ≡ none
 none-some none e = refl
@@ -175,16 +180,26 @@ kept-snoc v k [] f = and-true (isRequired (knownNamed v k (f .key)))
     and-true false = refl
 kept-snoc v k (g ∷ gs) f = rw (kept-snoc v k gs f) (sym (and-assoc (isRequired (knownNamed v k (g .key))) (allKept v k gs) (isRequired (knownNamed v k (f .key)))))
 
+odd-snoc : (v : Version) (k : Bytes) (before : List Field) (f : Field) → hasOdd v k (before ++ f ∷ []) ≡ (hasOdd v k before || isOddField v k f)
+unfolding hasOdd
+odd-snoc v k [] f = or-false (isOddField v k f)
+  where
+    or-false : (b : Bool) → b || false ≡ b
+    or-false true = refl
+    or-false false = refl
+odd-snoc v k (g ∷ gs) f = rw (odd-snoc v k gs f) (sym (or-assoc (isOddField v k g) (hasOdd v k gs) (isOddField v k f)))
+
 module _ (v : Version) (k : Bytes) (m : Bool) (s : Bytes) (start : ℕ) (before : List Field) (at : ℕ) (slots : Slots) (f : Field) (g : Tag) (tag : tagRow g ≡ knownNamed v k (f .key))
-    (fields : FieldsFrom m s start before at) (held : Held v k start before slots) (fresh : isIn (nameOf v k (f .key)) (namesOf v k before) ≡ false) where
+    (fields : FieldsFrom m s start before at) (held : Held v k start before slots) (fresh : isIn (nameOf v k (f .key)) (namesOf v k before) ≡ false) {o : Bool} (spelled : o ≡ (slots .odd || isOddField v k f)) where
   abbrev filled : Slot
   filled = slot.Filled (textAt (at + length (f .key) + 1) (f .value)) (tagOf (f .key))
 
-  put-held : Held v k start (before ++ f ∷ []) (putSlot g filled slots)
+  put-held : Held v k start (before ++ f ∷ []) (putSlot g filled o slots)
   unfolding textNamed
   put-held = record {
-    each = λ u e i. get-put g u filled slots e ∙ go u e i (test (same (nameOf v k (f .key)) (tagName u)));
-    plainly = plain-put g filled slots ∙ ap₂ _&&_ (held .plainly) (ap isRequired tag) ∙ sym (kept-snoc v k before f);
+    each = λ u e i. get-put g u filled o slots e ∙ go u e i (test (same (nameOf v k (f .key)) (tagName u)));
+    plainly = plain-put g filled o slots ∙ ap₂ _&&_ (held .plainly) (ap isRequired tag) ∙ sym (kept-snoc v k before f);
+    spelling = odd-put g filled o slots ∙ spelled ∙ ap (λ (b : Bool). b || isOddField v k f) (held .spelling) ∙ sym (odd-snoc v k before f);
   }
     where
       go : (u : Tag) → isKept u ≡ true → rowNamed (tagName u) (rows (kindOf k)) ≡ tagRow u → Test (same (nameOf v k (f .key)) (tagName u))
@@ -223,7 +238,7 @@ module _ (x : MapContext) (s : Bytes) (at : ℕ) (slots : Slots) {r : FieldRead}
       go before w (a-field p u) fuel = let z = rw u at (sym a ∙ e) in never cc
 
   module _ {e : ℕ} {t : Text} {n : Cursor} (b : r ≡ read.Field e t n) {p : Bytes} (c : p ≡ take (e - at) (drop at s)) (g : Tag) (d : tagRow g ≡ knownNamed (versionIn x) (keyBytes x) p)
-      {w : Bytes} (i : w ≡ take (t .end - t .start) (drop (t .start) s)) (y : Check) (j : checkNumber y ≡ rawRefusal (versionIn x) (kindBy (x .key)) w (t .quoted) (tagRow g)) where
+      {w : Bytes} (i : w ≡ take (t .end - t .start) (drop (t .start) s)) (y : Check) (j : Checked y (rawRefusal (versionIn x) (kindBy (x .key)) w (t .quoted) (tagRow g)) (oddValue w (tagRow g))) where
     told : FieldHere (x .brackets) s at e t n
     told = field-here (x .brackets) s at (sym a ∙ b)
 
@@ -241,7 +256,15 @@ module _ (x : MapContext) (s : Bytes) (at : ℕ) (slots : Slots) {r : FieldRead}
         let vt = value-text (t .quoted) (part s (t .start) (t .end)) (told .value) in
         value-checked (versionIn x) (kindOf (keyBytes x)) (f .value) (on-some (λ (z : Field × Bytes). Raw true (2 ^ 64 - 1) (z .0 .value)) (field-raw true (2 ^ 64 - 1) (x .brackets) (drop at s)) (told .read))
         (knownNamed (versionIn x) (keyBytes x) (f .key))
-        ∙ rw (← tag-is, kind-by-case (x .key), ← vt .0, ← vt .1, ← i) (sym j)
+        ∙ rw (← tag-is, kind-by-case (x .key), ← vt .0, ← vt .1, ← i) (sym (j .refusal))
+
+    odd-is : {o : Bool} → y ≡ check.Passed o → o ≡ isOddField (versionIn x) (keyBytes x) f
+    odd-is u =
+        let vt = value-text (t .quoted) (part s (t .start) (t .end)) (told .value) in
+        subst (OddIs (oddValue w (tagRow g))) u (j .spelled)
+        ∙ sym (value-spelled (versionIn x) (kindOf (keyBytes x)) (f .value) (on-some (λ (z : Field × Bytes). Raw true (2 ^ 64 - 1) (z .0 .value)) (field-raw true (2 ^ 64 - 1) (x .brackets) (drop at s)) (told .read))
+        (knownNamed (versionIn x) (keyBytes x) (f .key))
+        ∙ rw (← tag-is, ← vt .0, ← i))
 
     -- a field that is refused for itself, whatever follows it
     refused-at : (before : List Field) {z : ℕ} → ((ys : List Field) → checkFields (versionIn x) (keyBytes x) [] (before ++ f ∷ ys) ≡ suc z) → RefusedFrom x s before at (suc z)
@@ -257,7 +280,7 @@ module _ (x : MapContext) (s : Bytes) (at : ℕ) (slots : Slots) {r : FieldRead}
           λ fuel h. refused-at before (value-refused (versionIn x) (keyBytes x) before (l .fine) f (refusal-is ∙ ap checkNumber u ∙ o .1)) fuel h ∙ sym (o .1);
     }
 
-    module _ (u : y ≡ check.Passed) {q : Bool} (rep : Repeats x s at p g slots q) where
+    module _ {odd : Bool} (u : y ≡ check.Passed odd) {q : Bool} (rep : Repeats x s at p g slots q) where
       passes : valueRefusal (versionIn x) (kindOf (keyBytes x)) (meaningOf (f .value)) (knownNamed (versionIn x) (keyBytes x) (f .key)) ≡ 0
       passes = refusal-is ∙ ap checkNumber u
 
@@ -267,8 +290,8 @@ module _ (x : MapContext) (s : Bytes) (at : ℕ) (slots : Slots) {r : FieldRead}
       pub field-repeated : q ≡ true → TakesField x s at slots (taken.Refused DuplicateTag)
       field-repeated h = record { moves = tt; is = λ before l. refused-at before (name-refused (versionIn x) (keyBytes x) before (l .fine) f passes (sym (repeated before l) ∙ h)) }
 
-      pub field-taken : q ≡ false → {tag : ℕ} → tag ≡ tagOf p → TakesField x s at slots (taken.Field g (slot.Filled t tag) n)
-      field-taken h {tag} tg =
+      pub field-taken : q ≡ false → {tag : ℕ} → tag ≡ tagOf p → {o : Bool} → o ≡ (slots .odd || odd) → TakesField x s at slots (taken.Field g (slot.Filled t tag) o n)
+      field-taken h {tag} tg {o} od =
           let b′ = told .begun in
           let o′ = told .ordered in
           let e′ = told .ended in
@@ -283,8 +306,8 @@ module _ (x : MapContext) (s : Bytes) (at : ℕ) (slots : Slots) {r : FieldRead}
                   size = told .next;
                   fine = field-fine (versionIn x) (keyBytes x) before (l .fine) f passes fresh;
                   held =
-                      subst (λ (z : Slot). Held (versionIn x) (keyBytes x) (x .start) (before ++ f ∷ []) (putSlot g z slots)) (sym (ap₂ slot.Filled (told .text) (tg ∙ ap tagOf key-is)))
-                      (put-held (versionIn x) (keyBytes x) (x .brackets) s (x .start) before at slots f g tag-is (l .fields) (l .held) fresh);
+                      subst (λ (z : Slot). Held (versionIn x) (keyBytes x) (x .start) (before ++ f ∷ []) (putSlot g z o slots)) (sym (ap₂ slot.Filled (told .text) (tg ∙ ap tagOf key-is)))
+                      (put-held (versionIn x) (keyBytes x) (x .brackets) s (x .start) before at slots f g tag-is (l .fields) (l .held) fresh (od ∙ ap (λ (b : Bool). slots .odd || b) (odd-is u)));
                 };
           }
 
@@ -296,8 +319,8 @@ module _ (x : MapContext) (s : Bytes) (at : ℕ) (slots : Slots) (r : FieldTaken
   pub step-refused : {y : Refusal} → r ≡ taken.Refused y → ReadsField x s at slots (step.Refused y)
   step-refused e = record { moves = tt; is = λ before l. subst (TakenIs x s before at slots) e (a .is before l) }
 
-  module _ {g : Tag} {t : Slot} {n : Cursor} (e : r ≡ taken.Field g t n) {left : Slots} (pt : left ≡ putSlot g t slots) {z : AfterRead} (af : z ≡ afterAt s (n .at)) where
-    took : (before : List Field) → Walk x s before at slots → Taken x s before at slots g t (n .at)
+  module _ {g : Tag} {t : Slot} {o : Bool} {n : Cursor} (e : r ≡ taken.Field g t o n) {left : Slots} (pt : left ≡ putSlot g t o slots) {z : AfterRead} (af : z ≡ afterAt s (n .at)) where
+    took : (before : List Field) → Walk x s before at slots → Taken x s before at slots g t o (n .at)
     took before l = subst (TakenIs x s before at slots) e (a .is before l)
 
     kept : (before : List Field) (l : Walk x s before at slots) → Held (versionIn x) (keyBytes x) (x .start) (before ++ took before l .field ∷ []) left

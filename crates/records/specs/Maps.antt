@@ -17,6 +17,7 @@ use Rattle.rules.specs.Known.{Kind, Reads, KnownField, anyText, aNumber, aType,
 use Rattle.rules.specs.Reserved.{reservedPages}
 use Rattle.rules.specs.Map.{After, more, done, wrong, after, Scan, scan, readFields, isMeta, knownNamed, checkFields, valueNamed, misdeclared, readMap}
 use Rattle.rules.specs.Entry.{textNamed}
+use Rattle.rules.specs.Spelling.{hasOdd}
 use Rattle.records.specs.Refusals.{number}
 use Rattle.records.specs.Keys.{caseBytes, versionIn, keyBytes}
 use Rattle.records.specs.Numbers.{isCount}
@@ -71,7 +72,7 @@ afterAt s at = afterPlaced at (after (drop at s))
 
 -- a check's number, 0 where it passed
 abbrev pub checkNumber : Check → ℕ
-checkNumber check.Passed = 0
+checkNumber (check.Passed odd) = 0
 checkNumber (check.Refused x) = number x
 
 -- 11 to 13 of a value's bytes, of which an integer is read as they stand; `q`: they stand between quotes
@@ -85,9 +86,19 @@ abbrev pub rawRefusal : Version → Kind → Bytes → Bool → Option KnownFiel
 rawRefusal v kind s q none = 0
 rawRefusal v kind s q (some r) = misreadRaw v kind s q (r .reads)
 
+-- what passed was spelled oddly or not
+abbrev pub OddIs : Bool → Check → Type 0
+OddIs odd (check.Passed x) = x ≡ odd
+OddIs odd (check.Refused x) = Unit {0}
+
+-- a value was checked: its refusal, 0 if none, and how it was spelled if it passed
+pub record Checked (r : Check) (n : ℕ) (odd : Bool) : Type 0 where
+  pub refusal : checkNumber r ≡ n
+  pub spelled : OddIs odd r
+
 -- the texts that are kept
 abbrev pub noSlots : Slots
-noSlots = record { id = slot.Empty; number = slot.Empty; kind = slot.Empty; description = slot.Empty; plain = true }
+noSlots = record { id = slot.Empty; number = slot.Empty; kind = slot.Empty; description = slot.Empty; plain = true; odd = false }
 
 abbrev pub get : Tag → Slots → Slot
 get Id x = x .id
@@ -100,19 +111,19 @@ get Url x = slot.Empty
 get Idx x = slot.Empty
 get Other x = slot.Empty
 
-abbrev pub mixed : Slots → Slots
-mixed x = record { id = x .id; number = x .number; kind = x .kind; description = x .description; plain = false }
+abbrev pub mixed : Bool → Slots → Slots
+mixed o x = record { id = x .id; number = x .number; kind = x .kind; description = x .description; plain = false; odd = o }
 
-abbrev pub putSlot : Tag → Slot → Slots → Slots
-putSlot Id t x = record { id = t; number = x .number; kind = x .kind; description = x .description; plain = x .plain }
-putSlot Number t x = record { id = x .id; number = t; kind = x .kind; description = x .description; plain = x .plain }
-putSlot ValueType t x = record { id = x .id; number = x .number; kind = t; description = x .description; plain = x .plain }
-putSlot Description t x = record { id = x .id; number = x .number; kind = x .kind; description = t; plain = x .plain }
-putSlot Length t x = mixed x
-putSlot Md5 t x = mixed x
-putSlot Url t x = mixed x
-putSlot Idx t x = mixed x
-putSlot Other t x = mixed x
+abbrev pub putSlot : Tag → Slot → Bool → Slots → Slots
+putSlot Id t o x = record { id = t; number = x .number; kind = x .kind; description = x .description; plain = x .plain; odd = o }
+putSlot Number t o x = record { id = x .id; number = t; kind = x .kind; description = x .description; plain = x .plain; odd = o }
+putSlot ValueType t o x = record { id = x .id; number = x .number; kind = t; description = x .description; plain = x .plain; odd = o }
+putSlot Description t o x = record { id = x .id; number = x .number; kind = x .kind; description = t; plain = x .plain; odd = o }
+putSlot Length t o x = mixed o x
+putSlot Md5 t o x = mixed o x
+putSlot Url t o x = mixed o x
+putSlot Idx t o x = mixed o x
+putSlot Other t o x = mixed o x
 
 -- a field that stands at a place, with a `,` after it
 abbrev pub FieldThen : Bool → Bytes → ℕ → Field → Type 0
@@ -152,6 +163,7 @@ pub record Held (v : Version) (k : Bytes) (start : ℕ) (fs : List Field) (slots
   pub each : (t : Tag) → isKept t ≡ true → rowNamed (tagName t) (rows (kindOf k)) ≡ tagRow t
       → get t slots ≡ slotted (textNamed v k (tagName t) start fs)
   pub plainly : slots .plain ≡ allKept v k fs
+  pub spelling : slots .odd ≡ hasOdd v k fs
 
 -- the fields from the first up to `at` were read, and none was refused
 pub record Walk (x : MapContext) (s : Bytes) (before : List Field) (at : ℕ) (slots : Slots) : Type 0 where
@@ -178,19 +190,19 @@ RefusedFrom x s before at n =
     (fuel : ℕ) → length (drop at s) ≤ fuel → scanRefusal (versionIn x) (keyBytes x) (scannedFrom (x .brackets) s before at fuel) ≡ n
 
 -- a field that passed, and what is to be kept of it
-pub record Taken (x : MapContext) (s : Bytes) (before : List Field) (at : ℕ) (slots : Slots) (g : Tag) (t : Slot) (next : ℕ) : Type 0 where
+pub record Taken (x : MapContext) (s : Bytes) (before : List Field) (at : ℕ) (slots : Slots) (g : Tag) (t : Slot) (odd : Bool) (next : ℕ) : Type 0 where
   pub field : Field
   pub read : readField (x .brackets) (drop at s) ≡ some (field, drop next s)
   pub size : next ≡ at + length (writtenField field)
   pub fine : checkFields (versionIn x) (keyBytes x) [] (before ++ field ∷ []) ≡ 0
-  pub held : Held (versionIn x) (keyBytes x) (x .start) (before ++ field ∷ []) (putSlot g t slots)
+  pub held : Held (versionIn x) (keyBytes x) (x .start) (before ++ field ∷ []) (putSlot g t odd slots)
 
 abbrev pub TakenIs : MapContext → Bytes → List Field → ℕ → Slots → FieldTaken → Type 0
-TakenIs x s before at slots (taken.Field g t next) = Taken x s before at slots g t (next .at)
+TakenIs x s before at slots (taken.Field g t odd next) = Taken x s before at slots g t odd (next .at)
 TakenIs x s before at slots (taken.Refused y) = RefusedFrom x s before at (number y)
 
 abbrev pub TakenMoves : Bytes → ℕ → FieldTaken → Type 0
-TakenMoves s at (taken.Field g t next) = (at < next .at) × (next .at ≤ length s)
+TakenMoves s at (taken.Field g t odd next) = (at < next .at) × (next .at ≤ length s)
 TakenMoves s at (taken.Refused x) = Unit {0}
 
 -- the field at a place was taken, or refused, whatever fields were read before it
@@ -245,7 +257,7 @@ pub record OpensMap (v : Version) (key : MapKey) (s : Bytes) (at : ℕ) (r : Fie
   pub is : OpenIs v (caseBytes key) s at r
 
 abbrev pub MapIs : Version → Bytes → Bytes → ℕ → MapRead → Type 0
-MapIs v k s at (maps.Map id tag) = (fs : List Field) × (readMap v k (drop at s) ≡ ok fs) × (idSlot v k (at + 1) fs ≡ slot.Filled id tag)
+MapIs v k s at (maps.Map id tag odd) = (fs : List Field) × (readMap v k (drop at s) ≡ ok fs) × (idSlot v k (at + 1) fs ≡ slot.Filled id tag) × (odd ≡ hasOdd v k fs)
 MapIs v k s at (maps.Refused x) = readMap v k (drop at s) ≡ refuse (number x)
 
 -- a map under a key of this case was parsed: the place of its ID, and which name stands for it
@@ -270,7 +282,7 @@ pub record Full (key : MapKey) : Type 0 where
   pub described : rowNamed (ascii "Description") (rows (kindOf (caseBytes key))) ≡ some descriptionField
 
 -- an INFO or FORMAT map whose fields are all there: where its ID, Number and Type stand; its definition is still to be looked at
-pub record Typed (v : Version) (k s : Bytes) (at : ℕ) (id : Text) (tag : ℕ) (number kind : Text) : Type 0 where
+pub record Typed (v : Version) (k s : Bytes) (at : ℕ) (id : Text) (tag : ℕ) (number kind : Text) (odd : Bool) : Type 0 where
   pub fs : List Field
   pub read : readMap v k (drop at s) ≡ judged (misdeclared v k fs) fs
   pub named : idSlot v k (at + 1) fs ≡ slot.Filled id tag
@@ -278,9 +290,10 @@ pub record Typed (v : Version) (k s : Bytes) (at : ℕ) (id : Text) (tag : ℕ) 
   pub number-is : valueNamed v k (ascii "Number") fs ≡ meaningIn s number
   pub kind-is : valueNamed v k (ascii "Type") fs ≡ meaningIn s kind
   pub raw : u64Read (valueNamed v k (ascii "Number") fs) ≡ u64Read (textIn s number)
+  pub spelling : odd ≡ hasOdd v k fs
 
 abbrev pub TypedIs : Version → Bytes → Bytes → ℕ → TypedRead → Type 0
-TypedIs v k s at (typed.Typed id tag number kind) = Typed v k s at id tag number kind
+TypedIs v k s at (typed.Typed id tag number kind odd) = Typed v k s at id tag number kind odd
 TypedIs v k s at (typed.Refused x) = readMap v k (drop at s) ≡ refuse (number x)
 
 -- an INFO or FORMAT map was parsed
@@ -289,4 +302,4 @@ pub record ParsesTyped (v : Version) (key : MapKey) (s : Bytes) (at : ℕ) (r : 
 
 -- whether a definition is the one that its ID asks for
 pub record Declared (v : Version) (key : MapKey) (s : Bytes) (id number kind : Text) (r : Bool) : Type 0 where
-  pub is : (at tag : ℕ) (t : Typed v (caseBytes key) s at id tag number kind) → misdeclared v (caseBytes key) (t .fs) ≡ unless r 18
+  pub is : (at tag : ℕ) (odd : Bool) (t : Typed v (caseBytes key) s at id tag number kind odd) → misdeclared v (caseBytes key) (t .fs) ≡ unless r 18

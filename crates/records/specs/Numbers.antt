@@ -31,7 +31,7 @@ abbrev pub typesOf : Bool → List Bytes
 typesOf flag = (ascii "Integer" ∷ ascii "Float" ∷ ascii "Character" ∷ ascii "String" ∷ []) ++ elim flag [ true ↦ ascii "Flag" ∷ [] | false ↦ [] ]
 
 abbrev pub isInteger : ℕ → IntegerRead → Bool
-isInteger n (integer.Value m) = eqb m n
+isInteger n (integer.Value m p) = eqb m n
 isInteger n integer.Refused = false
 
 -- a letter of one byte has a blank behind it

@@ -56,10 +56,10 @@ pub fn parse_file_format(s: &[u8]) -> FileFormatRead
     if s.len() <= point {
         return FileFormatRead::Refused;
     }
-    let IntegerRead::Value(major) = integer::parse_u32(&s[4..point]) else {
+    let IntegerRead::Value(major, _) = integer::parse_u32(&s[4..point]) else {
         return FileFormatRead::Refused;
     };
-    let IntegerRead::Value(minor) = integer::parse_u32(&s[point + 1..]) else {
+    let IntegerRead::Value(minor, _) = integer::parse_u32(&s[point + 1..]) else {
         return FileFormatRead::Refused;
     };
     FileFormatRead::Version(FileFormat::new(major as u32, minor as u32))

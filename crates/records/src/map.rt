@@ -13,18 +13,24 @@ use values::bytes;
 use values::cursor::Cursor;
 use values::field::FieldRead;
 use values::field::Separator;
+use values::integer;
+use values::integer::IntegerRead;
 use values::string::Text;
 ghost use mathlib.Core.Path.{_≡_};
+ghost use mathlib.Core.Bool.{false, _||_};
 ghost use lib.ListN.{drop};
+ghost use Rattle.values.specs.Integer.{u64Read};
+ghost use Rattle.values.specs.Value.{meaning};
 ghost use Rattle.rules.specs.Answer.{unless};
-ghost use Rattle.rules.specs.Known.{letters, alwaysMap};
+ghost use Rattle.rules.specs.Known.{isIn, letters, alwaysMap};
 ghost use Rattle.rules.specs.Record.{looksMap};
+ghost use Rattle.rules.specs.Spelling.{isOdd, oddValue};
 ghost use Rattle.records.specs.Formats.{versionOf};
 ghost use Rattle.records.specs.Refusals.{number};
 ghost use Rattle.records.specs.Keys.{caseBytes, kindBy};
-ghost use Rattle.records.specs.Numbers.{lettersOf};
+ghost use Rattle.records.specs.Numbers.{isCount, lettersOf};
 ghost use Rattle.records.specs.Tags.{tagRow};
-ghost use Rattle.records.specs.Maps.{opensAt, closesAt, afterAt, checkNumber, rawRefusal, noSlots, get, putSlot, mixed, HasKey, Repeats, TakesField, ReadsField, WalksFields, bareAt, ReadsFields, OpensMap, Identified, Described, ParsesMap};
+ghost use Rattle.records.specs.Maps.{opensAt, closesAt, afterAt, Checked, rawRefusal, noSlots, get, putSlot, mixed, HasKey, Repeats, TakesField, ReadsField, WalksFields, bareAt, ReadsFields, OpensMap, Identified, Described, ParsesMap};
 
 // A text that was read, and which name stood for the ID.
 pub enum Slot {
@@ -32,17 +38,20 @@ pub enum Slot {
     Filled(Text, u8),
 }
 
-// The fields that are kept while a map is read; `plain`: each field so far is one of them.
+// The fields that are kept while a map is read; `plain`: each field so far is one of them; `odd`: a number so far was not plainly
+// spelled.
 pub struct Slots {
     pub id: Slot,
     pub number: Slot,
     pub kind: Slot,
     pub description: Slot,
     pub plain: bool,
+    pub odd: bool,
 }
 
+// What passed says whether it is a number that was not plainly spelled.
 pub enum Check {
-    Passed,
+    Passed(bool),
     Refused(Refusal),
 }
 
@@ -59,7 +68,7 @@ pub enum After {
 }
 
 pub enum FieldTaken {
-    Field(Tag, Slot, Cursor),
+    Field(Tag, Slot, bool, Cursor),
     Refused(Refusal),
 }
 
@@ -75,15 +84,15 @@ pub enum FieldsRead {
     Refused(Refusal),
 }
 
-// The ID of a map, and which name stands for it.
+// The ID of a map, which name stands for it, and whether a number in it was not plainly spelled.
 pub enum MapRead {
-    Map(Text, u8),
+    Map(Text, u8, bool),
     Refused(Refusal),
 }
 
-// The ID of an INFO or FORMAT map, which name stands for it, its Number and its Type.
+// The ID of an INFO or FORMAT map, which name stands for it, its Number and its Type, and whether a number was not plainly spelled.
 pub enum TypedRead {
-    Typed(Text, u8, Text, Text),
+    Typed(Text, u8, Text, Text, bool),
     Refused(Refusal),
 }
 
@@ -140,12 +149,35 @@ fn after_field(s: &[u8], c: Cursor) -> After
 }
 
 fn pass_or(passed: bool, refusal: Refusal) -> Check
-    ensures { λ r. ⌜ checkNumber r ≡ unless passed (number refusal) ⌝ }
+    ensures { λ r. ⌜ Checked r (unless passed (number refusal)) false ⌝ }
 {
     if passed {
-        return Check::Passed;
+        return Check::Passed(false);
     }
     Check::Refused(refusal)
+}
+
+// IDX and length.
+fn check_integer(s: &[u8]) -> Check
+    ensures { λ r. ⌜ Checked r (unless (isCount (now (s .entry))) 13) (isOdd (u64Read (now (s .entry)))) ⌝ }
+{
+    match integer::parse_u64(s) {
+        IntegerRead::Value(_, plain) => Check::Passed(!plain),
+        IntegerRead::Refused => Check::Refused(Refusal::InvalidInteger),
+    }
+}
+
+// Number: a count, or one of the letters.
+fn check_number(s: &[u8], quoted: bool, letters: Letters) -> Check
+    ensures { λ r. ⌜ Checked r (unless (isCount (now (s .entry)) || isIn (meaning quoted (now (s .entry))) (lettersOf letters)) 11) (isOdd (u64Read (now (s .entry)))) ⌝ }
+{
+    match integer::parse_u64(s) {
+        IntegerRead::Value(_, plain) => Check::Passed(!plain),
+        IntegerRead::Refused => pass_or(
+            number::is_letter_of(s, quoted, letters),
+            Refusal::InvalidNumber,
+        ),
+    }
 }
 
 impl MapKey {
@@ -166,27 +198,24 @@ impl MapKey {
 
     // Number, Type, IDX and length have rules of their own.
     fn check_value(self, version: FileFormat, tag: Tag, s: &[u8], quoted: bool) -> Check
-        ensures { λ r. ⌜ checkNumber r ≡ rawRefusal (versionOf version) (kindBy self) (now (s .entry)) quoted (tagRow tag) ⌝ }
+        ensures { λ r. ⌜ Checked r (rawRefusal (versionOf version) (kindBy self) (now (s .entry)) quoted (tagRow tag)) (oddValue (now (s .entry)) (tagRow tag)) ⌝ }
     {
         match tag {
-            Tag::Id => Check::Passed,
+            Tag::Id => Check::Passed(false),
             Tag::Number => {
                 let letters = self.letters(version);
-                pass_or(
-                    number::is_number(s, quoted, letters),
-                    Refusal::InvalidNumber,
-                )
+                check_number(s, quoted, letters)
             }
             Tag::ValueType => {
                 let flag = self.is_info();
                 pass_or(number::is_type(s, quoted, flag), Refusal::InvalidType)
             }
-            Tag::Description => Check::Passed,
-            Tag::Length => pass_or(number::is_count(s), Refusal::InvalidInteger),
-            Tag::Md5 => Check::Passed,
-            Tag::Url => Check::Passed,
-            Tag::Idx => pass_or(number::is_count(s), Refusal::InvalidInteger),
-            Tag::Other => Check::Passed,
+            Tag::Description => Check::Passed(false),
+            Tag::Length => check_integer(s),
+            Tag::Md5 => Check::Passed(false),
+            Tag::Url => Check::Passed(false),
+            Tag::Idx => check_integer(s),
+            Tag::Other => Check::Passed(false),
         }
     }
 }
@@ -201,6 +230,7 @@ impl Slots {
             kind: Slot::Empty,
             description: Slot::Empty,
             plain: true,
+            odd: false,
         }
     }
 
@@ -221,8 +251,8 @@ impl Slots {
     }
 
     // A field that is not kept stood too.
-    fn mixed(self) -> Slots
-        ensures { λ r. ⌜ r ≡ mixed self ⌝ }
+    fn mixed(self, odd: bool) -> Slots
+        ensures { λ r. ⌜ r ≡ mixed odd self ⌝ }
     {
         let id = self.id;
         let number = self.number;
@@ -234,11 +264,12 @@ impl Slots {
             kind,
             description,
             plain: false,
+            odd,
         }
     }
 
-    fn put(self, tag: Tag, slot: Slot) -> Slots
-        ensures { λ r. ⌜ r ≡ putSlot tag slot self ⌝ }
+    fn put(self, tag: Tag, slot: Slot, odd: bool) -> Slots
+        ensures { λ r. ⌜ r ≡ putSlot tag slot odd self ⌝ }
     {
         let id = self.id;
         let number = self.number;
@@ -252,6 +283,7 @@ impl Slots {
                 kind,
                 description,
                 plain,
+                odd,
             },
             Tag::Number => Slots {
                 id,
@@ -259,6 +291,7 @@ impl Slots {
                 kind,
                 description,
                 plain,
+                odd,
             },
             Tag::ValueType => Slots {
                 id,
@@ -266,6 +299,7 @@ impl Slots {
                 kind: slot,
                 description,
                 plain,
+                odd,
             },
             Tag::Description => Slots {
                 id,
@@ -273,12 +307,13 @@ impl Slots {
                 kind,
                 description: slot,
                 plain,
+                odd,
             },
-            Tag::Length => self.mixed(),
-            Tag::Md5 => self.mixed(),
-            Tag::Url => self.mixed(),
-            Tag::Idx => self.mixed(),
-            Tag::Other => self.mixed(),
+            Tag::Length => self.mixed(odd),
+            Tag::Md5 => self.mixed(odd),
+            Tag::Url => self.mixed(odd),
+            Tag::Idx => self.mixed(odd),
+            Tag::Other => self.mixed(odd),
         }
     }
 }
@@ -311,7 +346,13 @@ fn is_repeated(s: &[u8], map: MapContext, at: usize, field: &[u8], tag: Tag, slo
     has_key(s, map.start, at, map.brackets, field)
 }
 
-// The field at the cursor: its tag, what is to be kept of it, and past it.
+fn either(a: bool, b: bool) -> bool
+    ensures { λ r. ⌜ r ≡ (a || b) ⌝ }
+{
+    a || b
+}
+
+// The field at the cursor: its tag, what is to be kept of it, whether a number up to it was not plainly spelled, and past it.
 fn take_field(s: &[u8], map: MapContext, c: Cursor, slots: Slots) -> FieldTaken
     ensures { λ r. ⌜ TakesField map (now (s .entry)) (c .at) slots r ⌝ }
 {
@@ -325,13 +366,15 @@ fn take_field(s: &[u8], map: MapContext, c: Cursor, slots: Slots) -> FieldTaken
     let tag = key.tag(version, field);
     let value = bytes::part(s, text.start, text.end);
     match key.check_value(version, tag, value, text.quoted) {
-        Check::Refused(x) => return FieldTaken::Refused(x),
-        Check::Passed => {}
+        Check::Refused(x) => FieldTaken::Refused(x),
+        Check::Passed(odd) => {
+            if is_repeated(s, map, at, field, tag, slots) {
+                return FieldTaken::Refused(Refusal::DuplicateTag);
+            }
+            let kept = Slot::Filled(text, tag::id_tag(field));
+            FieldTaken::Field(tag, kept, either(slots.odd, odd), next)
+        }
     }
-    if is_repeated(s, map, at, field, tag, slots) {
-        return FieldTaken::Refused(Refusal::DuplicateTag);
-    }
-    FieldTaken::Field(tag, Slot::Filled(text, tag::id_tag(field)), next)
 }
 
 // The same, and what follows it.
@@ -340,8 +383,8 @@ fn read_field(s: &[u8], map: MapContext, c: Cursor, slots: Slots) -> FieldStep
 {
     match take_field(s, map, c, slots) {
         FieldTaken::Refused(x) => FieldStep::Refused(x),
-        FieldTaken::Field(tag, slot, next) => {
-            let kept = slots.put(tag, slot);
+        FieldTaken::Field(tag, slot, odd, next) => {
+            let kept = slots.put(tag, slot, odd);
             match after_field(s, next) {
                 After::More(d) => FieldStep::Next(d, kept),
                 After::Closed => FieldStep::Last(kept),
@@ -418,7 +461,7 @@ pub fn parse_identified(s: &[u8], c: Cursor, key: MapKey, version: FileFormat) -
             let Slot::Filled(id, tag) = named else {
                 return MapRead::Refused(Refusal::MissingId);
             };
-            MapRead::Map(id, tag)
+            MapRead::Map(id, tag, slots.odd)
         }
     }
 }
@@ -438,7 +481,7 @@ pub fn parse_described(s: &[u8], c: Cursor, key: MapKey, version: FileFormat) ->
             let Slot::Filled(_, _) = described else {
                 return MapRead::Refused(Refusal::MissingDescription);
             };
-            MapRead::Map(id, tag)
+            MapRead::Map(id, tag, slots.odd)
         }
     }
 }

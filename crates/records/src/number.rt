@@ -4,11 +4,10 @@ use values::integer;
 use values::integer::IntegerRead;
 use values::string;
 ghost use mathlib.Core.Path.{_≡_};
-ghost use mathlib.Core.Bool.{_||_};
 ghost use Rattle.values.specs.Bytes.{same};
 ghost use Rattle.values.specs.Value.{meaning};
 ghost use Rattle.rules.specs.Known.{isIn};
-ghost use Rattle.records.specs.Numbers.{isCount, lettersOf, typesOf, lettered, isNumberOf, typeName};
+ghost use Rattle.records.specs.Numbers.{lettersOf, typesOf, lettered, isNumberOf, typeName};
 
 // What a reserved ID asks of a Number: a count, or a letter of two bytes, of which the second is a blank where it has one.
 pub enum Number {
@@ -31,23 +30,9 @@ pub enum ValueType {
     String,
 }
 
-// IDX, length and a numeric Number.
-pub fn is_count(s: &[u8]) -> bool
-    ensures { λ r. ⌜ r ≡ isCount (now (s .entry)) ⌝ }
+pub fn is_letter_of(s: &[u8], quoted: bool, letters: Letters) -> bool
+    ensures { λ r. ⌜ r ≡ isIn (meaning quoted (now (s .entry))) (lettersOf letters) ⌝ }
 {
-    match integer::parse_u64(s) {
-        IntegerRead::Value(_) => true,
-        IntegerRead::Refused => false,
-    }
-}
-
-// A count, or one of the letters.
-pub fn is_number(s: &[u8], quoted: bool, letters: Letters) -> bool
-    ensures { λ r. ⌜ r ≡ (isCount (now (s .entry)) || isIn (meaning quoted (now (s .entry))) (lettersOf letters)) ⌝ }
-{
-    if is_count(s) {
-        return true;
-    }
     match letters {
         Letters::Common => list::is_listed(b"A,R,G,.", s, quoted),
         Letters::Phased => list::is_listed(b"A,R,G,.,P", s, quoted),
@@ -82,7 +67,7 @@ impl Number {
     {
         match self {
             Number::Count(n) => {
-                let IntegerRead::Value(m) = integer::parse_u64(s) else {
+                let IntegerRead::Value(m, _) = integer::parse_u64(s) else {
                     return false;
                 };
                 m == n

@@ -25,12 +25,13 @@ pub enum KeyParsed {
     Refused,
 }
 
-// A map: its key, where its value stands, its ID and which name stands for that.
+// A map: its key, where its value stands, its ID and which name stands for that; `odd`: a number in it was not plainly spelled.
 pub struct MapRecord {
     pub key: MapKey,
     pub value: usize,
     pub id: Text,
     pub tag: u8,
+    pub odd: bool,
 }
 
 // A text has the place of its value.
@@ -86,11 +87,12 @@ pub fn parse_record(s: &[u8], version: FileFormat) -> RecordRead
     match parse_key(s) {
         KeyParsed::FileFormat(next) => parse_version(s, next),
         KeyParsed::Map(key, next) => match value::parse_value(s, next, key, version) {
-            ValueParsed::Map(id, tag) => RecordRead::Map(MapRecord {
+            ValueParsed::Map(id, tag, odd) => RecordRead::Map(MapRecord {
                 key,
                 value: next.at,
                 id,
                 tag,
+                odd,
             }),
             ValueParsed::Text => RecordRead::Text(next.at),
             ValueParsed::Refused(x) => RecordRead::Refused(x),

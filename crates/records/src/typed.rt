@@ -32,7 +32,7 @@ pub fn parse_typed(s: &[u8], c: Cursor, key: MapKey, version: FileFormat) -> Typ
             let Slot::Filled(_, _) = described else {
                 return TypedRead::Refused(Refusal::MissingDescription);
             };
-            TypedRead::Typed(id, tag, number, kind)
+            TypedRead::Typed(id, tag, number, kind, slots.odd)
         }
     }
 }

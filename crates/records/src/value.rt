@@ -23,8 +23,9 @@ ghost use Rattle.records.specs.Keys.{caseBytes};
 ghost use Rattle.records.specs.Maps.{Declared, Full, ParsesMap};
 ghost use Rattle.records.specs.Records.{fits, ParsesValue};
 
+// A map has its ID, which name stands for it, and whether a number in it was not plainly spelled.
 pub enum ValueParsed {
-    Map(Text, u8),
+    Map(Text, u8, bool),
     Text,
     Refused(Refusal),
 }
@@ -65,11 +66,11 @@ fn parse_typed_value(s: &[u8], c: Cursor, key: MapKey, version: FileFormat) -> M
 {
     match typed::parse_typed(s, c, key, version) {
         TypedRead::Refused(x) => MapRead::Refused(x),
-        TypedRead::Typed(id, tag, number, kind) => {
+        TypedRead::Typed(id, tag, number, kind, odd) => {
             if !validate_definition(s, version, key, id, number, kind) {
                 return MapRead::Refused(Refusal::DefinitionMismatch);
             }
-            MapRead::Map(id, tag)
+            MapRead::Map(id, tag, odd)
         }
     }
 }
@@ -110,13 +111,14 @@ pub fn parse_value(s: &[u8], c: Cursor, key: MapKey, version: FileFormat) -> Val
     }
     match parse_map_value(s, c, key, version) {
         // Field by field: a copy of the whole text drags its padding along, and reading that back stalls the processor.
-        MapRead::Map(id, tag) => ValueParsed::Map(
+        MapRead::Map(id, tag, odd) => ValueParsed::Map(
             Text {
                 start: id.start,
                 end: id.end,
                 quoted: id.quoted,
             },
             tag,
+            odd,
         ),
         MapRead::Refused(x) => ValueParsed::Refused(x),
     }

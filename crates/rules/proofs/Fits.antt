@@ -88,7 +88,7 @@ numeric-names ALT = tt
 numeric-names contig = (refl, (refl, tt))
 numeric-names other = tt
 
-pub number-count : (v : Version) (kind : Kind) (t : Bytes) {n : ℕ} → u64Read t ≡ integer.Value n → readNumber v kind t ≡ some (count n)
+pub number-count : (v : Version) (kind : Kind) (t : Bytes) {n : ℕ} {p : Bool} → u64Read t ≡ integer.Value n p → readNumber v kind t ≡ some (count n)
 unfolding readNumber
 number-count v kind t e = rw e
 
@@ -107,7 +107,7 @@ type-rows ALT = (refl, (refl, tt))
 type-rows contig = (refl, (refl, (refl, (refl, (refl, tt)))))
 type-rows other = (refl, tt)
 
-number-passes : (v : Version) (kind : Kind) (name : Bytes) (n : ℕ) → same name (ascii "Type") ≡ false → u64Read (decimal n) ≡ integer.Value n
+number-passes : (v : Version) (kind : Kind) (name : Bytes) (n : ℕ) {p : Bool} → same name (ascii "Type") ≡ false → u64Read (decimal n) ≡ integer.Value n p
     → (rs : List KnownField) → All (λ r. isType (r .reads) ≡ same (r .name) (ascii "Type")) rs → valueRefusal v kind (decimal n) (rowNamed name rs) ≡ 0
 unfolding rowNamed
 number-passes v kind name n d e [] h = refl
@@ -126,7 +126,7 @@ number-passes v kind name n d e (r ∷ rs) h = elim (test (same (r .name) name))
 fit-known : (v : Version) (k key n t : Bytes) → Fit v k key t → nameOf v k key ≡ n → Fit v k key (writeKnown (knownValue (kindOf k) n t))
 fit-known v k key n t h s = elim (see-known (kindOf k) n t) [
   | as-word a ↦ rw a h
-  | as-number m e q a b ↦
+  | as-number m p e q a b ↦
       let d = all-member (λ n. same n (ascii "Type") ≡ false) n (numeric (kindOf k)) (numeric-names (kindOf k)) e in
       rw a (record {
         passes = rw s (number-passes v (kindOf k) n m d b (rows (kindOf k)) (type-rows (kindOf k)));
@@ -205,14 +205,14 @@ module _ (v : Version) (k : Bytes) (fs : List Field) where
           rw (meaning-back (isWrittenQuoted v k (keyWritten (tag v k fs) n) t) t) (s (meaningOf (f .value)))
 
   word-tidy : (n : Bytes) → isIn n (known (kindOf k)) ≡ true → isIn n (numeric (kindOf k)) ≡ false → valueNamed v k n (tidy v k fs) ≡ valueNamed v k n fs
-  word-tidy n h d = value-tidy n h (λ a b. a ≡ b) refl (λ t. elim (see-known (kindOf k) n t) [ as-word a ↦ rw a | as-number m e q a b ↦ both e d ])
+  word-tidy n h d = value-tidy n h (λ a b. a ≡ b) refl (λ t. elim (see-known (kindOf k) n t) [ as-word a ↦ rw a | as-number m p e q a b ↦ both e d ])
 
   number-tidy : isIn (ascii "Number") (known (kindOf k)) ≡ true
       → readNumber v (kindOf k) (valueNamed v k (ascii "Number") (tidy v k fs)) ≡ readNumber v (kindOf k) (valueNamed v k (ascii "Number") fs)
   number-tidy h = value-tidy (ascii "Number") h (λ a b. readNumber v (kindOf k) a ≡ readNumber v (kindOf k) b) refl
       (λ t. elim (see-known (kindOf k) (ascii "Number") t) [
         | as-word a ↦ rw a
-        | as-number m e q a b ↦ rw a (number-count v (kindOf k) (decimal m) b ∙ sym (number-count v (kindOf k) t q))
+        | as-number m p e q a b ↦ rw a (number-count v (kindOf k) (decimal m) b ∙ sym (number-count v (kindOf k) t q))
       ])
 
   pub declared-tidy : misdeclared v k fs ≡ 0 → misdeclared v k (tidy v k fs) ≡ 0

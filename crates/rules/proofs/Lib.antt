@@ -22,5 +22,6 @@ pub mod Trace
 pub mod Shows
 pub mod Stands
 pub mod Demands
+pub mod Spelled
 pub mod Refusals
 pub mod Exchange

@@ -1,13 +1,13 @@
 -- A record as the house form writes it: it says the same, and is fine where the record as read is. Assumes nothing.
 use Prim.Native.Nat.{ℕ, _-_, _^_}
 use mathlib.Core.Path.{_≡_, refl, ap, ap₂, _∙_}
-use mathlib.Core.Bool.{true, false, false≢true}
+use mathlib.Core.Bool.{Bool, true, false, false≢true}
 use mathlib.Core.List.{List, [], _∷_, _++_, map}
 use mathlib.Core.Option.{Option, none, some, orElse}
 use Rattle.values.specs.Bytes.{Bytes, ascii, same}
 use Rattle.values.specs.Value.{meaningOf}
 use Rattle.values.specs.Field.{Field}
-use Rattle.values.specs.Integer.{u64Read, decimal}
+use Rattle.values.specs.Integer.{isPlain, u64Read, decimal}
 use Rattle.values.specs.declared.integer.IntegerRead.{IntegerRead}
 use Rattle.values.specs.declared.integer.IntegerRead.the-variants as integer
 use Rattle.values.proofs.Tests.{pass, fail, test, or-l, or-r, or-on, both}
@@ -31,35 +31,35 @@ use Rattle.rules.specs.Claims.{All}
 -- What is known of a value, written and known again
 
 data SeenInteger (r : IntegerRead) : Type 0 where
-  was-value : (n : ℕ) → r ≡ integer.Value n → SeenInteger r
+  was-value : (n : ℕ) (p : Bool) → r ≡ integer.Value n p → SeenInteger r
   was-refused : r ≡ integer.Refused → SeenInteger r
 
 see-integer : (r : IntegerRead) → SeenInteger r
-see-integer (integer.Value n) = was-value n refl
+see-integer (integer.Value n p) = was-value n p refl
 see-integer integer.Refused = was-refused refl
 
 -- a value that is kept as it stands, or the number that it spells
 pub data SeenKnown (kind : Kind) (name t : Bytes) : Type 0 where
-  as-number : (n : ℕ) → isIn name (numeric kind) ≡ true → u64Read t ≡ integer.Value n → knownValue kind name t ≡ number n → u64Read (decimal n) ≡ integer.Value n → SeenKnown kind name t
+  as-number : (n : ℕ) (p : Bool) → isIn name (numeric kind) ≡ true → u64Read t ≡ integer.Value n p → knownValue kind name t ≡ number n → u64Read (decimal n) ≡ integer.Value n (isPlain (decimal n)) → SeenKnown kind name t
   as-word : knownValue kind name t ≡ word t → SeenKnown kind name t
 
 pub see-known : (kind : Kind) (name t : Bytes) → SeenKnown kind name t
 unfolding knownValue
 see-known kind name t = elim (test (isIn name (numeric kind))) [
   | pass e ↦ elim (see-integer (u64Read t)) [
-    | was-value n q ↦ as-number n e q (rw (knownValue, e, q)) (integer-decimal true (2 ^ 64 - 1) n (read-bound true (2 ^ 64 - 1) t q))
+    | was-value n p q ↦ as-number n p e q (rw (knownValue, e, q)) (integer-decimal true (2 ^ 64 - 1) n (read-bound true (2 ^ 64 - 1) t q))
     | was-refused q ↦ as-word (rw (knownValue, e, q))
   ]
   | fail e ↦ as-word (rw (knownValue, e))
 ]
 
-known-number : (kind : Kind) (name t : Bytes) (n : ℕ) → isIn name (numeric kind) ≡ true → u64Read t ≡ integer.Value n → knownValue kind name t ≡ number n
+known-number : (kind : Kind) (name t : Bytes) (n : ℕ) {p : Bool} → isIn name (numeric kind) ≡ true → u64Read t ≡ integer.Value n p → knownValue kind name t ≡ number n
 unfolding knownValue
 known-number kind name t n e q = rw (knownValue, e, q)
 
 pub known-back : (kind : Kind) (name t : Bytes) → knownValue kind name (writeKnown (knownValue kind name t)) ≡ knownValue kind name t
 known-back kind name t = elim (see-known kind name t) [
-  | as-number n e q a b ↦ rw a (known-number kind name (decimal n) n e b)
+  | as-number n p e q a b ↦ rw a (known-number kind name (decimal n) n e b)
   | as-word a ↦ rw a a
 ]
 

@@ -2,7 +2,7 @@
 use Prim.Native.Nat.{ℕ, _-_, _^_, _≤_}
 use native.Mathlib.Omega.{arith}
 use mathlib.Core.Path.{_≡_, refl}
-use mathlib.Core.Bool.{false}
+use mathlib.Core.Bool.{Bool, false}
 use mathlib.Core.List.{_∷_, _++_, tail}
 use mathlib.Core.Option.{Option, none, some}
 use lib.ListN.{drop}
@@ -19,16 +19,16 @@ use Rattle.rules.specs.Version.{Version, inForce, versionFrom, readParts
 use Rattle.rules.proofs.Pure.{Pure, pure-append, pure-join, pure-decimal}
 use Rattle.rules.specs.Claims.{Sized, SizedOption}
 
-version-of : (a b : IntegerRead) → ((n : ℕ) → a ≡ Value n → n ≤ 2 ^ 32 - 1) → ((n : ℕ) → b ≡ Value n → n ≤ 2 ^ 32 - 1) → OnSome Sized (versionFrom a b)
-version-of (Value a) (Value b) h k = record { major = h a refl; minor = k b refl }
-version-of (Value a) Refused h k = tt
+version-of : (a b : IntegerRead) → ((n : ℕ) (p : Bool) → a ≡ Value n p → n ≤ 2 ^ 32 - 1) → ((n : ℕ) (p : Bool) → b ≡ Value n p → n ≤ 2 ^ 32 - 1) → OnSome Sized (versionFrom a b)
+version-of (Value a p) (Value b q) h k = record { major = h a p refl; minor = k b q refl }
+version-of (Value a p) Refused h k = tt
 version-of Refused b h k = tt
 
 parts-sized : (bs : Bytes) → OnSome Sized (readParts bs)
 unfolding readParts
 parts-sized bs = elim (test (begins 46 (from (is 46) bs))) [
   | pass e ↦ let a = before (is 46) bs in let b = tail (from (is 46) bs) in
-      rw (readParts, e) (version-of (u32Read a) (u32Read b) (λ n q. read-bound false (2 ^ 32 - 1) a q) (λ n q. read-bound false (2 ^ 32 - 1) b q))
+      rw (readParts, e) (version-of (u32Read a) (u32Read b) (λ n p q. read-bound false (2 ^ 32 - 1) a q) (λ n p q. read-bound false (2 ^ 32 - 1) b q))
   | fail e ↦ rw (readParts, e) tt
 ]
 

@@ -172,7 +172,7 @@ unfoldable pub types : Kind → List Bytes
 types kind = (ascii "Integer" ∷ ascii "Float" ∷ ascii "Character" ∷ ascii "String" ∷ []) ++ elim (isInfo kind) [ true ↦ ascii "Flag" ∷ [] | false ↦ [] ]
 
 abbrev pub countOr : Option Number → IntegerRead → Option Number
-countOr n (integer.Value c) = some (count c)
+countOr n (integer.Value c p) = some (count c)
 countOr n integer.Refused = n
 
 abbrev pub letterIn : List Bytes → Bytes → Option Number

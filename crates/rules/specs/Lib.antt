@@ -10,6 +10,7 @@ pub mod Columns
 pub mod Entry
 pub mod Reading
 pub mod Shown
+pub mod Spelling
 pub mod Meaning
 pub mod House
 pub mod Report

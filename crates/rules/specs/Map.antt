@@ -65,7 +65,7 @@ isSome none = false
 isSome (some a) = true
 
 abbrev pub isValue : IntegerRead → Bool
-isValue (integer.Value n) = true
+isValue (integer.Value n p) = true
 isValue integer.Refused = false
 
 -- 11 to 13: a bad Number or Type, a bad IDX or length

@@ -34,7 +34,7 @@ pub record Meaning : Type 0 where
   pub samples : List Bytes
 
 abbrev pub numberOrWord : Bytes → IntegerRead → Known
-numberOrWord t (integer.Value n) = number n
+numberOrWord t (integer.Value n p) = number n
 numberOrWord t integer.Refused = word t
 
 unfoldable pub knownValue : Kind → Bytes → Bytes → Known

@@ -45,8 +45,8 @@ inForce none v = v
 inForce (some w) v = w
 
 abbrev pub versionFrom : IntegerRead → IntegerRead → Option Version
-versionFrom (Value a) (Value b) = some (version a b)
-versionFrom (Value a) Refused = none
+versionFrom (Value a p) (Value b q) = some (version a b)
+versionFrom (Value a p) Refused = none
 versionFrom Refused b = none
 
 -- one digit or more, `.`, one digit or more, nothing after

@@ -11,7 +11,7 @@ use lib.ListN.{length, length-append}
 use borrow.Author.Tests.{lt-ltb, le-ltb, le-leb, ltb-true, ltb-false, eqb-true}
 use Rattle.values.specs.Bytes.{Bytes, is, begins, any}
 use Rattle.values.specs.declared.integer.IntegerRead.the-variants.{Value}
-use Rattle.values.specs.Integer.{isDigit, isNoDigit, numberOf, digitsOf, decimal, unsignedRead, withoutSign, integerRead}
+use Rattle.values.specs.Integer.{isDigit, isNoDigit, isPlain, numberOf, digitsOf, decimal, unsignedRead, withoutSign, integerRead}
 use Rattle.values.proofs.Tests.{or-l}
 use Rattle.values.proofs.Lists.{any-append, any-less}
 use Rattle.values.proofs.Integers.{spelled}
@@ -85,18 +85,18 @@ decimal-some =
     (λ n h _. rw (decimal-large n h, length-append (decimal (n / 10)) ((48 + n % 10) ∷ [])) (omega arith))
 
 -- the decimal form is read back
-pub read-decimal : (bound n : ℕ) → n ≤ bound → unsignedRead bound (decimal n) ≡ Value n
-read-decimal bound n h =
-    sym (spelled bound (decimal n) (λ e. omega (arith, decimal-some n)) (decimal-digits n) (rw (number-decimal n) h)) ∙ ap Value (number-decimal n)
+pub read-decimal : (bound n : ℕ) (plain : Bool) → n ≤ bound → unsignedRead bound plain (decimal n) ≡ Value n plain
+read-decimal bound n plain h =
+    sym (spelled bound plain (decimal n) (λ e. omega (arith, decimal-some n)) (decimal-digits n) (rw (number-decimal n) h)) ∙ ap (λ (m : ℕ). Value m plain) (number-decimal n)
 
 -- it holds no byte that is no digit
 pub decimal-lacks : (c n : ℕ) → isDigit c ≡ false → any (is c) (decimal n) ≡ false
 decimal-lacks c n h = any-less (is c) isNoDigit (λ b e. rw (eqb-true b c e, h)) (decimal n) (decimal-digits n)
 
 -- with a sign allowed or not
-pub integer-decimal : (sign : Bool) (bound n : ℕ) → n ≤ bound → integerRead sign bound (decimal n) ≡ Value n
+pub integer-decimal : (sign : Bool) (bound n : ℕ) → n ≤ bound → integerRead sign bound (decimal n) ≡ Value n (isPlain (decimal n))
 unfolding withoutSign begins any
-integer-decimal sign bound n h = rw (signless sign (decimal n) (decimal-lacks 43 n refl)) (read-decimal bound n h)
+integer-decimal sign bound n h = rw (signless sign (decimal n) (decimal-lacks 43 n refl)) (read-decimal bound n (isPlain (decimal n)) h)
   where
     signless : (sign : Bool) (bs : Bytes) → any (is 43) bs ≡ false → withoutSign sign bs ≡ bs
     signless true [] e = refl

@@ -6,7 +6,7 @@ use mathlib.Core.List.{[], _∷_, tail}
 use mathlib.Core.Option.{Option, none, some}
 use borrow.Author.Tests.{eqb-true}
 use Rattle.values.specs.Bytes.{Bytes, is, empty, begins, any}
-use Rattle.values.specs.Integer.{isNoDigit, valueIf, unsignedRead, withoutSign, integerRead, numberOf}
+use Rattle.values.specs.Integer.{isNoDigit, isPlain, valueIf, unsignedRead, withoutSign, integerRead, numberOf}
 use Rattle.values.specs.Value.{Value, textOf, meaningOf, unescaped, prepend, isEscapable, quotedText, inQuotes, isBracketed, readUnquoted, readValue}
 use Rattle.values.specs.Field.{readKey, withValue, mayBracket, withKey, readField}
 use Rattle.values.specs.declared.integer.IntegerRead.the-variants.{Refused}
@@ -87,7 +87,7 @@ refused : (sign : Bool) (bound : ℕ) (t : Bytes) → any isEscapable t ≡ true
 unfolding unsignedRead
 refused sign bound t e = rw (unsignedRead, sign-left sign t e) (off (not (empty (withoutSign sign t))))
   where
-    off : (q : Bool) → valueIf (q && false) (numberOf (withoutSign sign t)) ≡ Refused
+    off : (q : Bool) → valueIf (q && false) (numberOf (withoutSign sign t)) (isPlain t) ≡ Refused
     off true = refl
     off false = refl
 

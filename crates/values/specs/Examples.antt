@@ -59,13 +59,17 @@ ascii-table : Table isAscii (([], true) ∷ (0x00 ∷ 0x7F ∷ [], true) ∷ (0x
 unfolding opened
 ascii-table = refl
 
--- 64 bits with a sign, leading zeros without limit, and both sides of the bound
+-- 64 bits with a sign, leading zeros without limit, both sides of the bound, and whether it is plainly spelled
 u64-table : Table u64Read (
-    (ascii "5", integer.Value 5)
-    ∷ (ascii "+5", integer.Value 5)
-    ∷ (ascii "007", integer.Value 7)
-    ∷ (replicate 40 48 ++ ascii "9", integer.Value 9)
-    ∷ (ascii "18446744073709551615", integer.Value (2 ^ 64 - 1))
+    (ascii "5", integer.Value 5 true)
+    ∷ (ascii "+5", integer.Value 5 false)
+    ∷ (ascii "007", integer.Value 7 false)
+    ∷ (ascii "0", integer.Value 0 true)
+    ∷ (ascii "00", integer.Value 0 false)
+    ∷ (ascii "+0", integer.Value 0 false)
+    ∷ (ascii "10", integer.Value 10 true)
+    ∷ (replicate 40 48 ++ ascii "9", integer.Value 9 false)
+    ∷ (ascii "18446744073709551615", integer.Value (2 ^ 64 - 1) true)
     ∷ (ascii "18446744073709551616", integer.Refused)
     ∷ (ascii "-0", integer.Refused)
     ∷ (ascii "+", integer.Refused)
@@ -80,8 +84,8 @@ u64-table = refl
 
 -- a version's part takes no sign
 u32-table : Table u32Read (
-    (ascii "0004", integer.Value 4)
-    ∷ (ascii "4294967295", integer.Value (2 ^ 32 - 1))
+    (ascii "0004", integer.Value 4 false)
+    ∷ (ascii "4294967295", integer.Value (2 ^ 32 - 1) true)
     ∷ (ascii "4294967296", integer.Refused)
     ∷ (ascii "+4", integer.Refused)
     ∷ ([], integer.Refused)

@@ -1,9 +1,9 @@
 -- Integers as a header spells them, and a number's decimal form. Assumes nothing.
 use Prim.Native.Nat.{ℕ, zero, suc, _+_, _-_, _*_, _/_, _%_, _^_}
-use mathlib.Core.Bool.{Bool, true, false, not, _&&_}
+use mathlib.Core.Bool.{Bool, true, false, not, _||_, _&&_}
 use mathlib.Core.List.{[], _∷_, _++_, tail}
 use lib.ListN.{length}
-use lib.Dec.{leb, ltb}
+use lib.Dec.{eqb, leb, ltb}
 use Rattle.values.specs.Bytes.{Bytes, empty, begins, any, PLUS}
 use Rattle.values.specs.declared.integer.IntegerRead.{IntegerRead}
 use Rattle.values.specs.declared.integer.IntegerRead.the-variants.{Value, Refused}
@@ -23,19 +23,24 @@ numberOf (b ∷ bs) = (b - 48) * 10 ^ length bs + numberOf bs
 abbrev pub spells : ℕ → Bytes → Bool
 spells bound bs = not (empty bs) && (not (any isNoDigit bs) && leb (numberOf bs) bound)
 
-abbrev pub valueIf : Bool → ℕ → IntegerRead
-valueIf true n = Value n
-valueIf false n = Refused
+-- plainly spelled: no sign, and no leading zero unless the number is the one digit 0
+abbrev pub isPlain : Bytes → Bool
+isPlain bs = not (begins PLUS bs) && (not (begins 48 bs) || eqb (length bs) 1)
 
-unfoldable pub unsignedRead : ℕ → Bytes → IntegerRead
-unsignedRead bound bs = valueIf (spells bound bs) (numberOf bs)
+abbrev pub valueIf : Bool → ℕ → Bool → IntegerRead
+valueIf true n plain = Value n plain
+valueIf false n plain = Refused
+
+-- digits; `plain`: how the whole integer was spelled
+unfoldable pub unsignedRead : ℕ → Bool → Bytes → IntegerRead
+unsignedRead bound plain bs = valueIf (spells bound bs) (numberOf bs) plain
 
 -- without one `+` in front, where a sign is allowed
 unfoldable pub withoutSign : Bool → Bytes → Bytes
 withoutSign allowed bs = elim (allowed && begins PLUS bs) [ true ↦ tail bs | false ↦ bs ]
 
 abbrev pub integerRead : Bool → ℕ → Bytes → IntegerRead
-integerRead allowed bound bs = unsignedRead bound (withoutSign allowed bs)
+integerRead allowed bound bs = unsignedRead bound (isPlain bs) (withoutSign allowed bs)
 
 -- IDX, length and a numeric Number: Rust's `parse` of an unsigned 64-bit number
 abbrev pub u64Read : Bytes → IntegerRead

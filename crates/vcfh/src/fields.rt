@@ -18,7 +18,7 @@ pub fn key_of(l: &[u8]) -> &[u8] {
 }
 
 // The place of the first field, after the `<` of the value.
-fn first_field(l: &[u8]) -> usize {
+pub fn first_field(l: &[u8]) -> usize {
     let open = bytes::find(l, bytes::find(l, 2, b'='), b'<');
     if l.len() <= open {
         return open;

@@ -9,6 +9,7 @@ mod listing;
 mod notes;
 mod numbers;
 mod say;
+mod spelled;
 mod twice;
 mod why;
 
@@ -102,6 +103,21 @@ fn entries(header: &[u8], imposed: FileFormatOption, table: &mut [u64]) {
     }
 }
 
+fn odd(header: &[u8], imposed: FileFormatOption, table: &mut [u64]) {
+    let answer = header::parser::read(header, imposed, table);
+    let outcome = answer.outcome;
+    match outcome {
+        Outcome::Accepted(version, _) => {
+            spelled::say_odd(header, table, answer.entries, version);
+            notes::say_notes(header, table, answer.entries, version);
+        }
+        Outcome::Refused(refusal) => {
+            say::refused(refusal.number(), answer.line, answer.start);
+            why::say_why(refusal, header, imposed, answer.start);
+        }
+    }
+}
+
 // A header that is not read is refused as the listing of its entries is.
 fn dictionary(
     header: &[u8],
@@ -154,6 +170,8 @@ fn run(
         entries(header, imposed, table);
     } else if bytes::same(command, b"dictionary") {
         dictionary(header, imposed, table, strings, contigs);
+    } else if bytes::same(command, b"odd") {
+        odd(header, imposed, table);
     } else if bytes::same(command, b"house") {
         house(header, imposed, table, form, true);
     } else if bytes::same(command, b"form") {

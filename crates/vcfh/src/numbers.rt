@@ -11,7 +11,7 @@ use values::cursor::ByteRead;
 use values::cursor::Cursor;
 
 // What the ID means.
-fn say_id(header: &[u8], e: Entry) {
+pub fn say_id(header: &[u8], e: Entry) {
     let id = part::id_part(header, e);
     let mut c = Cursor { at: 0 };
     loop {

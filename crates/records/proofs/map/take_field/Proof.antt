@@ -30,20 +30,23 @@ check-value-requires c κs = search needs
 enum-known-x : tie.Need-enum-known-x
 enum-known-x c = search needs
 
-returns-2 : tie.Need-returns-2
-returns-2 c = search (takes, needs)
-
-enum-told-2 : tie.Need-enum-told-2
-enum-told-2 c = search needs
+enum-known-odd : tie.Need-enum-known-odd
+enum-known-odd c = search needs
 
 is-repeated-requires : tie.Need-is-repeated-requires
 is-repeated-requires c κs = search needs
 
-returns-3 : tie.Need-returns-3
-returns-3 c = search (takes, needs)
+returns-2 : tie.Need-returns-2
+returns-2 c = search (takes, needs)
 
 id-tag-requires : tie.Need-id-tag-requires
 id-tag-requires c κs = search needs
+
+either-requires : tie.Need-either-requires
+either-requires c κs = search needs
+
+returns-3 : tie.Need-returns-3
+returns-3 c = search (takes, needs)
 
 returns-4 : tie.Need-returns-4
 returns-4 c = search (takes, needs)
@@ -61,9 +64,10 @@ take-field-spec =
     part-requires-2
     check-value-requires
     enum-known-x
-    returns-2
-    enum-told-2
+    enum-known-odd
     is-repeated-requires
-    returns-3
+    returns-2
     id-tag-requires
+    either-requires
+    returns-3
     returns-4)

@@ -3,6 +3,9 @@ use borrow.Author.Needs.{needs}
 use Rattle.values.proofs.integer.integer.Statement.{statement}
 use Rattle.values.proofs.integer.integer.Tie as tie
 
+is-plain-requires : tie.Need-is-plain-requires
+is-plain-requires c κs = search needs
+
 unsigned-requires : tie.Need-unsigned-requires
 unsigned-requires c κs = search needs
 
@@ -40,6 +43,7 @@ pub integer-spec : {M : Type 1} → statement M
 integer-spec =
     tie.close
     (tie.spec
+    is-plain-requires
     unsigned-requires
     returns
     returns-2

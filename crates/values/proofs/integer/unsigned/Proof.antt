@@ -6,10 +6,10 @@ use Rattle.values.proofs.integer.unsigned.Statement.{statement}
 use Rattle.values.proofs.integer.unsigned.Tie as tie
 
 abbrev Inv-loop : tie.InvT-loop
-Inv-loop s bound n₀ i₀ n i = Reading s bound n i
+Inv-loop s bound plain n₀ i₀ n i = Reading s bound n i
 
 abbrev μ-loop : tie.MeasureT-loop
-μ-loop s bound n₀ i₀ n i = length s - i
+μ-loop s bound plain n₀ i₀ n i = length s - i
 
 returns : tie.Need-returns Inv-loop μ-loop
 returns c = search (turns, needs)

@@ -12,11 +12,8 @@ enum-told-2 c = search needs
 letters-requires : tie.Need-letters-requires
 letters-requires c κs = search needs
 
-is-number-requires : tie.Need-is-number-requires
-is-number-requires c κs = search needs
-
-pass-or-requires : tie.Need-pass-or-requires
-pass-or-requires c κs = search needs
+check-number-requires : tie.Need-check-number-requires
+check-number-requires c κs = search needs
 
 enum-told-3 : tie.Need-enum-told-3
 enum-told-3 c = search needs
@@ -27,8 +24,8 @@ is-info-requires c κs = search needs
 is-type-requires : tie.Need-is-type-requires
 is-type-requires c κs = search needs
 
-pass-or-requires-2 : tie.Need-pass-or-requires-2
-pass-or-requires-2 c κs = search needs
+pass-or-requires : tie.Need-pass-or-requires
+pass-or-requires c κs = search needs
 
 enum-told-4 : tie.Need-enum-told-4
 enum-told-4 c = search needs
@@ -36,11 +33,8 @@ enum-told-4 c = search needs
 enum-told-5 : tie.Need-enum-told-5
 enum-told-5 c = search needs
 
-is-count-requires : tie.Need-is-count-requires
-is-count-requires c κs = search needs
-
-pass-or-requires-3 : tie.Need-pass-or-requires-3
-pass-or-requires-3 c κs = search needs
+check-integer-requires : tie.Need-check-integer-requires
+check-integer-requires c κs = search needs
 
 enum-told-6 : tie.Need-enum-told-6
 enum-told-6 c = search needs
@@ -51,11 +45,8 @@ enum-told-7 c = search needs
 enum-told-8 : tie.Need-enum-told-8
 enum-told-8 c = search needs
 
-is-count-requires-2 : tie.Need-is-count-requires-2
-is-count-requires-2 c κs = search needs
-
-pass-or-requires-4 : tie.Need-pass-or-requires-4
-pass-or-requires-4 c κs = search needs
+check-integer-requires-2 : tie.Need-check-integer-requires-2
+check-integer-requires-2 c κs = search needs
 
 enum-told-9 : tie.Need-enum-told-9
 enum-told-9 c = search needs
@@ -94,21 +85,18 @@ check-value-spec =
     enum-told
     enum-told-2
     letters-requires
-    is-number-requires
-    pass-or-requires
+    check-number-requires
     enum-told-3
     is-info-requires
     is-type-requires
-    pass-or-requires-2
+    pass-or-requires
     enum-told-4
     enum-told-5
-    is-count-requires
-    pass-or-requires-3
+    check-integer-requires
     enum-told-6
     enum-told-7
     enum-told-8
-    is-count-requires-2
-    pass-or-requires-4
+    check-integer-requires-2
     enum-told-9
     returns
     returns-2

@@ -1,0 +1,2 @@
+// How the numbers of a header were spelled.
+pub mod odd;

@@ -1,0 +1,158 @@
+// The entries that carry a number that is not plainly spelled: with a sign, or with a leading zero.
+use entries::kind;
+use entries::shown;
+use entries::shown::EntryRead;
+use entries::table;
+use records::file_format::FileFormat;
+use records::record;
+use records::record::RecordRead;
+use values::bytes;
+use values::utf8;
+ghost use mathlib.Core.Path.{_≡_};
+ghost use mathlib.Core.List.{[], _∷_};
+ghost use lib.ListN.{length};
+ghost use lib.Seq.{sets};
+ghost use Rattle.rules.specs.Spelling.{lineOdd, entryOdd};
+ghost use Rattle.records.specs.Formats.{versionOf};
+ghost use Rattle.entries.specs.Tables.{entryAt};
+ghost use Rattle.spelling.specs.Odd.{spellingMeans, outcomeNumber, oddIn, Counts, Walks, oddAnswer, oddList};
+
+// How the numbers of an entry were spelled.
+enum Spelling {
+    Plain,
+    Odd,
+    Refused,
+}
+
+enum Counted {
+    Count(usize),
+    Refused,
+}
+
+pub enum OddOutcome {
+    Listed,
+    NotWellFormed,
+    ListTooShort,
+}
+
+// How many entries were listed; none if the call is refused.
+pub struct OddAnswer {
+    pub outcome: OddOutcome,
+    pub listed: usize,
+}
+
+impl OddOutcome {
+    // Document 02's number; 0 if the entries are listed.
+    pub fn number(self) -> u64
+        ensures { λ r. ⌜ r ≡ outcomeNumber self ⌝ }
+    {
+        match self {
+            OddOutcome::Listed => 0,
+            OddOutcome::NotWellFormed => 29,
+            OddOutcome::ListTooShort => 31,
+        }
+    }
+}
+
+// A line, read alone, which must be a map of this kind.
+fn line_spelling(l: &[u8], kind: u8, version: FileFormat) -> Spelling
+    ensures { λ r. ⌜ spellingMeans r ≡ lineOdd (versionOf version) kind (now (l .entry)) ⌝ }
+{
+    if !utf8::utf8(l) {
+        return Spelling::Refused;
+    }
+    match record::parse_record(l, version) {
+        RecordRead::FileFormat(_) => Spelling::Refused,
+        RecordRead::Map(map) => {
+            let key = map.key;
+            if key.kind() != kind {
+                return Spelling::Refused;
+            }
+            if map.odd {
+                return Spelling::Odd;
+            }
+            Spelling::Plain
+        }
+        RecordRead::Text(_) => Spelling::Refused,
+        RecordRead::Refused(_) => Spelling::Refused,
+    }
+}
+
+fn entry_spelling(h: &[u8], table: &[u64], n: usize, version: FileFormat) -> Spelling
+    ensures { λ r. ⌜ spellingMeans r ≡ entryOdd (now (h .entry)) (versionOf version) (entryAt (now (h .entry)) (now (table .entry)) n) ⌝ }
+{
+    let EntryRead::Entry(e) = shown::entry_at(h, table, n) else {
+        return Spelling::Refused;
+    };
+    if !kind::has_id(e.kind) {
+        return Spelling::Plain;
+    }
+    let l = bytes::piece(h, e.start, e.length);
+    line_spelling(l, e.kind, version)
+}
+
+// The word of this number, if there is one.
+fn put(list: &mut [u64], at: usize, word: u64)
+    ensures { λ _. ⌜ now (list .exit) ≡ sets (now (list .entry)) at (word ∷ []) ⌝ }
+{
+    if list.len() <= at {
+        return;
+    }
+    list[at] = word;
+}
+
+// Counts the entries that carry an oddly spelled number, and writes their numbers as far as there is room; ends at one that is
+// refused.
+fn walk(h: &[u8], table: &[u64], version: FileFormat, list: &mut [u64]) -> Counted
+    ensures { λ r. ⌜ Walks (oddIn (now (h .entry)) (now (table .entry)) (versionOf version)) (now (list .entry)) r (now (list .exit)) ⌝ }
+{
+    let entries = table::count(table);
+    let mut n: usize = 0;
+    let mut found: usize = 0;
+    while n < entries {
+        let at = n;
+        n += 1;
+        match entry_spelling(h, table, at, version) {
+            Spelling::Refused => return Counted::Refused,
+            Spelling::Plain => {}
+            Spelling::Odd => {
+                put(list, found, at as u64);
+                found += 1;
+            }
+        }
+    }
+    Counted::Count(found)
+}
+
+fn count(h: &[u8], table: &[u64], version: FileFormat) -> Counted
+    ensures { λ r. ⌜ Counts (oddIn (now (h .entry)) (now (table .entry)) (versionOf version)) r ⌝ }
+{
+    let mut nothing = [0u64; 0];
+    walk(h, table, version, &mut nothing)
+}
+
+// Lists the numbers of the entries that carry an oddly spelled number, in table order. Nothing is written if it is refused.
+pub fn odd_entries(header: &[u8], table: &[u64], version: FileFormat, list: &mut [u64]) -> OddAnswer
+    ensures answer { λ r. ⌜ r ≡ oddAnswer (length (now (list .entry))) (oddIn (now (header .entry)) (now (table .entry)) (versionOf version)) ⌝ }
+    ensures list { λ _. ⌜ now (list .exit) ≡ oddList (now (list .entry)) (oddIn (now (header .entry)) (now (table .entry)) (versionOf version)) ⌝ }
+{
+    match count(header, table, version) {
+        Counted::Refused => OddAnswer {
+            outcome: OddOutcome::NotWellFormed,
+            listed: 0,
+        },
+        Counted::Count(n) => {
+            if list.len() < n {
+                return OddAnswer {
+                    outcome: OddOutcome::ListTooShort,
+                    listed: 0,
+                };
+            }
+            walk(header, table, version, list);
+            OddAnswer {
+                outcome: OddOutcome::Listed,
+                listed: n,
+            }
+        }
+    }
+}

@@ -71,9 +71,9 @@ static void parts(void) {
     same("by 3.4 a text", vcfh_field(bytes(header), length, table, WORDS, 2, 3, 4, 1).number, 29);
 }
 
-/* Major and minor exchanged, the lines are texts under 3.4, so that 29 comes; the list is one word too short, and its last word stays. */
+/* Major and minor exchanged, the first line is a text under 3.4, so that 29 comes; the list is one word too short, and its last word stays. */
 static void odd(void) {
-    const char *header = "##fileformat=VCFv4.3\n##c=<ID=x,L=1>\n##contig=<ID=a,length=007>\n##contig=<ID=b,IDX=+5>\n" COLUMNS "\n";
+    const char *header = "##fileformat=VCFv4.3\n##c=<L=1,ID=x>\n##contig=<ID=a,length=007>\n##contig=<ID=b,IDX=+5>\n" COLUMNS "\n";
     size_t length = strlen(header);
     uint64_t list[3] = {7, 7, 7};
     size_t words = 2 * read_by(header, 0, 0, 0).entries;
@@ -84,8 +84,20 @@ static void odd(void) {
     same("not as the entry says", vcfh_odd(bytes(header), length, table, words, 3, 4, list, 3).number, 29);
 }
 
+/* Two contigs of four lines and 56 bytes; then too small an output, and a name that stands twice. */
+static void contigs(void) {
+    const char *sam = "@HD\tVN:1.6\n@SQ\tSN:a,b\tLN:07\n@CO\n@SQ\tUR:u\tLN:2\tM5:m\tSN:c\n@SQ\tSN:c\tLN:1\n";
+    const char *lines = "##contig=<ID=\"a,b\",length=7>\n##contig=<ID=c,length=2,md5=m,URL=u>\n";
+    vcfh_contig_lines c = vcfh_contigs(bytes(sam), 56, form, 4096);
+    same("read", c.number, 0), same("SAM lines", c.line, 4), same("SAM bytes", c.start, 56), same("contigs", c.contigs, 2);
+    same("contig bytes", c.length, strlen(lines)), same("the lines", memcmp(form, lines, strlen(lines)) == 0, 1);
+    c = vcfh_contigs(bytes(sam), strlen(sam), form, 4096);
+    same("twice", c.number, 43), same("its line", c.line, 5), same("its start", c.start, 56), same("none", c.contigs, 0), same("nothing", c.length, 0);
+    same("no room for lines", vcfh_contigs(bytes(sam), 56, form, strlen(lines) - 1).number, 28);
+}
+
 int main(void) {
-    versions(), places(), forms(), parts(), odd();
+    versions(), places(), forms(), parts(), odd(), contigs();
     same("UTF-8", vcfh_utf8(bytes("\xc3\xa9"), 2), 1);
     same("no UTF-8", vcfh_utf8(bytes("\xc3\xa9"), 1), 0);
     printf("%u passed, %u failed\n", passed, failed);

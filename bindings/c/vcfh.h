@@ -25,6 +25,9 @@ typedef struct { uint64_t count, wells[40], before[40], after[40]; } vcfh_differ
 /* The same, and how many pairs were written of strings and of contigs, 0 if refused. */
 typedef struct { uint64_t number, line, start, entries, strings, contigs; } vcfh_numbers;
 
+/* number, line and start as in an answer, how many contigs were written and in how many bytes, both 0 if refused. */
+typedef struct { uint64_t number, line, start, contigs, length; } vcfh_contig_lines;
+
 /* number: 0, or 29 where there is nothing to show. start and length: a part of the header, in bytes. */
 typedef struct { uint64_t number, start, length; } vcfh_part;
 
@@ -54,6 +57,10 @@ vcfh_differences vcfh_compare(vcfh_cells old_ones, vcfh_cells new_ones);
 vcfh_numbers vcfh_dictionaries(const uint8_t *header, size_t length, uint64_t imposed, uint32_t major, uint32_t minor,
                                uint64_t *table, size_t words, uint64_t *strings, size_t string_words,
                                uint64_t *contigs, size_t contig_words);
+
+/* Writes a contig line in house form, with ID, length, md5 and URL, for each @SQ line of the header of an alignment file, in file order;
+   nothing is written if it is refused. Twice the header's bytes and 40 for each of its lines are never too small an output. */
+vcfh_contig_lines vcfh_contigs(const uint8_t *sam, size_t length, uint8_t *out, size_t space);
 
 /* The line of an entry, from 0, or a sample's name; its ID, without quotes. */
 vcfh_part vcfh_entry(const uint8_t *header, size_t length, const uint64_t *table, size_t words, uint64_t entry);

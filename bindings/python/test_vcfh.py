@@ -70,6 +70,16 @@ class Reading(unittest.TestCase):
             vcfh.dictionaries(b"##fileformat=VCFv4.3\n##contig=<ID=a,IDX=1>\n##contig=<ID=b>\n" + COLUMNS)
         self.assertEqual((caught.exception.number, caught.exception.line), (34, 0))
 
+    def test_contigs_are_written_of_an_alignment_header(self):
+        sam = b'@HD\tVN:1.6\n@SQ\tSN:a,b\tLN:07\n@SQ\tUR:u\tLN:2\tM5:"\tSN:c\r\n'
+        lines = b'##contig=<ID="a,b",length=7>\n##contig=<ID=c,length=2,md5="\\"",URL=u>\n'
+        self.assertEqual(vcfh.contigs(sam), lines)
+        self.assertEqual([entry.kind for entry in vcfh.Header(b"##fileformat=VCFv4.5\n" + lines + COLUMNS)][1:3], ["contig", "contig"])
+        self.assertEqual(vcfh.contigs(b""), b"")
+        with self.assertRaises(vcfh.Refused) as caught:
+            vcfh.contigs(sam + b"@SQ\tSN:c\tLN:1\n")
+        self.assertEqual((caught.exception.number, caught.exception.line, caught.exception.start), (43, 4, len(sam)))
+
     def test_samples_follow_the_column_line(self):
         header = vcfh.Header(b"##fileformat=VCFv4.3\n" + COLUMNS + b"\tFORMAT\tNA1\t\tNA2")
         self.assertEqual([entry.line for entry in header if entry.kind == "sample"], [b"NA1", b"", b"NA2"])
@@ -104,7 +114,7 @@ class Reading(unittest.TestCase):
         self.assertEqual([entry.fields for entry in header], [[], [], [b"K=1", b'L="2,3"', b'ID="W07"'], []])
 
     def test_every_number_has_its_own_words(self):
-        self.assertEqual(sorted(vcfh.WORDS), [*range(1, 30), *range(34, 41)])
+        self.assertEqual(sorted(vcfh.WORDS), [*range(1, 30), 31, *range(34, 44)])
         self.assertEqual(len(set(vcfh.WORDS.values())), len(vcfh.WORDS))
 
     def test_utf8_is_told_from_other_bytes(self):

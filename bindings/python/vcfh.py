@@ -38,6 +38,10 @@ class _Dictionaries(ctypes.Structure):
     _fields_ = _Answer._fields_ + [("strings", ctypes.c_uint64), ("contigs", ctypes.c_uint64)]
 
 
+class _Contigs(ctypes.Structure):
+    _fields_ = [(name, ctypes.c_uint64) for name in ("number", "line", "start", "contigs", "length")]
+
+
 class _Part(ctypes.Structure):
     _fields_ = [(name, ctypes.c_uint64) for name in ("number", "start", "length")]
 
@@ -61,6 +65,7 @@ def _library():
         ("vcfh_register", _Register, _BYTES + _NUMBER + _VERSION + _TABLE),
         ("vcfh_compare", _Differences, [_Register, _Register]),
         ("vcfh_dictionaries", _Dictionaries, _BYTES + _NUMBER + _VERSION + _TABLE + _TABLE + _TABLE),
+        ("vcfh_contigs", _Contigs, _BYTES + [ctypes.c_char_p, ctypes.c_size_t]),
         ("vcfh_entry", _Part, _BYTES + _TABLE + _NUMBER),
         ("vcfh_id", _Part, _BYTES + _TABLE + _NUMBER),
         ("vcfh_field", _Part, _BYTES + _TABLE + _NUMBER + _VERSION + _NUMBER),
@@ -174,6 +179,18 @@ def dictionaries(data, version=None):
     slices = [(ctypes.c_uint64 * words)() for _ in range(2)]
     answer, _, _ = _called(_vcfh.vcfh_dictionaries, data, version, slices[0], words, slices[1], words)
     return tuple([(pairs[2 * n], pairs[2 * n + 1]) for n in range(count)] for pairs, count in zip(slices, (answer.strings, answer.contigs)))
+
+
+def contigs(sam):
+    """The contig lines of the header of an alignment file, in house form: one for each @SQ line, with ID, length, md5 and URL."""
+    sam = bytes(sam)
+    # escapes at most double a value, and what stands around the values of a line has less than 40 bytes
+    space = 2 * len(sam) + 40 * (sam.count(b"\n") + 1)
+    out = ctypes.create_string_buffer(space)
+    answer = _vcfh.vcfh_contigs(sam, len(sam), out, space)
+    if answer.number:
+        raise Refused(answer.number, answer.line, answer.start)
+    return out.raw[: answer.length]
 
 
 def is_utf8(data):

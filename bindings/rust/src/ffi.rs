@@ -48,6 +48,15 @@ pub struct Differences {
 }
 
 #[repr(C)]
+pub struct ContigLines {
+    pub number: u64,
+    pub line: u64,
+    pub start: u64,
+    pub contigs: u64,
+    pub length: u64,
+}
+
+#[repr(C)]
 pub struct Part {
     pub number: u64,
     pub start: u64,
@@ -89,6 +98,7 @@ extern "C" {
     ) -> Numbers;
     fn vcfh_register(header: *const u8, length: usize, imposed: u64, major: u32, minor: u32, table: *mut u64, words: usize) -> Cells;
     fn vcfh_compare(old: Cells, new: Cells) -> Differences;
+    fn vcfh_contigs(sam: *const u8, length: usize, out: *mut u8, space: usize) -> ContigLines;
     fn vcfh_entry(header: *const u8, length: usize, table: *const u64, words: usize, entry: u64) -> Part;
     fn vcfh_id(header: *const u8, length: usize, table: *const u64, words: usize, entry: u64) -> Part;
     fn vcfh_field(header: *const u8, length: usize, table: *const u64, words: usize, entry: u64, major: u32, minor: u32, field: u64) -> Part;
@@ -132,6 +142,10 @@ pub fn register(header: &[u8], imposed: Option<Version>, table: &mut [u64]) -> C
 pub fn compare(old: [u64; 40], new: [u64; 40]) -> Differences {
     let cells = |constants| Cells { number: 0, line: 0, start: 0, entries: 0, constants };
     unsafe { vcfh_compare(cells(old), cells(new)) }
+}
+
+pub fn contigs(sam: &[u8], out: &mut [u8]) -> ContigLines {
+    unsafe { vcfh_contigs(sam.as_ptr(), sam.len(), out.as_mut_ptr(), out.len()) }
 }
 
 pub fn entry(header: &[u8], table: &[u64], entry: u64) -> Part {

@@ -112,6 +112,19 @@ pub fn dictionaries(bytes: &[u8], imposed: Option<Version>) -> Result<Dictionari
     Ok(Dictionaries { strings: pairs(&strings, answer.strings), contigs: pairs(&contigs, answer.contigs) })
 }
 
+/// The contig lines of the header of an alignment file, in house form: one for each `@SQ` line, with ID, length, md5 and URL.
+pub fn contigs(sam: &[u8]) -> Result<Vec<u8>, Refused> {
+    // Escapes at most double a value, and what stands around the values of a line has less than 40 bytes.
+    let lines = sam.iter().filter(|&&b| b == b'\n').count() + 1;
+    let mut out = vec![0; 2 * sam.len() + 40 * lines];
+    let answer = ffi::contigs(sam, &mut out);
+    if answer.number != 0 {
+        return Err(Refused { number: answer.number, line: answer.line, start: answer.start });
+    }
+    out.truncate(answer.length as usize);
+    Ok(out)
+}
+
 /// The cell register of a probe header: the constants of W01 to W40 in whole hundredths, in well order.
 #[derive(Clone, Copy, Debug, Eq, PartialEq)]
 pub struct Register {

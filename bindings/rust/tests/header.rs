@@ -110,12 +110,12 @@ fn entries_with_oddly_spelled_numbers_are_listed() {
 
 #[test]
 fn every_number_has_its_own_words() {
-    let mut words: Vec<&str> = (1..=29).chain([31]).chain(34..=40).map(|number| Refused { number, line: 0, start: 0 }.words()).collect();
+    let mut words: Vec<&str> = (1..=29).chain([31]).chain(34..=43).map(|number| Refused { number, line: 0, start: 0 }.words()).collect();
     let none = Refused { number: 30, line: 0, start: 0 }.words();
     assert!(!words.contains(&none));
     words.sort();
     words.dedup();
-    assert_eq!(words.len(), 36);
+    assert_eq!(words.len(), 40);
 }
 
 #[test]
@@ -144,4 +144,15 @@ fn a_factory_line_is_refused() {
     let refused = Register::read(header.as_bytes(), None).unwrap_err();
     assert_eq!((refused.number, refused.line), (21, 42));
     assert_eq!(Register::read(plate(|_| "2.01").as_bytes(), None).unwrap_err(), Refused { number: 40, line: 2, start: 21 });
+}
+
+#[test]
+fn contigs_are_written_of_an_alignment_header() {
+    let sam = b"@HD\tVN:1.6\n@SQ\tSN:a,b\tLN:07\n@SQ\tUR:u\tLN:2\tM5:\"\tSN:c\r\n";
+    let lines = "##contig=<ID=\"a,b\",length=7>\n##contig=<ID=c,length=2,md5=\"\\\"\",URL=u>\n";
+    assert_eq!(vcfh::contigs(sam).unwrap(), lines.as_bytes());
+    let header = format!("##fileformat=VCFv4.5\n{lines}{COLUMNS}\n");
+    assert_eq!(Header::read(header.as_bytes(), None).unwrap().entries().count(), 4);
+    let twice = [&sam[..], b"@SQ\tSN:c\tLN:1\n"].concat();
+    assert_eq!(vcfh::contigs(&twice).unwrap_err(), Refused { number: 43, line: 4, start: sam.len() as u64 });
 }

@@ -28,6 +28,8 @@ use Rattle.spelling.specs.declared.odd.OddAnswer.{OddAnswer}
 use Rattle.capi.specs.declared.VcfhOdd.{VcfhOdd}
 use Rattle.capi.specs.declared.VcfhRegister.{VcfhRegister}
 use Rattle.capi.specs.declared.VcfhDifferences.{VcfhDifferences}
+use Rattle.sam.specs.Contigs.{Contigs, contigLines}
+use Rattle.capi.specs.declared.VcfhContigs.{VcfhContigs}
 
 abbrev pub flag : Bool → ℕ
 flag true = 1
@@ -85,3 +87,6 @@ differencesAs ds = record {
 
 abbrev pub oddAs : OddAnswer → VcfhOdd
 oddAs r = record { number = outcomeNumber (r .outcome); listed = r .listed }
+
+abbrev pub contigsInC : Contigs → VcfhContigs
+contigsInC r = record { number = r .number; line = r .line; start = r .start; contigs = length (r .contigs); length = length (contigLines (r .contigs)) }

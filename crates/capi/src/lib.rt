@@ -17,10 +17,11 @@ ghost use Rattle.rules.specs.House.{house};
 ghost use Rattle.entries.specs.Tables.{room, stored, shownEntry, shownId, shownField};
 ghost use Rattle.header.specs.Verdicts.{imposedOf};
 ghost use Rattle.header.specs.Parsers.{outcomeNumber, readInto};
+ghost use Rattle.sam.specs.Contigs.{contigLines, contigsFitting};
 ghost use Rattle.register.specs.Register.{registerOf};
 ghost use Rattle.register.specs.Compare.{differing};
 ghost use Rattle.spelling.specs.Odd.{oddIn, oddAnswer, oddList};
-ghost use Rattle.capi.specs.Answers.{flag, imposedBy, answerInC, formInC, dictionariesIn, dictionariesInC, partOf, partAs, Ordered, registerAs, differencesAs, oddAs};
+ghost use Rattle.capi.specs.Answers.{flag, imposedBy, answerInC, formInC, dictionariesIn, dictionariesInC, partOf, partAs, Ordered, registerAs, differencesAs, oddAs, contigsInC};
 
 // Document 01's number, 0 if accepted; the line and its start; how many entries the table keeps.
 #[repr(C)]
@@ -57,6 +58,16 @@ pub struct VcfhDictionaries {
 pub struct VcfhOdd {
     pub number: u64,
     pub listed: u64,
+}
+
+// The number, the line and its start, how many contigs were written and in how many bytes, both 0 if refused.
+#[repr(C)]
+pub struct VcfhContigs {
+    pub number: u64,
+    pub line: u64,
+    pub start: u64,
+    pub contigs: u64,
+    pub length: u64,
 }
 
 // Number 0 and a part of the header, or number 29 and no part.
@@ -269,6 +280,25 @@ pub extern "C" fn vcfh_compare(old: VcfhRegister, new: VcfhRegister) -> VcfhDiff
         wells,
         old: before,
         new: after,
+    }
+}
+
+// Writes a contig line for each `@SQ` line of a SAM header into the output.
+#[no_mangle]
+pub extern "C" fn vcfh_contigs(sam: &[u8], out: &mut [u8]) -> VcfhContigs
+    ensures answer { λ r. ⌜ r ≡ contigsInC (contigsFitting (length (now (out .entry))) (now (sam .entry))) ⌝ }
+    ensures output { λ _. ⌜ now (out .exit) ≡ sets (now (out .entry)) 0
+        (contigLines (contigsFitting (length (now (out .entry))) (now (sam .entry)) .contigs)) ⌝ }
+{
+    let answer = sam::contigs::contigs(sam, out);
+    let outcome = answer.outcome;
+    let number = outcome.number();
+    VcfhContigs {
+        number,
+        line: answer.line as u64,
+        start: answer.start as u64,
+        contigs: answer.contigs as u64,
+        length: answer.length as u64,
     }
 }
 

@@ -1,6 +1,7 @@
 // Replays recorded cases. Each argument names a file of them, a line a case: its name, what is asked, the input and what must
 // come, parted by tabs and escaped. A case that comes out otherwise is named, with what came; each file's cases are counted.
 mod calls;
+mod contigs;
 mod dictionaries;
 mod forms;
 mod library;
@@ -51,6 +52,9 @@ fn answer(asked: &[u8], input: &[u8], form: &mut [u8], out: &mut [u8]) -> usize 
     }
     if bytes::same(what, b"odd") {
         return odd::put(out, input, asked);
+    }
+    if bytes::same(what, b"contigs") {
+        return contigs::put(out, input, asked, form);
     }
     if bytes::starts_with(what, b"c-") {
         return library::put(out, input, asked, form);

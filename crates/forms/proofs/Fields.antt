@@ -45,7 +45,7 @@ stop-other b e = elim (test (is 44 b)) [
   | fail q ↦ rw (eqb-true b 62 (rw q at e))
 ]
 
-bare-number : (meta : Bool) (key : Bytes) (n : ℕ) → same key (ascii "Description") ≡ false → quotes meta key (decimal n) ≡ false
+pub bare-number : (meta : Bool) (key : Bytes) (n : ℕ) → same key (ascii "Description") ≡ false → quotes meta key (decimal n) ≡ false
 unfolding quotes
 bare-number meta key n e =
     rw (

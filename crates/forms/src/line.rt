@@ -10,9 +10,12 @@ use values::bytes;
 use values::output;
 use values::string::Text;
 ghost use mathlib.Core.Path.{_≡_};
+ghost use mathlib.Core.Bool.{false};
+ghost use Rattle.values.specs.Field.{writtenField};
 ghost use Rattle.values.specs.Written.{Wrote};
 ghost use Rattle.rules.specs.Lines.{ends};
 ghost use Rattle.records.specs.Formats.{versionOf};
+ghost use Rattle.forms.specs.Forms.{fieldBy};
 ghost use Rattle.forms.specs.Lines.{fieldsText, mapText, houseLine, ending, WroteEnded};
 
 // The place after a line's text, and the place after its ending: what does not fit is counted and not written.
@@ -36,6 +39,13 @@ fn put_map(out: &mut [u8], at: usize, s: &[u8], map: MapContext, id: Text, tag: 
     let opened = output::put_bytes(out, at, bytes::part(s, 0, map.start));
     let filled = put_fields(out, opened, s, map, id, tag);
     output::put_byte(out, filled, b'>')
+}
+
+// A field of a map that is no META, with this value.
+pub fn put_field(out: &mut [u8], at: usize, key: &[u8], value: &[u8]) -> usize
+    ensures { λ r. ⌜ Wrote (now (out .entry)) at (writtenField (fieldBy false (now (key .entry)) (now (value .entry)))) r (now (out .exit)) ⌝ }
+{
+    field::put_field(out, at, key, value, false, false)
 }
 
 // The line s, a map or a text, without an ending; of a fileformat line or a refused one nothing is written.

@@ -42,7 +42,8 @@ pub house-lines : (v : Version) (rs : List Record) (c : Columns)
 unfolding houseLines headerMeaning
 house-lines v rs c = rw (records-arranged v (allKeys rs) rs)
 
-lines-fit : (lim : Limits) (v : Version) (xs : List Record) (c : Columns) → All (Entered v) xs → GoodColumns c
+-- lines that are not too long may stand in a header
+pub lines-fit : (lim : Limits) (v : Version) (xs : List Record) (c : Columns) → All (Entered v) xs → GoodColumns c
     → All (λ l. length l ≤ lim .line) (writeRecord (fileformat v) ∷ (recordLines v xs ++ columnLine c ∷ []))
     → All (Line lim) (writeRecord (fileformat v) ∷ (recordLines v xs ++ columnLine c ∷ []))
 lines-fit lim v xs c e g h = (record { short = h .0; pure = format-pure v }, go xs e (h .1))

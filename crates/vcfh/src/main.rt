@@ -3,6 +3,7 @@
 // What came of a case is told on descriptor 3, by which bin/vcfh goes; sentences and notes stand on standard error.
 mod asked;
 mod cells;
+mod contigs;
 mod fields;
 mod input;
 mod listing;
@@ -205,19 +206,24 @@ fn run_after(
     }
 }
 
-// The command is the argument of this number.
+// The command is the argument of this number. `full`: there may be more of the input than these bytes.
 fn run_command(
     number: usize,
     text: &[u8],
+    full: bool,
     imposed: FileFormatOption,
     table: &mut [u64],
     form: &mut [u8],
     strings: &mut [u64],
-    contigs: &mut [u64],
+    pairs: &mut [u64],
     had: &mut [u64; 40],
 ) {
     let mut word = io::buffer();
     let word_end = os::arg(number, &mut word);
+    if bytes::same(&word[..word_end], b"contigs") {
+        contigs::say_contigs(text, full, form);
+        return;
+    }
     let header = bytes::part(text, 0, input::header_end(text));
     run_after(
         &word[..word_end],
@@ -226,7 +232,7 @@ fn run_command(
         table,
         form,
         strings,
-        contigs,
+        pairs,
         had,
     );
 }
@@ -245,9 +251,11 @@ fn long_case(number: usize, first: &[u8], fd: i32, imposed: FileFormatOption, ha
     let mut strings = pair_buffer();
     let mut contigs = pair_buffer();
     let text = input::text(bytes::part(&buffer, 0, end));
+    let full = buffer.len() <= end;
     run_command(
         number,
         text,
+        full,
         imposed,
         &mut table,
         &mut form,
@@ -275,7 +283,13 @@ fn long_case_apart(
 }
 
 // A case whose header stands whole in these bytes.
-fn short_case(number: usize, text: &[u8], imposed: FileFormatOption, had: &mut [u64; 40]) {
+fn short_case(
+    number: usize,
+    text: &[u8],
+    full: bool,
+    imposed: FileFormatOption,
+    had: &mut [u64; 40],
+) {
     let mut table = short_table();
     let mut form = short_form();
     let mut strings = short_pairs();
@@ -283,6 +297,7 @@ fn short_case(number: usize, text: &[u8], imposed: FileFormatOption, had: &mut [
     run_command(
         number,
         text,
+        full,
         imposed,
         &mut table,
         &mut form,
@@ -305,9 +320,9 @@ fn read_case(number: usize, fd: i32, imposed: FileFormatOption, had: &mut [u64; 
     }
     let text = input::text(bytes::part(&first, 0, n));
     if n < 16384 {
-        short_case(number, text, imposed, had);
+        short_case(number, text, false, imposed, had);
     } else if input::header_end(text) < text.len() {
-        short_case(number, text, imposed, had);
+        short_case(number, text, true, imposed, had);
     } else {
         long_case_apart(os::arg_count(), number, &first, fd, imposed, had);
     }

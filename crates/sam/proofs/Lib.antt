@@ -1,0 +1,9 @@
+pub mod Tags
+pub mod Sequences
+pub mod ContigLines
+pub mod Names
+pub mod Walks
+pub mod Answers
+pub mod Pure
+pub mod Theorems
+pub mod Determined

@@ -1,0 +1,6 @@
+pub mod Tags
+pub mod Contigs
+pub mod Examples
+pub mod Lines
+pub mod Answers
+pub mod Claims

@@ -1,0 +1,95 @@
+// The tags of an `@SQ` line, tab-parted, which stand from its fifth byte on.
+use values::bytes;
+ghost use mathlib.Core.Path.{_≡_};
+ghost use Rattle.sam.specs.Tags.{isLetter, isLetterOrDigit, isTag, tagged, areTags};
+ghost use Rattle.sam.specs.Lines.{orNothing, tagsAt};
+
+pub const TAGS_START: usize = 4;
+
+fn is_letter(b: u8) -> bool
+    ensures { λ r. ⌜ r ≡ isLetter b ⌝ }
+{
+    if b < b'A' {
+        return false;
+    }
+    if b <= b'Z' {
+        return true;
+    }
+    if b < b'a' {
+        return false;
+    }
+    b <= b'z'
+}
+
+fn is_letter_or_digit(b: u8) -> bool
+    ensures { λ r. ⌜ r ≡ isLetterOrDigit b ⌝ }
+{
+    if is_letter(b) {
+        return true;
+    }
+    if b < b'0' {
+        return false;
+    }
+    b <= b'9'
+}
+
+// A letter, a letter or digit, `:` and one byte or more.
+fn is_tag(t: &[u8]) -> bool
+    ensures { λ r. ⌜ r ≡ isTag (now (t .entry)) ⌝ }
+{
+    if t.len() < 4 {
+        return false;
+    }
+    if t[2] != b':' {
+        return false;
+    }
+    if !is_letter(t[0]) {
+        return false;
+    }
+    is_letter_or_digit(t[1])
+}
+
+// The value of the first tag of this name from `start` on, no bytes if there is none.
+pub fn find_tag<'a>(line: &'a [u8], start: usize, name: &[u8]) -> &'a [u8]
+    ensures { λ r. ⌜ now r ≡ orNothing (tagged (now (name .entry)) (tagsAt (now (line .entry)) start)) ⌝ }
+{
+    if line.len() < start {
+        return &line[..0];
+    }
+    let mut at = start;
+    loop {
+        let end = bytes::find(line, at, b'\t');
+        let tag = bytes::part(line, at, end);
+        if bytes::same(bytes::piece(tag, 0, 2), name) {
+            return bytes::part(tag, 3, tag.len());
+        }
+        if line.len() <= end {
+            return &line[..0];
+        }
+        at = end + 1;
+    }
+}
+
+// Whether each is a tag, and none after it has its name.
+pub fn are_tags(line: &[u8]) -> bool
+    ensures { λ r. ⌜ r ≡ areTags (tagsAt (now (line .entry)) 4) ⌝ }
+{
+    if line.len() < TAGS_START {
+        return true;
+    }
+    let mut at: usize = TAGS_START;
+    loop {
+        let end = bytes::find(line, at, b'\t');
+        let tag = bytes::part(line, at, end);
+        if !is_tag(tag) {
+            return false;
+        }
+        if line.len() <= end {
+            return true;
+        }
+        at = end + 1;
+        if find_tag(line, at, bytes::piece(tag, 0, 2)).len() != 0 {
+            return false;
+        }
+    }
+}

@@ -34,7 +34,8 @@ use Rattle.records.specs.Keys.{caseBytes, Named, kindBy, contextOf}
 use Rattle.records.specs.Tags.{afterId}
 use Rattle.records.specs.Fields.{meaningIn}
 use Rattle.records.specs.Maps.{slotted}
-use Rattle.records.specs.Records.{keyIn, RecordIs, ParsesRecord}
+use Rattle.rules.specs.Claims.{keyIn}
+use Rattle.records.specs.Records.{RecordIs, ParsesRecord}
 use Rattle.records.specs.declared.key.MapKey.{MapKey}
 use Rattle.records.specs.declared.key.MapContext.{MapContext}
 use Rattle.records.specs.declared.record.MapRecord.{MapRecord}

@@ -26,7 +26,8 @@ use Rattle.rules.specs.Shown.{hasId, lineIn, nthFieldPart, recordFieldPart, ent
 use Rattle.rules.proofs.Firsts.{on-ok}
 use Rattle.rules.proofs.Texts.{Scanned, record-scanned}
 use Rattle.records.specs.Keys.{caseBytes, kindBy}
-use Rattle.records.specs.Records.{keyIn, RecordIs, ParsesRecord}
+use Rattle.rules.specs.Claims.{keyIn}
+use Rattle.records.specs.Records.{RecordIs, ParsesRecord}
 use Rattle.records.specs.declared.file_format.FileFormat.{FileFormat}
 use Rattle.records.specs.declared.record.MapRecord.{MapRecord}
 use Rattle.records.specs.declared.refusal.Refusal.{Refusal}

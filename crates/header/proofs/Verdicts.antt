@@ -33,7 +33,7 @@ use Rattle.records.specs.Refusals.{number}
 use Rattle.records.specs.Keys.{kindBy, Named}
 use Rattle.records.specs.Fields.{textIn}
 use Rattle.records.specs.Maps.{slotted}
-use Rattle.records.specs.Records.{keyIn, valueStart, RecordIs, ParsesRecord}
+use Rattle.records.specs.Records.{valueStart, RecordIs, ParsesRecord}
 use Rattle.records.specs.declared.file_format.FileFormat.{FileFormat}
 use Rattle.records.specs.declared.refusal.Refusal.{Refusal}
 use Rattle.records.specs.declared.refusal.Refusal.the-variants.{ExpectedEof, LineTooLong, InvalidUtf8, MissingFileFormat, UnexpectedFileFormat, DuplicateId, MixedValues, DuplicateOtherId, InvalidHeader, DuplicateSampleName}
@@ -63,7 +63,7 @@ use Rattle.header.specs.declared.verdict.Phase.{Phase}
 use Rattle.header.specs.declared.verdict.Phase.the-variants as phase
 use Rattle.header.specs.declared.verdict.Verdict.{Verdict}
 use Rattle.header.specs.declared.verdict.Verdict.the-variants as verdict
-use Rattle.rules.specs.Claims.{Sized, SizedOption}
+use Rattle.rules.specs.Claims.{Sized, SizedOption, keyIn}
 
 -- The version in force
 

@@ -21,7 +21,7 @@ use Rattle.records.specs.Formats.{versionOf}
 use Rattle.records.specs.Refusals.{number}
 use Rattle.records.specs.Keys.{Named}
 use Rattle.records.specs.Maps.{idSlot}
-use Rattle.records.specs.Records.{keyIn, valueStart}
+use Rattle.records.specs.Records.{valueStart}
 use Rattle.records.specs.declared.file_format.FileFormat.{FileFormat}
 use Rattle.records.specs.declared.map.Slot.the-variants as slot
 use Rattle.records.specs.declared.record.MapRecord.{MapRecord}
@@ -34,7 +34,7 @@ use Rattle.header.specs.declared.verdict.Phase.{Phase}
 use Rattle.header.specs.declared.verdict.Phase.the-variants as phase
 use Rattle.header.specs.declared.verdict.Verdict.{Verdict}
 use Rattle.header.specs.declared.verdict.Verdict.the-variants as verdict
-use Rattle.rules.specs.Claims.{All, Sized, LineAt, Rows}
+use Rattle.rules.specs.Claims.{All, Sized, LineAt, Rows, keyIn}
 
 abbrev pub imposedOf : FileFormatOption → Option Version
 imposedOf option.None = none

@@ -16,7 +16,8 @@ use Rattle.records.specs.Formats.{versionOf, formatOf}
 use Rattle.records.specs.Keys.{caseBytes, Named}
 use Rattle.records.specs.Tags.{tagRow, nameIn, tagName}
 use Rattle.records.specs.Maps.{slotted}
-use Rattle.records.specs.Records.{keyIn, RecordIs, ParsesRecord}
+use Rattle.rules.specs.Claims.{keyIn}
+use Rattle.records.specs.Records.{RecordIs, ParsesRecord}
 use Rattle.records.specs.declared.key.MapKey.{MapKey}
 use Rattle.records.specs.declared.key.MapKey.the-variants as key
 use Rattle.records.specs.declared.tag.Tag.{Tag}

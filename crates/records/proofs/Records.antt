@@ -22,7 +22,8 @@ use Rattle.rules.specs.Record.{fields, text, looksMap, isMap, fileformatRead, r
 use Rattle.records.specs.Formats.{formatRead}
 use Rattle.records.specs.Keys.{caseBytes, keyNamed, Named}
 use Rattle.records.specs.Maps.{slotted, MapIs, ParsesMap, Full, TypedIs, ParsesTyped, Typed, Declared}
-use Rattle.records.specs.Records.{ValueIs, ParsesValue, keyIn, KeyedIs, versionRecord, RecordIs, ParsesRecord}
+use Rattle.rules.specs.Claims.{keyIn}
+use Rattle.records.specs.Records.{ValueIs, ParsesValue, KeyedIs, versionRecord, RecordIs, ParsesRecord}
 use Rattle.records.specs.declared.file_format.FileFormat.{FileFormat}
 use Rattle.records.specs.declared.file_format.FileFormatRead.{FileFormatRead}
 use Rattle.records.specs.declared.file_format.FileFormatRead.the-variants as version

@@ -5,7 +5,7 @@ use mathlib.Core.Bool.{Bool, true, _&&_}
 use mathlib.Core.List.{List}
 use mathlib.Core.Option.{Option, none, some}
 use lib.ListN.{length, drop}
-use Rattle.values.specs.Bytes.{Bytes, is, before, same}
+use Rattle.values.specs.Bytes.{Bytes, same}
 use Rattle.values.specs.Value.{meaning}
 use Rattle.values.specs.Field.{Field}
 use Rattle.rules.specs.Answer.{ok, refuse}
@@ -14,6 +14,7 @@ use Rattle.rules.specs.Entry.{fieldsStart}
 use Rattle.rules.specs.Spelling.{hasOdd}
 use Rattle.rules.specs.Record.{fileformat, fields, text, readRecordValue, readRecord}
 use Rattle.rules.specs.Record.{fileformatRead as versionRead}
+use Rattle.rules.specs.Claims.{keyIn}
 use Rattle.records.specs.Formats.{versionOf, formatOf}
 use Rattle.records.specs.Refusals.{number}
 use Rattle.records.specs.Keys.{Named}
@@ -46,10 +47,6 @@ ValueIs v k s at (value.Refused x) = readRecordValue v k (drop at s) ≡ refuse 
 -- the value of a record under a key of this case was parsed
 pub record ParsesValue (v : Version) (key : MapKey) (s : Bytes) (at : ℕ) (r : ValueParsed) : Type 0 where
   pub is : (k : Bytes) → Named k key → ValueIs v k s at r
-
--- the bytes of a line's key
-abbrev pub keyIn : Bytes → Bytes
-keyIn s = before (is 61) (drop 2 s)
 
 -- past the key's `=`
 abbrev pub valueStart : Bytes → ℕ

@@ -23,7 +23,8 @@ use Rattle.rules.specs.Entry.{Entry, mapKind}
 use Rattle.rules.specs.Shown.{hasId, lineIn}
 use Rattle.rules.specs.Spelling.{hasOdd, recordOdd, lineOdd, entryOdd}
 use Rattle.records.specs.Keys.{kindBy}
-use Rattle.records.specs.Records.{keyIn, RecordIs, ParsesRecord}
+use Rattle.rules.specs.Claims.{keyIn}
+use Rattle.records.specs.Records.{RecordIs, ParsesRecord}
 use Rattle.records.specs.declared.file_format.FileFormat.{FileFormat}
 use Rattle.records.specs.declared.refusal.Refusal.{Refusal}
 use Rattle.records.specs.declared.record.MapRecord.{MapRecord}
@@ -36,7 +37,7 @@ use Rattle.entries.specs.declared.entry.Entry.{Entry as CodeEntry}
 use Rattle.entries.specs.Values.{entryOf}
 use Rattle.entries.specs.Tables.{room, entryAt}
 use Rattle.entries.specs.Shown.{entryMeant}
-use Rattle.spelling.specs.Odd.{joined, oddFrom, oddIn, answerOf, oddAnswer, oddList, spellingMeans, CountIs, Counts, Walks}
+use Rattle.spelling.specs.Odd.{listing, oddFrom, oddIn, answerOf, oddAnswer, oddList, spellingMeans, CountIs, Counts, Walks}
 use Rattle.spelling.specs.declared.odd.Spelling.{Spelling}
 use Rattle.spelling.specs.declared.odd.Spelling.the-variants as spelling
 use Rattle.spelling.specs.declared.odd.Counted.{Counted}
@@ -118,11 +119,11 @@ abbrev after : List ℕ → Option (List ℕ) → Option (List ℕ)
 after ds none = none
 after ds (some ns) = some (ds ++ ns)
 
-after-odd : (ds : List ℕ) (n : ℕ) (o : Option (List ℕ)) → after ds (joined n (some true) o) ≡ after (ds ++ n ∷ []) o
+after-odd : (ds : List ℕ) (n : ℕ) (o : Option (List ℕ)) → after ds (listing n (some true) o) ≡ after (ds ++ n ∷ []) o
 after-odd ds n none = refl
 after-odd ds n (some ns) = ap some (sym (append-assoc ds (n ∷ []) ns))
 
-after-plain : (ds : List ℕ) (n : ℕ) (o : Option (List ℕ)) → after ds (joined n (some false) o) ≡ after ds o
+after-plain : (ds : List ℕ) (n : ℕ) (o : Option (List ℕ)) → after ds (listing n (some false) o) ≡ after ds o
 after-plain ds n none = refl
 after-plain ds n (some ns) = refl
 
@@ -158,7 +159,7 @@ module _ {h : Bytes} {t : List ℕ} {v : Version} {list₀ list : List ℕ} {n f
   walk-less b = omega (arith, b)
 
   module _ (b : n < m) (r : Spelling) (a : spellingMeans r ≡ entryOdd h v (entryAt h t n)) where
-    more : (r : Option Bool) → entryOdd h v (entryAt h t n) ≡ r → oddIn h t v ≡ after (g .done) (joined n r (oddFrom h t v (n + 1) (room t - (n + 1))))
+    more : (r : Option Bool) → entryOdd h v (entryAt h t n) ≡ r → oddIn h t v ≡ after (g .done) (listing n r (oddFrom h t v (n + 1) (room t - (n + 1))))
     unfolding oddFrom
     more r e = let z : room t - n ≡ suc (room t - (n + 1)) = omega (arith, b, all) in g .whole ∙ rw (z, oddFrom, e)
 

@@ -3,16 +3,16 @@ use Prim.Native.Nat.{ℕ}
 use mathlib.Core.Path.{_≡_, refl}
 use mathlib.Core.List.{List, [], _∷_}
 use mathlib.Core.Option.{Option, none, some}
-use Rattle.spelling.specs.Odd.{joined, answerOf, oddAnswer, oddList}
+use Rattle.spelling.specs.Odd.{listing, answerOf, oddAnswer, oddList}
 use Rattle.spelling.specs.declared.odd.OddOutcome.the-variants.{Listed, NotWellFormed, ListTooShort}
 use mathlib.Core.Bool.{true, false}
 
 -- entries 0 to 3, of which 1 and 3 carry an oddly spelled number
-listed : joined 0 (some false) (joined 1 (some true) (joined 2 (some false) (joined 3 (some true) (some [])))) ≡ some (1 ∷ 3 ∷ [])
+listed : listing 0 (some false) (listing 1 (some true) (listing 2 (some false) (listing 3 (some true) (some [])))) ≡ some (1 ∷ 3 ∷ [])
 listed = refl
 
 -- one that is refused, behind the others too
-refused : joined 0 (some true) (joined 1 none (some [])) ≡ none
+refused : listing 0 (some true) (listing 1 none (some [])) ≡ none
 refused = refl
 
 -- room for exactly these, and one word less

@@ -20,15 +20,15 @@ use Rattle.spelling.specs.declared.odd.OddOutcome.the-variants.{Listed, 
 use Rattle.spelling.specs.declared.odd.OddAnswer.{OddAnswer}
 
 -- an entry's number in front of those after it, if it carries an oddly spelled number; none if it or one after it is refused
-abbrev pub joined : ℕ → Option Bool → Option (List ℕ) → Option (List ℕ)
-joined n none ns = none
-joined n (some odd) none = none
-joined n (some odd) (some ns) = some (elim odd [ true ↦ n ∷ ns | false ↦ ns ])
+abbrev pub listing : ℕ → Option Bool → Option (List ℕ) → Option (List ℕ)
+listing n none ns = none
+listing n (some odd) none = none
+listing n (some odd) (some ns) = some (elim odd [ true ↦ n ∷ ns | false ↦ ns ])
 
 -- of so many entries from number n on
 unfoldable pub oddFrom : Bytes → List ℕ → Version → ℕ → ℕ → Option (List ℕ)
 oddFrom h t v n zero = some []
-oddFrom h t v n (suc more) = joined n (entryOdd h v (entryAt h t n)) (oddFrom h t v (n + 1) more)
+oddFrom h t v n (suc more) = listing n (entryOdd h v (entryAt h t n)) (oddFrom h t v (n + 1) more)
 
 -- of all entries of a table; none is refusal 29
 abbrev pub oddIn : Bytes → List ℕ → Version → Option (List ℕ)

@@ -1,5 +1,5 @@
-/* Reads one header over and over, by htslib or by vcfh, or writes its house form or its dictionaries:
-   bench hts|read|house|dictionaries FILE TIMES.
+/* Reads one header over and over, by htslib or by vcfh in the first or the second form, or writes its house form or its dictionaries:
+   bench hts|read|second|house|dictionaries FILE TIMES.
    Prints the best round's nanoseconds for one header. */
 #include <stdio.h>
 #include <stdlib.h>
@@ -14,7 +14,7 @@ enum { ROUNDS = 5, WORDS = 524288, SIZE = 1048576 };
 static char header[SIZE + 1];
 static size_t length;
 static uint64_t table[WORDS];
-static uint8_t form[SIZE];
+static uint8_t out[SIZE];
 static uint64_t strings[SIZE / 8], contigs[SIZE / 8];
 
 static int hts(void) {
@@ -28,16 +28,20 @@ static int hts(void) {
 #endif
 }
 
-static int read_header(void) {
-    return vcfh_read((const uint8_t *)header, length, 0, 0, 0, table, WORDS).number == 0;
+static int read_in(uint64_t form) {
+    return vcfh_read((const uint8_t *)header, length, 0, 0, 0, form, table, WORDS).number == 0;
 }
 
+static int read_first(void) { return read_in(VCFH_FIRST); }
+static int read_second(void) { return read_in(VCFH_SECOND); }
+
 static int house(void) {
-    return vcfh_house((const uint8_t *)header, length, 0, 0, 0, table, WORDS, form, SIZE).number == 0;
+    return vcfh_house((const uint8_t *)header, length, 0, 0, 0, VCFH_FIRST, table, WORDS, out, SIZE).number == 0;
 }
 
 static int dictionaries(void) {
-    return vcfh_dictionaries((const uint8_t *)header, length, 0, 0, 0, table, WORDS, strings, SIZE / 8, contigs, SIZE / 8).number == 0;
+    const uint8_t *bytes = (const uint8_t *)header;
+    return vcfh_dictionaries(bytes, length, 0, 0, 0, VCFH_FIRST, table, WORDS, strings, SIZE / 8, contigs, SIZE / 8).number == 0;
 }
 
 static double now(void) {
@@ -52,7 +56,8 @@ int main(int count, char **words) {
     if (!file) return 2;
     length = fread(header, 1, SIZE, file);
     int (*call)(void) = strcmp(words[1], "hts") == 0 ? hts : strcmp(words[1], "house") == 0 ? house
-                        : strcmp(words[1], "dictionaries") == 0 ? dictionaries : read_header;
+                        : strcmp(words[1], "dictionaries") == 0 ? dictionaries
+                        : strcmp(words[1], "second") == 0 ? read_second : read_first;
     long times = atol(words[3]);
     double best = 1e300;
     for (int round = 0; round < (times ? ROUNDS : 0); round++) {

@@ -50,8 +50,8 @@ int main(void) {
         uint64_t imposed = sscanf(version + 1, "%u.%u", &major, &minor) == 2;
         size_t length = unescape(line, header);
         size_t room = 2 * length + 2, output = 4 * length + 1024;
-        vcfh_answer a = vcfh_read(header, length, imposed, major, minor, table, room);
-        vcfh_form f = vcfh_house(header, length, imposed, major, minor, table, room, form, output);
+        vcfh_answer a = vcfh_read(header, length, imposed, major, minor, VCFH_FIRST, table, room);
+        vcfh_form f = vcfh_house(header, length, imposed, major, minor, VCFH_FIRST, table, room, form, output);
         printf("%s\t%lu\t%lu\t%lu\t%lu\t%lu\t", line, (unsigned long)a.number, (unsigned long)a.line, (unsigned long)a.start,
                (unsigned long)a.entries, (unsigned long)f.number);
         escape(form, f.length);

@@ -19,6 +19,8 @@ class RustLike:
         self.model = importlib.util.module_from_spec(spec)
         spec.loader.exec_module(self.model)
         self.rows, self.fired = frozenset(rows), set()
+        first = self.model.FIRST
+        self.form = first._replace(header=float('inf')) if 'size' in rows else first
         if rows:
             self.patch()
 
@@ -35,13 +37,11 @@ class RustLike:
         m.record, m.read_map = self.record, self.read_map
         m.file_format, m.breaks_reserved, m.meaning_of = self.file_format, self.breaks_reserved, self.meaning_of
         m.Machine.step = lambda machine, start, line: self.step(machine, start, line)
-        if 'size' in self.rows:
-            m.HEADER_LIMIT = float('inf')
 
     def exact(self, header, imposed):
         """(number, line, house form or None)."""
-        self.on('size', len(header) > 2**20 - 1)
-        machine, (number, line, _) = self.model.run(header, imposed, 2 * len(header) + 2)
+        self.on('size', len(header) > self.model.FIRST.header)
+        machine, (number, line, _) = self.model.run(header, imposed, 2 * len(header) + 2, self.form)
         return number, line, None if number else self.model.house_form(self.model.meaning_of(machine))
 
     def answer(self, header, imposed):
@@ -54,7 +54,7 @@ class RustLike:
         """UTF-8 is asked of the column line as a whole, otherwise piece by piece."""
         m = self.model
         m.require(machine.phase != 'Done', 1)
-        m.require(len(line) <= m.LINE_LIMIT or self.on('size'), 2)
+        m.require(len(line) <= machine.form.line or self.on('size'), 2)
         columns = machine.phase == 'Ready' and line.startswith(b'#CHROM')
         if not m.is_utf8(line) and (columns or not self.on('utf8')):
             raise m.Refused(3)

@@ -4,7 +4,7 @@ of forged ones. Asked are the version of the field calls, the table's words, the
 past the last), and the words forged (-: the word that reading left)."""
 import model
 import record
-from calls_table import identity, place
+from calls_table import entry_line, identity, part, place
 from pieces import COLS, EXAMPLE, F, FILTER_CASE, QUOTED_EXAMPLE, text, words
 
 LAST = 2**64 - 1
@@ -47,34 +47,6 @@ def steps_over(header, table):
     while part(model.entry, header, table, n):
         n += 1
     return n
-
-
-def entry_line(header, table, n, version, field):
-    id_ = part(model.entry_id, header, table, n)
-    fields = [part(model.entry_field, header, table, n, field, version)] if field is not None else all_fields(header, table, n, version)
-    bytes_ = header[id_[0]:id_[1]] if id_ else b''
-    return b'%d entry=%s id=%s %s fields: %s' % (n, said(part(model.entry, header, table, n)), said(id_), bytes_,
-                                                  b' '.join(said(f) for f in fields))
-
-
-def all_fields(header, table, n, version):
-    """Up to and with the first that is refused."""
-    fields = [part(model.entry_field, header, table, n, 0, version)]
-    while fields[-1]:
-        fields.append(part(model.entry_field, header, table, n, len(fields), version))
-    return fields
-
-
-def part(call, *arguments):
-    try:
-        return call(*arguments)
-    except model.Refused as refused:
-        assert refused.number == 29
-        return None
-
-
-def said(shown):
-    return b'%d-%d' % shown if shown else b'29'
 
 
 def as_read():

@@ -18,7 +18,7 @@ def size(digits):
 
 def contig(line, seen):
     """The contig of an @SQ line: the values of ID, length, md5, URL and IDX."""
-    model.require(len(line) <= model.LINE_LIMIT, 2)
+    model.require(len(line) <= model.FIRST.line, 2)
     model.require(model.is_utf8(line), 3)
     tags = line.split(b'\t')[1:]
     values = {tag[:2]: tag[3:] for tag in tags}

@@ -5,6 +5,7 @@ import random
 
 import dictionary_model
 import record
+import told
 from pieces import COLS
 
 random.seed(9)
@@ -17,12 +18,9 @@ def add(number, *lines, strings=ROOM, contigs=ROOM, room=ROOM, imposed=None, ver
     header = b''.join(line + b'\n' for line in (b'##fileformat=VCFv' + version.encode(), *lines, columns) if line is not None)
     answer = dictionary_model.dictionaries(header, imposed, room, strings, contigs)
     assert number in (None, answer.number), (number, answer, lines)
-    flat = lambda pairs: ''.join(f' {n:x}' for pair in pairs for n in pair)
     asked = f"dictionaries {'own' if imposed is None else 'VCFv%d.%d' % imposed} {room} {strings} {contigs}", record.escaped(header)
-    given = (f'{answer.number} line={answer.line} start={answer.start} entries={len(answer.entries)} strings={len(answer.strings)}'
-             f' contigs={len(answer.contigs)} changed={2 * len(answer.entries)} |{flat(answer.strings)} |{flat(answer.contigs)}')
     assert asked not in [case[1:3] for case in CASES], 'this is a case already'
-    CASES.append((f'{answer.number}-{len(CASES):03}', *asked, given.encode()))
+    CASES.append((f'{answer.number}-{len(CASES):03}', *asked, told.dictionaries(answer)))
 
 
 def line(key, name, idx=None, more=b''):

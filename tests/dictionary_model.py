@@ -37,9 +37,9 @@ def listed(found, given):
     return list(first.values())
 
 
-def dictionaries(header, imposed=None, room=model.TABLE, strings=0, contigs=0):
+def dictionaries(header, imposed=None, room=model.TABLE, strings=0, contigs=0, form=model.FIRST):
     """room, strings and contigs: the words of the table and of the slices."""
-    m, (number, line, start) = model.run(header, imposed, room)
+    m, (number, line, start) = model.run(header, imposed, room, form)
     refused = lambda n, l, s: Dictionaries(n, l, s, m.entries, [], [])
     if number:
         return refused(number, line, start)

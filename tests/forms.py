@@ -8,6 +8,7 @@ import random
 
 import model
 import record
+import told
 from pieces import COLS, EXAMPLE, F, GOOD, QUOTED_EXAMPLE, map_line, stretched, text, words
 
 random.seed(28)
@@ -274,17 +275,9 @@ def plain(text):
     return text.encode('ascii').decode('unicode_escape').encode('latin-1')
 
 
-def answer_lines(answer):
-    """What the program prints of a case: the answer, how far table and output were written, then the output (if it is long,
-    its last 64 bytes)."""
-    form = answer.form
-    first = f'{answer.number} line={answer.line} start={answer.start} entries={len(answer.entries)} length={len(form)} changed={2 * len(answer.entries)} written={len(form)}\n'
-    return first.encode() + (form if len(form) <= 2048 else form[-64:])
-
-
 for group in (one_form, many_forms, exchanges, refusals, limits, drawn, compared):
     group()
 assert model.house(QUOTED_EXAMPLE).form == EXAMPLE
-record.write('forms', [(name, words('form', imposed, room, output), record.stretched(header, length), answer_lines(answer))
+record.write('forms', [(name, words('form', imposed, room, output), record.stretched(header, length), told.house(answer))
                        for name, (header, imposed, room, output, length, answer) in CASES.items()])
 record.keep('vcfhouse', {'stdin': QUOTED_EXAMPLE, 'stdout': EXAMPLE})

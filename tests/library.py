@@ -4,6 +4,7 @@ boundary never have one value. Asked are c-read and c-form (the version imposed,
 (the version, the table's words, the entry, the field) and c-utf8."""
 import model
 import record
+import told
 from pieces import COLS, EXAMPLE, F, FILTER_CASE, stretched, text, words
 
 CASES = []
@@ -12,27 +13,29 @@ LETTERS = text(b'##fileformat=VCFv4.4', b'##FORMAT=<ID=x,Number=LA,Type=Float,De
 FIELDS = text(F, b'##b=text', b'##contig=<ID=one,length=5,URL=u>', b'##c=<K=1,L="2,3",ID="W07",M=4>', COLS + b'\tFORMAT\ts\tt')
 
 
-def read(name, header, imposed=None, room=24):
-    answer = model.read(header, imposed, room)
-    table = [b'%x' % word for pair in answer.entries for word in pair]
-    assert len(table) <= 24
-    told = b'%d line=%d start=%d entries=%d changed=%d' % (*answer[:3], len(answer.entries), len(table))
-    CASES.append(('read-' + name, words('c-read', imposed, room), record.escaped(header), b' '.join([told] + table)))
+def second(form):
+    """What an asked word ends in."""
+    return '2' if form is model.SECOND else ''
 
 
-def form(name, header, imposed=None, room=24, output=4096, length=None):
-    answer = model.house(stretched(header, length), imposed, room, output)
-    told = b'%d line=%d start=%d entries=%d length=%d changed=%d written=%d\n' % (
-        *answer[:3], len(answer.entries), len(answer.form), 2 * len(answer.entries), len(answer.form))
-    CASES.append(('form-' + name, words('c-form', imposed, room, output), record.stretched(header, length), told + answer.form))
+def read(name, header, imposed=None, room=24, form=model.FIRST):
+    answer = model.read(header, imposed, room, form)
+    came = ' '.join([told.place(answer)] + told.table(told.words_in(answer.entries))).encode()
+    CASES.append((f'read{second(form)}-{name}', words('c-read' + second(form), imposed, room), record.escaped(header), came))
 
 
-def show(name, header, entry, field, version=(4, 3), room=24):
-    table = [word for pair in model.read(header, None, room).entries for word in pair]
+def form(name, header, imposed=None, room=24, output=4096, length=None, form=model.FIRST):
+    answer = model.house(stretched(header, length), imposed, room, output, form)
+    asked = words('c-form' + second(form), imposed, room, output)
+    CASES.append((f'form{second(form)}-{name}', asked, record.stretched(header, length), told.house(answer)))
+
+
+def show(name, header, entry, field, version=(4, 3), room=24, form=model.FIRST):
+    table = told.words_in(model.read(header, None, room, form).entries)
     table += [7] * (room - len(table))
-    parts = [part(model.entry, header, table, entry), part(model.entry_id, header, table, entry),
-             part(model.entry_field, header, table, entry, field, version)]
-    CASES.append(('show-' + name, words('c-show', version, room, entry, field), record.escaped(header),
+    parts = [part(model.entry, header, table, entry, form), part(model.entry_id, header, table, entry, form),
+             part(model.entry_field, header, table, entry, field, version, form)]
+    CASES.append((f'show{second(form)}-{name}', words('c-show' + second(form), version, room, entry, field), record.escaped(header),
                   b'entry %s, id %s, field %s' % tuple(parts)))
 
 
@@ -62,6 +65,13 @@ form('line-too-long', long, length=len(long) + 65534 - max(map(len, long.split(b
 for entry in range(9):
     for field in range(5):
         show(f'{entry}-{field}', FIELDS, entry, field)
+for name, header in (('example', EXAMPLE), ('two-ids', FILTER_CASE), ('fields', FIELDS)):
+    for room in (24, 4):
+        read(f'{name}-{room}', header, room=room, form=model.SECOND)
+        form(f'{name}-{room}', header, room=room, form=model.SECOND)
+form('line-too-long', long, length=len(long) + 65534 - max(map(len, long.split(b'\n'))), output=2**20, form=model.SECOND)
+for entry in range(9):
+    show(f'{entry}-1', FIELDS, entry, 1, form=model.SECOND)
 for name, data in (('ascii', b'a'), ('none', b''), ('two-bytes', '\u00e9'.encode()), ('cut', b'\xc3'), ('overlong', b'\xc0\x80')):
     CASES.append(('utf8-' + name, 'c-utf8', record.escaped(data), b'%d' % model.is_utf8(data)))
 assert model.read(META, (4, 3)).number == 0 and model.read(META, (3, 4)).number == model.read(META).number == 9

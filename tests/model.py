@@ -7,8 +7,14 @@ from collections import namedtuple
 
 # Sizes
 
-HEADER_LIMIT, LINE_LIMIT = 2**20 - 1, 2**16 - 1
 BUFFER, TABLE = 65536, 8192
+
+# The forms of entries: the limits of a header and a line, the words of an entry, and how many bits each number of a word has. Document
+# 01's, and the second of document 02, §5.
+
+Form = namedtuple('Form', 'number header line words ones twos')
+FIRST = Form(1, 2**20 - 1, 2**16 - 1, 2, (4, 20, 16, 24), (16, 16, 1, 2, 29))
+SECOND = Form(2, 2**24 - 1, 2**24 - 1, 2, (4, 24, 24, 12), (24, 24, 1, 2, 13))
 
 # Kinds and their known fields, in the table's order; those in MISSING are required wherever they are known.
 
@@ -265,17 +271,17 @@ def lines(header):
 
 
 class Machine:
-    """What is known after some lines: the phase, the version in force, entries as pairs of words, and the records."""
+    """What is known after some lines: the phase, the version in force, entries as their words, and the records."""
 
-    def __init__(self, imposed, room):
-        self.imposed, self.room = imposed, room
+    def __init__(self, imposed, room, form):
+        self.imposed, self.room, self.form = imposed, room, form
         self.phase, self.version = 'Empty', None
         self.entries, self.records = [], []
         self.format_stood, self.samples = False, []
 
     def step(self, start, line):
         require(self.phase != 'Done', 1)
-        require(len(line) <= LINE_LIMIT, 2)
+        require(len(line) <= self.form.line, 2)
         require(is_utf8(line), 3)
         if self.phase == 'Ready' and line.startswith(b'#CHROM'):
             self.column_line(start, line)
@@ -287,7 +293,7 @@ class Machine:
         r = record(line, (4, 5) if first else self.version)
         require(first == (r.kind == FILEFORMAT), 4 if first else 5)
         require_distinct(r, self.records)
-        self.keep([(word_one(r.kind, start, len(line)), word_two(r))])
+        self.keep([record_entry(r, start, len(line))])
         if first:
             self.phase, self.version = 'Ready', self.imposed or r.version
         self.records.append(r)
@@ -297,16 +303,16 @@ class Machine:
         require(names[:8] == COLUMN_NAMES and names[8:9] in ([], [b'FORMAT']), 22)
         samples = names[9:]
         require(len(set(samples)) == len(samples), 23)
-        at, entries = start + len(b'\t'.join(names[:9])) + 1, [(word_one(COLUMNS, start, len(line)), 0)]
+        at, entries = start + len(b'\t'.join(names[:9])) + 1, [plain_entry(COLUMNS, start, len(line))]
         for name in samples:
-            entries.append((word_one(SAMPLE, at, len(name)), 0))
+            entries.append(plain_entry(SAMPLE, at, len(name)))
             at += len(name) + 1
         self.keep(entries)
         self.phase, self.format_stood, self.samples = 'Done', len(names) > 8, samples
 
     def keep(self, entries):
-        require(2 * (len(self.entries) + len(entries)) <= self.room, 24)
-        self.entries += entries
+        require(self.form.words * (len(self.entries) + len(entries)) <= self.room, 24)
+        self.entries += [words_of(self.form, e) for e in entries]
 
 
 def require_distinct(r, records):
@@ -320,23 +326,47 @@ def require_distinct(r, records):
 
 # Entries
 
-def word_one(kind, start, length):
-    return kind << 60 | start << 40 | length << 24
+Entry = namedtuple('Entry', 'kind start length offset id_length quoted tag')
 
 
-def word_two(r):
+def plain_entry(kind, start, length):
+    return Entry(kind, start, length, 0, 0, 0, 0)
+
+
+def record_entry(r, start, length):
     if not r.id:
-        return 0
-    return r.id.text_start << 48 | (r.id.text_end - r.id.text_start) << 32 | r.id.quoted << 31 | r.tag << 29
+        return plain_entry(r.kind, start, length)
+    return Entry(r.kind, start, length, r.id.text_start, r.id.text_end - r.id.text_start, int(r.id.quoted), r.tag)
+
+
+def packed(widths, numbers):
+    """A word of numbers side by side, most significant first."""
+    word = 0
+    for width, number in zip(widths, numbers):
+        word = word << width | number
+    return word
+
+
+def numbers_in(widths, word):
+    numbers = []
+    for width in reversed(widths):
+        numbers.insert(0, word % 2**width)
+        word >>= width
+    return numbers
+
+
+def words_of(form, e, zero_one=0, zero_two=0):
+    one = packed(form.ones, (e.kind, e.start, e.length, zero_one))
+    return one, packed(form.twos, (e.offset, e.id_length, e.quoted, e.tag, zero_two))
 
 
 Reading = namedtuple('Reading', 'number line start entries version samples')
 
 
-def run(header, imposed, room):
+def run(header, imposed, room, form=FIRST):
     """The machine after the header's lines, with the answer's number, line and start."""
-    m = Machine(imposed, room)
-    if len(header) > HEADER_LIMIT:
+    m = Machine(imposed, room, form)
+    if len(header) > form.header:
         return m, (27, 0, 0)
     count = 0
     for start, line in lines(header):
@@ -350,9 +380,9 @@ def run(header, imposed, room):
     return m, (0 if m.phase == 'Done' else 26, count, len(header))
 
 
-def read(header, imposed=None, room=TABLE):
+def read(header, imposed=None, room=TABLE, form=FIRST):
     """room: the table's words. Version and samples are those of the answer of an accepted header, else None and 0."""
-    m, (number, line, start) = run(header, imposed, room)
+    m, (number, line, start) = run(header, imposed, room, form)
     version, samples = (None, 0) if number else (m.version, len(m.samples))
     return Reading(number, line, start, m.entries, version, samples)
 
@@ -367,36 +397,39 @@ def report(header):
     return b'ok version=%d.%d entries=%d samples=%d' % (*r.version, len(r.entries), r.samples)
 
 
-Entry = namedtuple('Entry', 'kind start length offset id_length quoted tag')
+def held(form, table, n):
+    """Entry n of a table of words, and the bits that no number has; Refused if it does not lie in the table."""
+    require(form.words * (n + 1) <= len(table), 29)
+    kind, start, length, zero_one = numbers_in(form.ones, table[form.words * n])
+    offset, id_length, quoted, tag, zero_two = numbers_in(form.twos, table[form.words * n + 1])
+    return Entry(kind, start, length, offset, id_length, quoted, tag), (zero_one, zero_two)
 
 
-def well_formed(header, table, n):
-    """The parts of entry n of a table of words, or Refused."""
-    require(2 * n + 1 < len(table), 29)
-    one, two = table[2 * n], table[2 * n + 1]
-    e = Entry(one >> 60, one >> 40 & 0xFFFFF, one >> 24 & 0xFFFF, two >> 48, two >> 32 & 0xFFFF, two >> 31 & 1, two >> 29 & 3)
+def well_formed(header, table, n, form=FIRST):
+    """Entry n of a table of words, or Refused."""
+    e, zeros = held(form, table, n)
     require(FILEFORMAT <= e.kind <= SAMPLE, 29)
-    require(one % 2**24 == 0 and two % 2**29 == 0, 29)
+    require(not any(zeros), 29)
     require(e.tag <= (2 if e.kind == OTHER_MAP else 0), 29)
-    require(two == 0 or e.kind in KNOWN, 29)
+    require(e.kind in KNOWN or (e.offset, e.id_length, e.quoted, e.tag) == (0, 0, 0, 0), 29)
     require(e.start + e.length <= len(header) and e.offset + e.id_length <= e.length, 29)
     return e
 
 
-def entry(header, table, n):
-    e = well_formed(header, table, n)
+def entry(header, table, n, form=FIRST):
+    e = well_formed(header, table, n, form)
     return e.start, e.start + e.length
 
 
-def entry_id(header, table, n):
-    e = well_formed(header, table, n)
+def entry_id(header, table, n, form=FIRST):
+    e = well_formed(header, table, n, form)
     require(e.kind in KNOWN, 29)
     return e.start + e.offset, e.start + e.offset + e.id_length
 
 
-def entry_field(header, table, n, index, version):
+def entry_field(header, table, n, index, version, form=FIRST):
     """Field number `index` of entry n, whose line is read again under the version."""
-    e = well_formed(header, table, n)
+    e = well_formed(header, table, n, form)
     require(e.kind in KNOWN, 29)
     line = header[e.start:e.start + e.length]
     require(is_utf8(line), 29)
@@ -419,8 +452,8 @@ def is_odd(kind, f, version):
     return f.key in NUMBERS and f.key in KNOWN[kind] and u64(f.value) is not None and not PLAIN.fullmatch(f.value)
 
 
-def odd_entry(header, table, n, version):
-    e = well_formed(header, table, n)
+def odd_entry(header, table, n, version, form):
+    e = well_formed(header, table, n, form)
     if e.kind not in KNOWN:
         return False
     line = header[e.start:e.start + e.length]
@@ -433,9 +466,9 @@ def odd_entry(header, table, n, version):
     return any(is_odd(r.kind, f, version) for f in r.fields)
 
 
-def odd_entries(header, table, version, room):
+def odd_entries(header, table, version, room, form=FIRST):
     """The numbers of the entries that carry an oddly spelled number."""
-    odd = [n for n in range(len(table) // 2) if odd_entry(header, table, n, version)]
+    odd = [n for n in range(len(table) // form.words) if odd_entry(header, table, n, version, form)]
     require(len(odd) <= room, 31)
     return odd
 
@@ -445,9 +478,9 @@ def odd_entries(header, table, version, room):
 Meaning = namedtuple('Meaning', 'version groups format_stood samples')
 
 
-def meaning(header, imposed=None):
+def meaning(header, imposed=None, form=FIRST):
     """Of an accepted header, whatever the table; None of a refused one."""
-    m, answer = run(header, imposed, 2 * len(header) + 2)
+    m, answer = run(header, imposed, form.words * (len(header) + 1), form)
     return None if answer[0] else meaning_of(m)
 
 
@@ -495,25 +528,38 @@ def house_form(means):
 House = namedtuple('House', 'number line start entries form')
 
 
-def house(header, imposed=None, room=TABLE, output=HEADER_LIMIT):
-    """output: the bytes of the output. The form is empty if refused."""
-    m, (number, line, start) = run(header, imposed, room)
-    form = b''
+def house(header, imposed=None, room=TABLE, output=FIRST.header, form=FIRST):
+    """output: the bytes of the output. The house form is empty if refused."""
+    m, (number, line, start) = run(header, imposed, room, form)
+    written = b''
     if number == 0:
-        form = house_form(meaning_of(m))
-        number, at_line, at = form_refusal(form, output)
+        written = house_form(meaning_of(m))
+        number, at_line, at = form_refusal(written, output, form)
         if number:
-            line, start, form = at_line, at, b''
-    return House(number, line, start, m.entries, form)
+            line, start, written = at_line, at, b''
+    return House(number, line, start, m.entries, written)
 
 
-def form_refusal(form, output):
-    if len(form) > HEADER_LIMIT:
+def form_refusal(written, output, form):
+    if len(written) > form.header:
         return 27, 0, 0
-    for count, (start, line) in enumerate(lines(form), 1):
-        if len(line) > LINE_LIMIT:
+    for count, (start, line) in enumerate(lines(written), 1):
+        if len(line) > form.line:
             return 2, count, start
-    return (28 if len(form) > output else 0), 0, 0
+    return (28 if len(written) > output else 0), 0, 0
+
+
+# Document 02, §5: entries turned from one form into the other
+
+def turn(header, table, target, source, to):
+    """How many entries of a table were turned, and the target's words after it; Refused, and then they stay."""
+    entries = [well_formed(header, table, n, source) for n in range(len(table) // source.words)]
+    for e in entries:
+        fits = e.start <= to.header and max(e.length, e.offset, e.id_length) <= to.line
+        require(fits, 32)
+    require(to.words * len(entries) <= len(target), 24)
+    words = [word for e in entries for word in words_of(to, e)]
+    return len(entries), words + target[len(words):]
 
 
 # Document 02, §11: the cell register
@@ -531,9 +577,9 @@ def hundredths(k):
     return n if spelled and 50 <= n <= 200 else None
 
 
-def register(header, imposed=None, room=TABLE):
+def register(header, imposed=None, room=TABLE, form=FIRST):
     """The forty constants in well order, or none; line and start are 0 where document 02 gives no place."""
-    m, (number, line, start) = run(header, imposed, room)
+    m, (number, line, start) = run(header, imposed, room, form)
     if number:
         return Register(number, line, start, m.entries, ())
     if m.version < (4, 3):

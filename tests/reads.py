@@ -5,6 +5,7 @@ import random
 
 import model
 import record
+import told
 from pieces import COLS, EXAMPLE, F, FILTER_CASE, GOOD, QUOTED_EXAMPLE, map_line, stretched, text, words
 
 random.seed(83)
@@ -555,17 +556,6 @@ def drawn():
             random.choice([ROOM, 20, 20, 5]))
 
 
-def answer_line(answer):
-    """What the program prints of a case: the answer, how many of its table's words changed, the first 24 of those, and
-    the last two if there are more."""
-    table = [f'{word:x}' for pair in answer.entries for word in pair]
-    few = table[:24] + (['..'] + table[-2:] if len(table) > 24 else [])
-    shown = f'{answer.number} line={answer.line} start={answer.start} entries={len(answer.entries)}'
-    if answer.number == 0:
-        shown += f' version={answer.version[0]}.{answer.version[1]} samples={answer.samples}'
-    return ' '.join([shown, f'changed={len(table)}'] + few).encode()
-
-
 def check_document():
     """What document 01 says of its own cases, beside their numbers."""
     assert len(EXAMPLE) == 83
@@ -622,6 +612,6 @@ for group in (documented, line_endings, first_lines, fileformats, unicode_lines,
     group()
 check_document()
 check_entry_calls()
-record.write('reads', [(name, words('read', imposed, room), record.stretched(header, length), answer_line(answer))
+record.write('reads', [(name, words('read', imposed, room), record.stretched(header, length), told.reading(answer))
                        for name, (header, imposed, room, length, answer) in CASES.items()])
 record.keep('vcfhead', {'stdin': EXAMPLE, 'stdout': model.report(EXAMPLE) + b'\n'})

@@ -1,6 +1,7 @@
 """Writes recorded cases: crates/cases/data/NAME has a line for each, of its name, what is asked, the input and what must come,
 parted by tabs and escaped. With --check it writes nothing, and fails if a file isn't what it would have written."""
 import os
+import re
 import sys
 
 CRATES = os.path.join(os.path.dirname(os.path.abspath(__file__)), '..', 'crates')
@@ -15,6 +16,31 @@ def escaped(data):
 def stretched(data, length):
     """The escaped input: `\\+N;` stands for the 512 bytes before it, over and over, N bytes of them."""
     return escaped(data) if length is None else f'{escaped(data[:1024])}\\+{length - len(data)};{escaped(data[1024:])}'
+
+
+def unescaped(text):
+    """The input that an escaped text stands for."""
+    data = bytearray()
+    for part in re.findall(r'\\x..|\\\+\d+;|\\.|[^\\]+', text):
+        if part.startswith('\\x'):
+            data.append(int(part[2:], 16))
+        elif part.startswith('\\+'):
+            again = data[-512:]
+            more = int(part[2:-1])
+            data += (again * (more // 512 + 1))[:more]
+        elif part.startswith('\\'):
+            data += {'\\\\': b'\\', '\\n': b'\n', '\\r': b'\r', '\\t': b'\t'}[part]
+        else:
+            data += part.encode('ascii')
+    return bytes(data)
+
+
+def recorded(name):
+    """The cases of a file: name, the words of what is asked, and the escaped input."""
+    with open(os.path.join(CASES, 'data', name), encoding='ascii') as f:
+        for line in f:
+            case, asked, given, _ = line.rstrip('\n').split('\t')
+            yield case, asked.split(' '), given
 
 
 def write(name, cases):

@@ -5,6 +5,7 @@ import random
 
 import model
 import record
+import told
 from pieces import COLS, F, text
 
 random.seed(11)
@@ -131,9 +132,7 @@ assert F == b'##fileformat=VCFv4.3'
 
 def case(number, imposed, room, header, answer):
     asked = 'own' if imposed is None else 'VCFv%d.%d' % imposed
-    came = '%d line=%d start=%d entries=%d' % (answer.number, answer.line, answer.start, len(answer.entries))
-    came += ''.join(f' {constant}' for constant in answer.constants) + f' changed={2 * len(answer.entries)}'
-    return f'{answer.number}-{number:03}', f'register {asked} {room}', record.escaped(header), came.encode()
+    return f'{answer.number}-{number:03}', f'register {asked} {room}', record.escaped(header), told.register(answer)
 
 
 assert len(CASES) >= 120

@@ -4,10 +4,11 @@
 #include "vcfh.h"
 
 #define COLUMNS "#CHROM\tPOS\tID\tREF\tALT\tQUAL\tFILTER\tINFO"
+#define PLAIN "##fileformat=VCFv4.3\n##cell=<ID=W07,K=0.98>\n" COLUMNS "\n"
 #define WORDS 24
 
 static uint64_t table[WORDS];
-static uint8_t form[4096];
+static uint8_t out[4096];
 static unsigned passed, failed;
 
 static void same(const char *what, uint64_t got, uint64_t wanted) {
@@ -19,11 +20,15 @@ static void same(const char *what, uint64_t got, uint64_t wanted) {
 static const uint8_t *bytes(const char *text) { return (const uint8_t *)text; }
 
 static vcfh_answer read_by(const char *header, uint64_t imposed, uint32_t major, uint32_t minor) {
-    return vcfh_read(bytes(header), strlen(header), imposed, major, minor, table, WORDS);
+    return vcfh_read(bytes(header), strlen(header), imposed, major, minor, VCFH_FIRST, table, WORDS);
+}
+
+static vcfh_answer read_in(const char *header, uint64_t form) {
+    return vcfh_read(bytes(header), strlen(header), 0, 0, 0, form, table, WORDS);
 }
 
 static vcfh_form house_by(const char *header, uint64_t imposed, uint32_t major, uint32_t minor, size_t space) {
-    return vcfh_house(bytes(header), strlen(header), imposed, major, minor, table, WORDS, form, space);
+    return vcfh_house(bytes(header), strlen(header), imposed, major, minor, VCFH_FIRST, table, WORDS, out, space);
 }
 
 /* From 4.3 on a META's Values may stand in brackets with a comma. */
@@ -40,7 +45,7 @@ static void versions(void) {
 /* Two entries are kept, and line 3 is refused, which begins at byte 51. */
 static void places(void) {
     const char *twice = "##fileformat=VCFv4.3\n##FILTER=<ID=q,Description=x>\n##FILTER=<ID=\"q\",Description=x>\n";
-    vcfh_answer a = read_by(twice, 0, 0, 0);
+    vcfh_answer a = read_in(twice, VCFH_FIRST);
     same("number", a.number, 19), same("line", a.line, 3), same("start", a.start, 51), same("entries", a.entries, 2);
     vcfh_form f = house_by(twice, 0, 0, 0, 4096);
     same("the form's number", f.number, 19), same("the form's line", f.line, 3), same("the form's start", f.start, 51);
@@ -50,54 +55,132 @@ static void places(void) {
 /* A header of three lines and 87 bytes with a form of 83, and too small an output. */
 static void forms(void) {
     const char *quoted = "##fileformat=VCFv4.3\n##cell=<K=\"0.98\",ID=\"W07\">\n" COLUMNS "\n";
-    const char *plain = "##fileformat=VCFv4.3\n##cell=<ID=W07,K=0.98>\n" COLUMNS "\n";
     vcfh_form f = house_by(quoted, 0, 0, 0, 4096);
     same("accepted", f.number, 0), same("lines", f.line, 3), same("bytes", f.start, 87), same("all entries", f.entries, 3);
-    same("form's bytes", f.length, 83), same("the form", memcmp(form, plain, 83) == 0, 1);
+    same("form's bytes", f.length, 83), same("the form", memcmp(out, PLAIN, 83) == 0, 1);
     same("no room", house_by(quoted, 0, 0, 0, 82).number, 28);
 }
 
-/* Entry 2 has three fields, entry 1 none: exchanged, entry and field show something else. */
-static void parts(void) {
+/* Entry 2 has three fields, entry 1 none: exchanged, entry and field show something else. In the other form no entry is well formed. */
+static void parts(uint64_t form, uint64_t other) {
     const char *header = "##fileformat=VCFv4.3\n##b=text\n##c=<K=1,L=\"2,3\",ID=\"W07\">\n" COLUMNS "\n";
+    const uint8_t *h = bytes(header);
     size_t length = strlen(header);
-    read_by(header, 0, 0, 0);
-    vcfh_part entry = vcfh_entry(bytes(header), length, table, WORDS, 2), id = vcfh_id(bytes(header), length, table, WORDS, 2);
+    read_in(header, form);
+    vcfh_part entry = vcfh_entry(h, length, table, WORDS, form, 2), id = vcfh_id(h, length, table, WORDS, form, 2);
     same("entry's number", entry.number, 0), same("entry's start", entry.start, 30), same("entry's length", entry.length, 26);
     same("ID's number", id.number, 0), same("ID's start", id.start, 51), same("ID's length", id.length, 3);
-    vcfh_part field = vcfh_field(bytes(header), length, table, WORDS, 2, 4, 3, 1);
+    vcfh_part field = vcfh_field(h, length, table, WORDS, form, 2, 4, 3, 1);
     same("field's number", field.number, 0), same("field's start", field.start, 39), same("field's length", field.length, 7);
-    same("field 2 of entry 1", vcfh_field(bytes(header), length, table, WORDS, 1, 4, 3, 2).number, 29);
-    same("by 3.4 a text", vcfh_field(bytes(header), length, table, WORDS, 2, 3, 4, 1).number, 29);
+    same("field 2 of entry 1", vcfh_field(h, length, table, WORDS, form, 1, 4, 3, 2).number, 29);
+    same("by 3.4 a text", vcfh_field(h, length, table, WORDS, form, 2, 3, 4, 1).number, 29);
+    same("entry in the other form", vcfh_entry(h, length, table, WORDS, other, 2).number, 29);
+    same("ID in the other form", vcfh_id(h, length, table, WORDS, other, 2).number, 29);
+    same("field in the other form", vcfh_field(h, length, table, WORDS, other, 2, 4, 3, 1).number, 29);
 }
 
 /* Major and minor exchanged, the first line is a text under 3.4, so that 29 comes; the list is one word too short, and its last word stays. */
-static void odd(void) {
+static void odd(uint64_t form, uint64_t other) {
     const char *header = "##fileformat=VCFv4.3\n##c=<L=1,ID=x>\n##contig=<ID=a,length=007>\n##contig=<ID=b,IDX=+5>\n" COLUMNS "\n";
+    const uint8_t *h = bytes(header);
     size_t length = strlen(header);
     uint64_t list[3] = {7, 7, 7};
-    size_t words = 2 * read_by(header, 0, 0, 0).entries;
-    vcfh_listed found = vcfh_odd(bytes(header), length, table, words, 4, 3, list, 3);
+    size_t words = 2 * read_in(header, form).entries;
+    vcfh_listed found = vcfh_odd(h, length, table, words, form, 4, 3, list, 3);
     same("listed", found.number, 0), same("how many", found.listed, 2);
     same("first", list[0], 2), same("second", list[1], 3), same("third", list[2], 7);
-    same("a list too short", vcfh_odd(bytes(header), length, table, words, 4, 3, list, 1).number, 31);
-    same("not as the entry says", vcfh_odd(bytes(header), length, table, words, 3, 4, list, 3).number, 29);
+    same("a list too short", vcfh_odd(h, length, table, words, form, 4, 3, list, 1).number, 31);
+    same("not as the entry says", vcfh_odd(h, length, table, words, form, 3, 4, list, 3).number, 29);
+    same("list in the other form", vcfh_odd(h, length, table, words, other, 4, 3, list, 3).number, 29);
 }
 
 /* Two contigs of four lines and 56 bytes; then too small an output, and a name that stands twice. */
 static void contigs(void) {
     const char *sam = "@HD\tVN:1.6\n@SQ\tSN:a,b\tLN:07\n@CO\n@SQ\tUR:u\tLN:2\tM5:m\tSN:c\n@SQ\tSN:c\tLN:1\n";
     const char *lines = "##contig=<ID=\"a,b\",length=7>\n##contig=<ID=c,length=2,md5=m,URL=u>\n";
-    vcfh_contig_lines c = vcfh_contigs(bytes(sam), 56, form, 4096);
+    vcfh_contig_lines c = vcfh_contigs(bytes(sam), 56, out, 4096);
     same("read", c.number, 0), same("SAM lines", c.line, 4), same("SAM bytes", c.start, 56), same("contigs", c.contigs, 2);
-    same("contig bytes", c.length, strlen(lines)), same("the lines", memcmp(form, lines, strlen(lines)) == 0, 1);
-    c = vcfh_contigs(bytes(sam), strlen(sam), form, 4096);
+    same("contig bytes", c.length, strlen(lines)), same("the lines", memcmp(out, lines, strlen(lines)) == 0, 1);
+    c = vcfh_contigs(bytes(sam), strlen(sam), out, 4096);
     same("twice", c.number, 43), same("its line", c.line, 5), same("its start", c.start, 56), same("none", c.contigs, 0), same("nothing", c.length, 0);
-    same("no room for lines", vcfh_contigs(bytes(sam), 56, form, strlen(lines) - 1).number, 28);
+    same("no room for lines", vcfh_contigs(bytes(sam), 56, out, strlen(lines) - 1).number, 28);
+}
+
+/* The entries of PLAIN in each form. */
+static const uint64_t firsts[] = {0x1000000014000000, 0, 0x7000150016000000, 0x000B000300000000, 0x90002C0026000000, 0};
+static const uint64_t seconds[] = {0x1000000000014000, 0, 0x7000015000016000, 0x00000B0000030000, 0x900002C000026000, 0};
+
+static void same_words(const char *what, const uint64_t *got, const uint64_t *wanted, size_t count) {
+    for (size_t i = 0; i < count; i++) same(what, got[i], wanted[i]);
+}
+
+static void stored(const char *what, uint64_t form, const uint64_t *wanted) {
+    same(what, read_in(PLAIN, form).entries, 3), same_words(what, table, wanted, 6);
+}
+
+typedef vcfh_turned turn(const uint8_t *header, size_t length, const uint64_t *from, size_t from_words, uint64_t *to, size_t to_words);
+
+/* What is turned stands in `to`, which has a seventh word that stays; where the call is refused all seven stay. */
+static void turned(const char *what, turn *call, const uint64_t *from, size_t to_words, uint64_t number, const uint64_t *wanted) {
+    uint64_t to[] = {7, 7, 7, 7, 7, 7, 7};
+    vcfh_turned t = call(bytes(PLAIN), strlen(PLAIN), from, 6, to, to_words);
+    same(what, t.number, number), same(what, t.entries, number ? 0 : 3), same_words(what, to, wanted, 6), same(what, to[6], 7);
+}
+
+/* Both ways; then with a destination one word short, and with a fileformat entry that has an ID. */
+static void turning(void) {
+    const uint64_t stays[] = {7, 7, 7, 7, 7, 7};
+    uint64_t bad[6];
+    turned("to second", vcfh_to_second, firsts, 7, 0, seconds), turned("to first", vcfh_to_first, seconds, 7, 0, firsts);
+    turned("second too short", vcfh_to_second, firsts, 5, 24, stays), turned("first too short", vcfh_to_first, seconds, 5, 24, stays);
+    memcpy(bad, firsts, sizeof bad), bad[1] = firsts[3];
+    turned("bad first entry", vcfh_to_second, bad, 5, 29, stays);
+    memcpy(bad, seconds, sizeof bad), bad[1] = seconds[3];
+    turned("bad second entry", vcfh_to_first, bad, 5, 29, stays);
+}
+
+static uint8_t large[0x100001];
+
+/* One text entry of the second form, turned to the first in a header of 2^20 + 1 bytes. */
+static void fitting(const char *what, uint64_t word, uint64_t number, uint64_t wanted) {
+    uint64_t from[] = {word, 0}, to[] = {7, 7};
+    same(what, vcfh_to_first(large, sizeof large, from, 2, to, 2).number, number), same(what, to[0], wanted);
+}
+
+/* Starts end at 2^20 - 1 in the first form, and lengths at 2^16 - 1. */
+static void fits(void) {
+    fitting("last start", 0x80FFFFF000001000, 0, 0x8FFFFF0001000000), fitting("start too large", 0x8100000000001000, 32, 7);
+    fitting("last length", 0x800000000FFFF000, 0, 0x800000FFFF000000), fitting("length too large", 0x8000000010000000, 32, 7);
+}
+
+/* A line of 65,536 bytes between the fileformat line and the column line; returns the header's length. */
+static size_t put_long_line(void) {
+    const char *head = "##fileformat=VCFv4.3\n##a=", *tail = "\n" COLUMNS;
+    memset(large, 'x', 21 + 65536);
+    memcpy(large, head, strlen(head)), memcpy(large + 21 + 65536, tail, strlen(tail));
+    return 21 + 65536 + strlen(tail);
+}
+
+/* Every call that reads refuses it in the first form. In the second the output is too small for the house form, and wells are missing. */
+static void long_line(uint64_t form, uint64_t number, uint64_t entries, uint64_t house, uint64_t cells) {
+    size_t length = put_long_line();
+    uint64_t strings[2], names[2];
+    vcfh_answer a = vcfh_read(large, length, 0, 0, 0, form, table, WORDS);
+    same("long line", a.number, number), same("long line's entries", a.entries, entries);
+    same("long line's length", vcfh_entry(large, length, table, 2 * entries, form, 1).length, number ? 0 : 65536);
+    same("long line's house form", vcfh_house(large, length, 0, 0, 0, form, table, WORDS, out, 4096).number, house);
+    same("long line's cells", vcfh_register(large, length, 0, 0, 0, form, table, WORDS).number, cells);
+    same("long line's names", vcfh_dictionaries(large, length, 0, 0, 0, form, table, WORDS, strings, 2, names, 2).number, number);
 }
 
 int main(void) {
-    versions(), places(), forms(), parts(), odd(), contigs();
+    versions(), places(), forms(), contigs();
+    parts(VCFH_FIRST, VCFH_SECOND), parts(VCFH_SECOND, VCFH_FIRST), parts(0, VCFH_SECOND), parts(3, VCFH_SECOND);
+    odd(VCFH_FIRST, VCFH_SECOND), odd(VCFH_SECOND, VCFH_FIRST), odd(0, VCFH_SECOND), odd(3, VCFH_SECOND);
+    stored("first form", VCFH_FIRST, firsts), stored("second form", VCFH_SECOND, seconds);
+    stored("form 0", 0, firsts), stored("form 3", 3, firsts), stored("form 2^32 + 2", 0x100000002, firsts);
+    turning(), fits();
+    long_line(VCFH_FIRST, 2, 1, 2, 2), long_line(VCFH_SECOND, 0, 3, 28, 39);
     same("UTF-8", vcfh_utf8(bytes("\xc3\xa9"), 2), 1);
     same("no UTF-8", vcfh_utf8(bytes("\xc3\xa9"), 1), 0);
     printf("%u passed, %u failed\n", passed, failed);

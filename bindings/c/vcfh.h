@@ -9,11 +9,16 @@
 extern "C" {
 #endif
 
+/* The two forms in which a table's entries can be stored. In the first a header has at most 1,048,575 bytes and a line 65,535, in the
+   second both have at most 16,777,215. Name one form when a table is read and whenever it is used; any number but 2 counts as 1. */
+#define VCFH_FIRST 1
+#define VCFH_SECOND 2
+
 /* number: 0 if accepted, else why not (vcfh_words says it in words). line: from 1. start: of the line, in bytes.
    Of an accepted header, line and start are the number of lines and of bytes. entries: how many the table holds. */
 typedef struct { uint64_t number, line, start, entries; } vcfh_answer;
 
-/* The same, and the length of the form, 0 if refused. */
+/* The same, and the length of the house form, 0 if refused. */
 typedef struct { uint64_t number, line, start, entries, length; } vcfh_form;
 
 /* The same as an answer, and the constants of the wells W01 to W40 in whole hundredths, all 0 if refused. */
@@ -37,16 +42,16 @@ uint64_t vcfh_utf8(const uint8_t *bytes, size_t length);
 /* Reads a header into the table, two words for each entry; each line and each tab of the header gives one entry at most.
    imposed: 0, or else major and minor are the version by which the header is read, whatever its first line says. */
 vcfh_answer vcfh_read(const uint8_t *header, size_t length, uint64_t imposed, uint32_t major, uint32_t minor,
-                      uint64_t *table, size_t words);
+                      uint64_t form, uint64_t *table, size_t words);
 
 /* Reads a header so and writes its house form, the one form of all headers with the same meaning; nothing is written if it is
-   refused. An output of 1,048,575 bytes is never too small. */
+   refused. Twice the header's bytes are never too small an output. */
 vcfh_form vcfh_house(const uint8_t *header, size_t length, uint64_t imposed, uint32_t major, uint32_t minor,
-                     uint64_t *table, size_t words, uint8_t *out, size_t space);
+                     uint64_t form, uint64_t *table, size_t words, uint8_t *out, size_t space);
 
 /* Reads a header so, and its cell register: each of the wells W01 to W40 has one cell line, whose K is its constant. */
 vcfh_cells vcfh_register(const uint8_t *header, size_t length, uint64_t imposed, uint32_t major, uint32_t minor,
-                         uint64_t *table, size_t words);
+                         uint64_t form, uint64_t *table, size_t words);
 
 /* The wells in which the constants of two registers differ. */
 vcfh_differences vcfh_compare(vcfh_cells old_ones, vcfh_cells new_ones);
@@ -55,7 +60,7 @@ vcfh_differences vcfh_compare(vcfh_cells old_ones, vcfh_cells new_ones);
    entry at which an ID first stands, and the ID's number; PASS is 0 and, where it is not written, not listed. Nothing is written to
    strings and contigs if it is refused. Two words for each line are never too few. */
 vcfh_numbers vcfh_dictionaries(const uint8_t *header, size_t length, uint64_t imposed, uint32_t major, uint32_t minor,
-                               uint64_t *table, size_t words, uint64_t *strings, size_t string_words,
+                               uint64_t form, uint64_t *table, size_t words, uint64_t *strings, size_t string_words,
                                uint64_t *contigs, size_t contig_words);
 
 /* Writes a contig line in house form, with ID, length, md5 and URL, for each @SQ line of the header of an alignment file, in file order;
@@ -63,12 +68,12 @@ vcfh_numbers vcfh_dictionaries(const uint8_t *header, size_t length, uint64_t im
 vcfh_contig_lines vcfh_contigs(const uint8_t *sam, size_t length, uint8_t *out, size_t space);
 
 /* The line of an entry, from 0, or a sample's name; its ID, without quotes. */
-vcfh_part vcfh_entry(const uint8_t *header, size_t length, const uint64_t *table, size_t words, uint64_t entry);
-vcfh_part vcfh_id(const uint8_t *header, size_t length, const uint64_t *table, size_t words, uint64_t entry);
+vcfh_part vcfh_entry(const uint8_t *header, size_t length, const uint64_t *table, size_t words, uint64_t form, uint64_t entry);
+vcfh_part vcfh_id(const uint8_t *header, size_t length, const uint64_t *table, size_t words, uint64_t form, uint64_t entry);
 
 /* A field of an entry, from 0, key through value with its quotes, by the version given. */
-vcfh_part vcfh_field(const uint8_t *header, size_t length, const uint64_t *table, size_t words, uint64_t entry,
-                     uint32_t major, uint32_t minor, uint64_t field);
+vcfh_part vcfh_field(const uint8_t *header, size_t length, const uint64_t *table, size_t words, uint64_t form,
+                     uint64_t entry, uint32_t major, uint32_t minor, uint64_t field);
 
 /* number: 0, 29 where an entry is not well formed or its line, read alone, is not what the entry says, 31 where the list is too short.
    listed: how many entries were listed, 0 if refused. */
@@ -76,10 +81,23 @@ typedef struct { uint64_t number, listed; } vcfh_listed;
 
 /* The numbers of the entries that carry a Number, IDX or length with a sign or a leading zero, such as +5 or 007, in table order, by the
    version given. Nothing is written if it is refused; one word for each entry is never too few. */
-vcfh_listed vcfh_odd(const uint8_t *header, size_t length, const uint64_t *table, size_t words, uint32_t major, uint32_t minor,
-                     uint64_t *list, size_t list_words);
+vcfh_listed vcfh_odd(const uint8_t *header, size_t length, const uint64_t *table, size_t words, uint64_t form,
+                     uint32_t major, uint32_t minor, uint64_t *list, size_t list_words);
 
-/* 1 fileformat, 2 INFO, 3 FILTER, 4 FORMAT, 5 ALT, 6 contig, 7 other map, 8 other text, 9 column line, 10 sample. */
+/* number: 0, 29 where an entry is not well formed in this header, 32 where one does not fit the first form, 24 where the table that is
+   written has no room. entries: how many were turned, 0 if refused. */
+typedef struct { uint64_t number, entries; } vcfh_turned;
+
+/* Turn a table of one form into one of the other. Every entry of the table that is read is turned, so give it as two words for each
+   entry that it holds. An entry fits the first form if its start is below 1,048,576 and its length below 65,536. Both tables stay as
+   they were if it is refused. */
+vcfh_turned vcfh_to_second(const uint8_t *header, size_t length, const uint64_t *first, size_t first_words,
+                           uint64_t *second, size_t second_words);
+vcfh_turned vcfh_to_first(const uint8_t *header, size_t length, const uint64_t *second, size_t second_words,
+                          uint64_t *first, size_t first_words);
+
+/* 1 fileformat, 2 INFO, 3 FILTER, 4 FORMAT, 5 ALT, 6 contig, 7 other map, 8 other text, 9 column line, 10 sample. Both forms have the
+   kind in the same place. */
 static inline unsigned vcfh_kind(const uint64_t *table, uint64_t entry) { return (unsigned)(table[2 * entry] >> 60); }
 
 static inline const char *vcfh_words(uint64_t number) {

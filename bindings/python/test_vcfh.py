@@ -5,12 +5,27 @@ import vcfh
 
 COLUMNS = b"#CHROM\tPOS\tID\tREF\tALT\tQUAL\tFILTER\tINFO"
 PROBE = b"##fileformat=VCFv4.3\n##cell=<ID=W07,K=0.98>\n" + COLUMNS + b"\n"
+TWICE = b'##fileformat=VCFv4.3\n##FILTER=<ID=q,Description=x>\n##FILTER=<ID="q",Description=x>\n'
 
 
 def plate(constant):
     """A probe header whose well w has the constant that the function gives for w."""
     cells = b"".join(b"##cell=<ID=W%02d,K=%s>\n" % (w, constant(w)) for w in range(1, 41))
     return b"##fileformat=VCFv4.3\n" + cells + COLUMNS + b"\n"
+
+
+def long_line(length):
+    """The probe header with a text line of so many bytes before the column line."""
+    return PROBE.replace(COLUMNS, b"##a=".ljust(length, b"x") + b"\n" + COLUMNS)
+
+
+def refused(call, *arguments, **named):
+    """The refusal that a call raises."""
+    try:
+        call(*arguments, **named)
+    except vcfh.Refused as refusal:
+        return refusal
+    raise AssertionError("not refused")
 
 
 class Cells(unittest.TestCase):
@@ -32,17 +47,11 @@ class Cells(unittest.TestCase):
             (PROBE, 39, 0),
             (header.replace(b"W07,K=1.00", b"W07,K=2.01"), 40, 8),
         ):
-            with self.assertRaises(vcfh.Refused) as caught:
-                vcfh.Register(data)
-            self.assertEqual((caught.exception.number, caught.exception.line), (number, line))
+            refusal = refused(vcfh.Register, data)
+            self.assertEqual((refusal.number, refusal.line), (number, line))
 
 
 class Reading(unittest.TestCase):
-    def refused(self, data, version=None):
-        with self.assertRaises(vcfh.Refused) as caught:
-            vcfh.Header(data, version)
-        return caught.exception
-
     def test_the_probe_header_has_three_entries(self):
         header = vcfh.Header(PROBE)
         self.assertEqual([entry.kind for entry in header], ["fileformat", "other map", "columns"])
@@ -60,15 +69,13 @@ class Reading(unittest.TestCase):
 
     def test_headers_of_one_meaning_have_one_house_form(self):
         self.assertEqual(vcfh.house_form(PROBE.replace(b"<ID=W07,K=0.98>", b'<K="0.98",ID="W07">')), PROBE)
-        with self.assertRaises(vcfh.Refused):
-            vcfh.house_form(b"")
+        self.assertEqual(refused(vcfh.house_form, b"").number, 25)
 
     def test_dictionaries_number_strings_and_contigs(self):
         lines = b"##FILTER=<ID=q,Description=x>\n##contig=<ID=c>\n##FORMAT=<ID=q,Number=1,Type=String,Description=x>\n##FILTER=<ID=PASS,Description=x>\n"
         self.assertEqual(vcfh.dictionaries(b"##fileformat=VCFv4.3\n" + lines + COLUMNS), ([(1, 1), (4, 0)], [(2, 0)]))
-        with self.assertRaises(vcfh.Refused) as caught:
-            vcfh.dictionaries(b"##fileformat=VCFv4.3\n##contig=<ID=a,IDX=1>\n##contig=<ID=b>\n" + COLUMNS)
-        self.assertEqual((caught.exception.number, caught.exception.line), (34, 0))
+        refusal = refused(vcfh.dictionaries, b"##fileformat=VCFv4.3\n##contig=<ID=a,IDX=1>\n##contig=<ID=b>\n" + COLUMNS)
+        self.assertEqual((refusal.number, refusal.line), (34, 0))
 
     def test_contigs_are_written_of_an_alignment_header(self):
         sam = b'@HD\tVN:1.6\n@SQ\tSN:a,b\tLN:07\n@SQ\tUR:u\tLN:2\tM5:"\tSN:c\r\n'
@@ -76,49 +83,88 @@ class Reading(unittest.TestCase):
         self.assertEqual(vcfh.contigs(sam), lines)
         self.assertEqual([entry.kind for entry in vcfh.Header(b"##fileformat=VCFv4.5\n" + lines + COLUMNS)][1:3], ["contig", "contig"])
         self.assertEqual(vcfh.contigs(b""), b"")
-        with self.assertRaises(vcfh.Refused) as caught:
-            vcfh.contigs(sam + b"@SQ\tSN:c\tLN:1\n")
-        self.assertEqual((caught.exception.number, caught.exception.line, caught.exception.start), (43, 4, len(sam)))
+        refusal = refused(vcfh.contigs, sam + b"@SQ\tSN:c\tLN:1\n")
+        self.assertEqual((refusal.number, refusal.line, refusal.start), (43, 4, len(sam)))
 
     def test_samples_follow_the_column_line(self):
         header = vcfh.Header(b"##fileformat=VCFv4.3\n" + COLUMNS + b"\tFORMAT\tNA1\t\tNA2")
         self.assertEqual([entry.line for entry in header if entry.kind == "sample"], [b"NA1", b"", b"NA2"])
 
     def test_a_second_equal_id_is_refused_with_its_place_and_words(self):
-        refused = self.refused(b'##fileformat=VCFv4.3\n##FILTER=<ID=q,Description=x>\n##FILTER=<ID="q",Description=x>\n')
-        self.assertEqual((refused.number, refused.line, refused.start), (19, 3, 51))
-        self.assertEqual(str(refused), "line 3, byte 51: the ID stands twice among the lines of its kind (refusal 19)")
+        refusal = refused(vcfh.Header, TWICE)
+        self.assertEqual((refusal.number, refusal.line, refusal.start), (19, 3, 51))
+        self.assertEqual(str(refusal), "line 3, byte 51: the ID stands twice among the lines of its kind (refusal 19)")
 
     def test_an_empty_header_is_refused(self):
-        self.assertEqual(self.refused(b"").number, 25)
+        self.assertEqual(refused(vcfh.Header, b"").number, 25)
 
     def test_the_version_imposed_is_the_one_in_force(self):
         meta = b"##fileformat=VCFv4.3\n##META=<ID=x,Values=[a,b]>\n" + COLUMNS + b"\n"
         self.assertEqual(len(vcfh.Header(meta)), 3)
-        self.assertEqual(self.refused(meta, (4, 2)).number, 9)
+        self.assertEqual(refused(vcfh.Header, meta, (4, 2)).number, 9)
 
     def test_major_and_minor_of_the_version_imposed_are_told_apart(self):
         meta = b"##fileformat=VCFv4.2\n##META=<ID=x,Values=[a,b]>\n" + COLUMNS + b"\n"
         self.assertEqual(len(vcfh.Header(meta, (4, 3))), 3)
-        self.assertEqual([self.refused(meta, version).number for version in (None, (3, 4))], [9, 9])
+        self.assertEqual([refused(vcfh.Header, meta, version).number for version in (None, (3, 4))], [9, 9])
         self.assertEqual(vcfh.house_form(meta, (4, 3)), meta.replace(b"4.2", b"4.3"))
         self.assertEqual(vcfh.Header(meta, (4, 3))[1].fields, [b"ID=x", b"Values=[a,b]"])
 
     def test_a_refused_house_form_has_its_line_and_start(self):
-        with self.assertRaises(vcfh.Refused) as caught:
-            vcfh.house_form(b'##fileformat=VCFv4.3\n##FILTER=<ID=q,Description=x>\n##FILTER=<ID="q",Description=x>\n')
-        self.assertEqual((caught.exception.number, caught.exception.line, caught.exception.start), (19, 3, 51))
+        refusal = refused(vcfh.house_form, TWICE)
+        self.assertEqual((refusal.number, refusal.line, refusal.start), (19, 3, 51))
 
     def test_entry_and_field_are_told_apart(self):
         header = vcfh.Header(b'##fileformat=VCFv4.3\n##b=text\n##c=<K=1,L="2,3",ID="W07">\n' + COLUMNS + b"\n")
         self.assertEqual([entry.fields for entry in header], [[], [], [b"K=1", b'L="2,3"', b'ID="W07"'], []])
 
     def test_every_number_has_its_own_words(self):
-        self.assertEqual(sorted(vcfh.WORDS), [*range(1, 30), 31, *range(34, 44)])
+        self.assertEqual(sorted(vcfh.WORDS), [*range(1, 30), 31, 32, *range(34, 44)])
         self.assertEqual(len(set(vcfh.WORDS.values())), len(vcfh.WORDS))
 
     def test_utf8_is_told_from_other_bytes(self):
         self.assertEqual([vcfh.is_utf8(data) for data in (b"", "Grüße".encode(), b"\xc0\x80", b"\xed\xa0\x80")], [True, True, False, False])
+
+
+class Forms(unittest.TestCase):
+    READERS = (vcfh.Header, vcfh.house_form, vcfh.Register, vcfh.dictionaries)
+
+    def test_a_line_too_long_for_the_first_form_is_read_in_the_second(self):
+        header = long_line(vcfh.MAX_LINE[vcfh.FIRST] + 1)
+        self.assertEqual([refused(call, header).number for call in self.READERS], [2, 2, 2, 2])
+        self.assertEqual(vcfh.Header(header, form=vcfh.SECOND)[2].line, header.split(b"\n")[2])
+        self.assertEqual(vcfh.house_form(header, form=vcfh.SECOND), header)
+        self.assertEqual(refused(vcfh.Register, header, form=vcfh.SECOND).number, 39)
+        self.assertEqual(vcfh.dictionaries(header, form=vcfh.SECOND), ([], []))
+
+    def test_the_second_form_has_a_limit_too(self):
+        header = long_line(vcfh.MAX_LENGTH[vcfh.SECOND] - len(PROBE) - 1)
+        self.assertEqual(vcfh.house_form(header, form=vcfh.SECOND), header)
+        self.assertEqual(refused(vcfh.Header, header).number, 27)
+        self.assertEqual(refused(vcfh.Header, header + b"\n", form=vcfh.SECOND).number, 27)
+
+    def test_a_house_form_may_be_nearly_twice_as_long_as_the_header(self):
+        header = PROBE.replace(b"K=0.98", b"Description=" + b"\\" * 30000)
+        for form in (vcfh.FIRST, vcfh.SECOND):
+            self.assertEqual(len(vcfh.house_form(header, form=form)), len(header) + 30000 + 2)
+
+    def test_entries_turned_to_the_other_form_show_the_same_parts(self):
+        lines = b'##contig=<length=007,ID="a">\n##b=text\n'
+        first = vcfh.Header(b"##fileformat=VCFv4.3\n" + lines + COLUMNS + b"\tFORMAT\ts", (4, 4))
+        second = first.to_form(vcfh.SECOND)
+        for header, form in ((second, vcfh.SECOND), (second.to_form(vcfh.FIRST), vcfh.FIRST), (first.to_form(vcfh.FIRST), vcfh.FIRST)):
+            self.assertEqual([vars(entry) for entry in header], [vars(entry) for entry in first])
+            self.assertEqual((header.odd(), header.version, header.lines, header.form), ([1], (4, 4), 4, form))
+
+    def test_entries_that_do_not_fit_the_first_form_are_not_turned(self):
+        header = vcfh.Header(long_line(vcfh.MAX_LINE[vcfh.FIRST] + 1), form=vcfh.SECOND)
+        self.assertEqual(refused(header.to_form, vcfh.FIRST).number, 32)
+
+    def test_there_are_no_other_forms(self):
+        for call in (*self.READERS, lambda data, form: vcfh.Header(data).to_form(form)):
+            for form in (0, 3, None, "1"):
+                with self.assertRaisesRegex(ValueError, "neither FIRST nor SECOND"):
+                    call(PROBE, form=form)
 
 
 if __name__ == "__main__":

@@ -2,6 +2,7 @@
 
 The shared library is the file that VCFH_LIBRARY names, or else target/bindings/libvcfh.so, which bindings/build makes.
 """
+import copy
 import ctypes
 import itertools
 import os
@@ -12,8 +13,12 @@ _BINDINGS = pathlib.Path(__file__).resolve().parent.parent
 
 KINDS = ("fileformat", "INFO", "FILTER", "FORMAT", "ALT", "contig", "other map", "other text", "columns", "sample")
 
-# the longest header or house form, in bytes
-MAX_LENGTH = 1048575
+# the forms in which entries can be stored
+FIRST, SECOND = 1, 2
+
+# the longest header or house form of each, and the longest line, in bytes
+MAX_LENGTH = {FIRST: 1048575, SECOND: 16777215}
+MAX_LINE = {FIRST: 65535, SECOND: 16777215}
 
 WORDS = {int(number): words for number, words in re.findall(r'^REFUSAL\((\d+), "(.*)"\)$', (_BINDINGS / "refusals.h").read_text(), re.M)}
 
@@ -22,7 +27,7 @@ class _Answer(ctypes.Structure):
     _fields_ = [(name, ctypes.c_uint64) for name in ("number", "line", "start", "entries")]
 
 
-class _Form(ctypes.Structure):
+class _House(ctypes.Structure):
     _fields_ = _Answer._fields_ + [("length", ctypes.c_uint64)]
 
 
@@ -50,26 +55,36 @@ class _Listed(ctypes.Structure):
     _fields_ = [(name, ctypes.c_uint64) for name in ("number", "listed")]
 
 
+class _Turned(ctypes.Structure):
+    _fields_ = [(name, ctypes.c_uint64) for name in ("number", "entries")]
+
+
 _BYTES = [ctypes.c_char_p, ctypes.c_size_t]
 _TABLE = [ctypes.POINTER(ctypes.c_uint64), ctypes.c_size_t]
 _NUMBER = [ctypes.c_uint64]
 _VERSION = [ctypes.c_uint32, ctypes.c_uint32]
+# the header, the version imposed, the form and the table
+_READING = _BYTES + _NUMBER + _VERSION + _NUMBER + _TABLE
+# the header, the table and the form
+_SHOWING = _BYTES + _TABLE + _NUMBER
 
 
 def _library():
     library = ctypes.CDLL(os.environ.get("VCFH_LIBRARY", str(_BINDINGS.parent / "target" / "bindings" / "libvcfh.so")))
     for name, result, arguments in (
         ("vcfh_utf8", ctypes.c_uint64, _BYTES),
-        ("vcfh_read", _Answer, _BYTES + _NUMBER + _VERSION + _TABLE),
-        ("vcfh_house", _Form, _BYTES + _NUMBER + _VERSION + _TABLE + [ctypes.c_char_p, ctypes.c_size_t]),
-        ("vcfh_register", _Register, _BYTES + _NUMBER + _VERSION + _TABLE),
+        ("vcfh_read", _Answer, _READING),
+        ("vcfh_house", _House, _READING + [ctypes.c_char_p, ctypes.c_size_t]),
+        ("vcfh_register", _Register, _READING),
         ("vcfh_compare", _Differences, [_Register, _Register]),
-        ("vcfh_dictionaries", _Dictionaries, _BYTES + _NUMBER + _VERSION + _TABLE + _TABLE + _TABLE),
+        ("vcfh_dictionaries", _Dictionaries, _READING + _TABLE + _TABLE),
         ("vcfh_contigs", _Contigs, _BYTES + [ctypes.c_char_p, ctypes.c_size_t]),
-        ("vcfh_entry", _Part, _BYTES + _TABLE + _NUMBER),
-        ("vcfh_id", _Part, _BYTES + _TABLE + _NUMBER),
-        ("vcfh_field", _Part, _BYTES + _TABLE + _NUMBER + _VERSION + _NUMBER),
-        ("vcfh_odd", _Listed, _BYTES + _TABLE + _VERSION + _TABLE),
+        ("vcfh_entry", _Part, _SHOWING + _NUMBER),
+        ("vcfh_id", _Part, _SHOWING + _NUMBER),
+        ("vcfh_field", _Part, _SHOWING + _NUMBER + _VERSION + _NUMBER),
+        ("vcfh_odd", _Listed, _SHOWING + _VERSION + _TABLE),
+        ("vcfh_to_second", _Turned, _BYTES + _TABLE + _TABLE),
+        ("vcfh_to_first", _Turned, _BYTES + _TABLE + _TABLE),
     ):
         function = getattr(library, name)
         function.restype, function.argtypes = result, arguments
@@ -98,25 +113,36 @@ class Entry:
         return f"Entry({self.number}, {self.kind!r}, {self.line!r}, id={self.id!r})"
 
 
-def _called(call, data, version, *more):
+def _named(form):
+    if form not in (FIRST, SECOND):
+        raise ValueError("the form is neither FIRST nor SECOND")
+    return form
+
+
+def _accepted(answer):
+    """The answer, unless it is a refusal; a call on a table names no place."""
+    if answer.number:
+        raise Refused(answer.number, getattr(answer, "line", 0), getattr(answer, "start", 0))
+    return answer
+
+
+def _called(call, data, version, form, *more):
     """The answer, the table and its size of a call that reads the header."""
     # each line and each tab gives one entry at most
     words = 2 * (data.count(b"\n") + data.count(b"\t") + 1)
     table = (ctypes.c_uint64 * words)()
     imposed = (0, 0, 0) if version is None else (1, *version)
-    answer = call(data, len(data), *imposed, table, words, *more)
-    if answer.number:
-        raise Refused(answer.number, answer.line, answer.start)
+    answer = _accepted(call(data, len(data), *imposed, _named(form), table, words, *more))
     return answer, table, words
 
 
 class Header:
-    """An accepted header: a sequence of entries, one for each line, then one for each sample."""
+    """An accepted header: a sequence of entries, one for each line, then one for each sample, all stored in the form `form`."""
 
-    def __init__(self, data, version=None):
-        """Reads the bytes by the version given, such as (4, 3), or else by their own."""
-        self._data = bytes(data)
-        answer, self._table, self._words = _called(_vcfh.vcfh_read, self._data, version)
+    def __init__(self, data, version=None, *, form=FIRST):
+        """Reads the bytes by the version given, such as (4, 3), or else by their own, within the limits of the form."""
+        self._data, self.form = bytes(data), form
+        answer, self._table, self._words = _called(_vcfh.vcfh_read, self._data, version, form)
         self.lines, self._entries = answer.line, answer.entries
         self.version = version or tuple(map(int, self._part(_vcfh.vcfh_entry, 0)[len(b"##fileformat=VCFv") :].split(b".")))
 
@@ -134,10 +160,18 @@ class Header:
         """The numbers of the entries that carry a Number, IDX or length with a sign or a leading zero, such as +5 or 007."""
         room = max(self._entries, 1)
         listed = (ctypes.c_uint64 * room)()
-        answer = _vcfh.vcfh_odd(self._data, len(self._data), self._table, 2 * self._entries, *self.version, listed, room)
-        if answer.number:
-            raise Refused(answer.number, 0, 0)
-        return list(listed[: answer.listed])
+        answer = _vcfh.vcfh_odd(self._data, len(self._data), self._table, 2 * self._entries, self.form, *self.version, listed, room)
+        return list(listed[: _accepted(answer).listed])
+
+    def to_form(self, form):
+        """This header with its entries stored in the form given; Refused, with number 32, where one does not fit the first form."""
+        if _named(form) == self.form:
+            return self
+        turned, words = copy.copy(self), 2 * self._entries
+        turned.form, turned._table, turned._words = form, (ctypes.c_uint64 * words)(), words
+        call = _vcfh.vcfh_to_second if form == SECOND else _vcfh.vcfh_to_first
+        _accepted(call(self._data, len(self._data), self._table, words, turned._table, words))
+        return turned
 
     def _fields(self, number):
         for n in itertools.count():
@@ -147,23 +181,26 @@ class Header:
             yield field
 
     def _part(self, call, *numbers):
-        part = call(self._data, len(self._data), self._table, self._words, *numbers)
+        part = call(self._data, len(self._data), self._table, self._words, self.form, *numbers)
         return None if part.number else self._data[part.start : part.start + part.length]
 
 
-def house_form(data, version=None):
-    """The house form of a header: the one form of all headers with the same meaning."""
-    form = ctypes.create_string_buffer(MAX_LENGTH)
-    answer, _, _ = _called(_vcfh.vcfh_house, bytes(data), version, form, MAX_LENGTH)
-    return form.raw[: answer.length]
+def house_form(data, version=None, *, form=FIRST):
+    """The house form of a header: the one form of all headers with the same meaning. `form` is that of the entries, and sets the limits."""
+    data = bytes(data)
+    # quotes and escapes at most double a line
+    space = min(2 * len(data), MAX_LENGTH[_named(form)])
+    out = ctypes.create_string_buffer(space)
+    answer, _, _ = _called(_vcfh.vcfh_house, data, version, form, out, space)
+    return out.raw[: answer.length]
 
 
 class Register:
     """The cell register of a probe header: the constants of W01 to W40 in whole hundredths, in well order."""
 
-    def __init__(self, data, version=None):
-        """Reads the bytes by the version given, such as (4, 3), or else by their own."""
-        self._answer, _, _ = _called(_vcfh.vcfh_register, bytes(data), version)
+    def __init__(self, data, version=None, *, form=FIRST):
+        """Reads the bytes by the version given, such as (4, 3), or else by their own, within the limits of the form."""
+        self._answer, _, _ = _called(_vcfh.vcfh_register, bytes(data), version, form)
         self.constants = tuple(self._answer.constants)
 
     def compare(self, new):
@@ -172,12 +209,12 @@ class Register:
         return [(found.wells[i], found.old[i], found.new[i]) for i in range(found.count)]
 
 
-def dictionaries(data, version=None):
+def dictionaries(data, version=None, *, form=FIRST):
     """The two dictionaries of BCF, strings and contigs: each a list of (entry number, ID number), for each ID at its first line."""
     data = bytes(data)
     words = 2 * (data.count(b"\n") + 1)
     slices = [(ctypes.c_uint64 * words)() for _ in range(2)]
-    answer, _, _ = _called(_vcfh.vcfh_dictionaries, data, version, slices[0], words, slices[1], words)
+    answer, _, _ = _called(_vcfh.vcfh_dictionaries, data, version, form, slices[0], words, slices[1], words)
     return tuple([(pairs[2 * n], pairs[2 * n + 1]) for n in range(count)] for pairs, count in zip(slices, (answer.strings, answer.contigs)))
 
 
@@ -187,9 +224,7 @@ def contigs(sam):
     # escapes at most double a value, and what stands around the values of a line has less than 40 bytes
     space = 2 * len(sam) + 40 * (sam.count(b"\n") + 1)
     out = ctypes.create_string_buffer(space)
-    answer = _vcfh.vcfh_contigs(sam, len(sam), out, space)
-    if answer.number:
-        raise Refused(answer.number, answer.line, answer.start)
+    answer = _accepted(_vcfh.vcfh_contigs(sam, len(sam), out, space))
     return out.raw[: answer.length]
 
 

@@ -26,6 +26,7 @@ unsafe extern "C" {
         imposed: u64,
         major: u32,
         minor: u32,
+        form: u64,
         table: *mut u64,
         table_length: usize,
     ) -> VcfhAnswer;
@@ -36,12 +37,16 @@ unsafe extern "C" {
         imposed: u64,
         major: u32,
         minor: u32,
+        form: u64,
         table: *mut u64,
         table_length: usize,
         out: *mut u8,
         out_length: usize,
     ) -> VcfhForm;
 }
+
+/// The form of entries that has document 01's limits.
+const FIRST: u64 = 1;
 
 /// `NUMBER LINE START ENTRIES NUMBER FORM`, parted by tabs: the answer of a read, then the number and the form of a
 /// house-form call. Table and output are large enough for every entry and form.
@@ -57,8 +62,8 @@ pub fn answer(case: &Case) -> String {
         let (bytes, length) = (header.as_ptr(), header.len());
         let (words, room) = (table.as_mut_ptr(), table.len());
         (
-            vcfh_read(bytes, length, imposed, major, minor, words, room),
-            vcfh_house(bytes, length, imposed, major, minor, words, room, out.as_mut_ptr(), out.len()),
+            vcfh_read(bytes, length, imposed, major, minor, FIRST, words, room),
+            vcfh_house(bytes, length, imposed, major, minor, FIRST, words, room, out.as_mut_ptr(), out.len()),
         )
     };
 

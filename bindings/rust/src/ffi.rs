@@ -1,6 +1,6 @@
 //! The static library's functions. Each takes any bytes, words and numbers, so that safe Rust may call it with any.
 
-use crate::Version;
+use crate::{Form, Version};
 
 #[repr(C)]
 pub struct Answer {
@@ -11,7 +11,7 @@ pub struct Answer {
 }
 
 #[repr(C)]
-pub struct Form {
+pub struct House {
     pub number: u64,
     pub line: u64,
     pub start: u64,
@@ -69,26 +69,34 @@ pub struct Listed {
     pub listed: u64,
 }
 
+#[repr(C)]
+pub struct Turned {
+    pub number: u64,
+    pub entries: u64,
+}
+
 extern "C" {
     fn vcfh_utf8(bytes: *const u8, length: usize) -> u64;
-    fn vcfh_read(header: *const u8, length: usize, imposed: u64, major: u32, minor: u32, table: *mut u64, words: usize) -> Answer;
+    fn vcfh_read(header: *const u8, length: usize, imposed: u64, major: u32, minor: u32, form: u64, table: *mut u64, words: usize) -> Answer;
     fn vcfh_house(
         header: *const u8,
         length: usize,
         imposed: u64,
         major: u32,
         minor: u32,
+        form: u64,
         table: *mut u64,
         words: usize,
         out: *mut u8,
         space: usize,
-    ) -> Form;
+    ) -> House;
     fn vcfh_dictionaries(
         header: *const u8,
         length: usize,
         imposed: u64,
         major: u32,
         minor: u32,
+        form: u64,
         table: *mut u64,
         words: usize,
         strings: *mut u64,
@@ -96,22 +104,35 @@ extern "C" {
         contigs: *mut u64,
         contig_words: usize,
     ) -> Numbers;
-    fn vcfh_register(header: *const u8, length: usize, imposed: u64, major: u32, minor: u32, table: *mut u64, words: usize) -> Cells;
+    fn vcfh_register(header: *const u8, length: usize, imposed: u64, major: u32, minor: u32, form: u64, table: *mut u64, words: usize) -> Cells;
     fn vcfh_compare(old: Cells, new: Cells) -> Differences;
     fn vcfh_contigs(sam: *const u8, length: usize, out: *mut u8, space: usize) -> ContigLines;
-    fn vcfh_entry(header: *const u8, length: usize, table: *const u64, words: usize, entry: u64) -> Part;
-    fn vcfh_id(header: *const u8, length: usize, table: *const u64, words: usize, entry: u64) -> Part;
-    fn vcfh_field(header: *const u8, length: usize, table: *const u64, words: usize, entry: u64, major: u32, minor: u32, field: u64) -> Part;
+    fn vcfh_entry(header: *const u8, length: usize, table: *const u64, words: usize, form: u64, entry: u64) -> Part;
+    fn vcfh_id(header: *const u8, length: usize, table: *const u64, words: usize, form: u64, entry: u64) -> Part;
+    fn vcfh_field(
+        header: *const u8,
+        length: usize,
+        table: *const u64,
+        words: usize,
+        form: u64,
+        entry: u64,
+        major: u32,
+        minor: u32,
+        field: u64,
+    ) -> Part;
     fn vcfh_odd(
         header: *const u8,
         length: usize,
         table: *const u64,
         words: usize,
+        form: u64,
         major: u32,
         minor: u32,
         list: *mut u64,
         list_words: usize,
     ) -> Listed;
+    fn vcfh_to_second(header: *const u8, length: usize, first: *const u64, first_words: usize, second: *mut u64, second_words: usize) -> Turned;
+    fn vcfh_to_first(header: *const u8, length: usize, second: *const u64, second_words: usize, first: *mut u64, first_words: usize) -> Turned;
 }
 
 pub fn utf8(bytes: &[u8]) -> bool {
@@ -123,20 +144,20 @@ fn imposing(imposed: Option<Version>) -> (u64, u32, u32) {
     imposed.map_or((0, 0, 0), |version| (1, version.major, version.minor))
 }
 
-pub fn read(header: &[u8], imposed: Option<Version>, table: &mut [u64]) -> Answer {
+pub fn read(header: &[u8], imposed: Option<Version>, form: Form, table: &mut [u64]) -> Answer {
     let (imposed, major, minor) = imposing(imposed);
-    unsafe { vcfh_read(header.as_ptr(), header.len(), imposed, major, minor, table.as_mut_ptr(), table.len()) }
+    unsafe { vcfh_read(header.as_ptr(), header.len(), imposed, major, minor, form as u64, table.as_mut_ptr(), table.len()) }
 }
 
-pub fn house(header: &[u8], imposed: Option<Version>, table: &mut [u64], out: &mut [u8]) -> Form {
+pub fn house(header: &[u8], imposed: Option<Version>, form: Form, table: &mut [u64], out: &mut [u8]) -> House {
     let (imposed, major, minor) = imposing(imposed);
     let (words, space) = (table.len(), out.len());
-    unsafe { vcfh_house(header.as_ptr(), header.len(), imposed, major, minor, table.as_mut_ptr(), words, out.as_mut_ptr(), space) }
+    unsafe { vcfh_house(header.as_ptr(), header.len(), imposed, major, minor, form as u64, table.as_mut_ptr(), words, out.as_mut_ptr(), space) }
 }
 
-pub fn register(header: &[u8], imposed: Option<Version>, table: &mut [u64]) -> Cells {
+pub fn register(header: &[u8], imposed: Option<Version>, form: Form, table: &mut [u64]) -> Cells {
     let (imposed, major, minor) = imposing(imposed);
-    unsafe { vcfh_register(header.as_ptr(), header.len(), imposed, major, minor, table.as_mut_ptr(), table.len()) }
+    unsafe { vcfh_register(header.as_ptr(), header.len(), imposed, major, minor, form as u64, table.as_mut_ptr(), table.len()) }
 }
 
 pub fn compare(old: [u64; 40], new: [u64; 40]) -> Differences {
@@ -148,24 +169,32 @@ pub fn contigs(sam: &[u8], out: &mut [u8]) -> ContigLines {
     unsafe { vcfh_contigs(sam.as_ptr(), sam.len(), out.as_mut_ptr(), out.len()) }
 }
 
-pub fn entry(header: &[u8], table: &[u64], entry: u64) -> Part {
-    unsafe { vcfh_entry(header.as_ptr(), header.len(), table.as_ptr(), table.len(), entry) }
+pub fn entry(header: &[u8], table: &[u64], form: Form, entry: u64) -> Part {
+    unsafe { vcfh_entry(header.as_ptr(), header.len(), table.as_ptr(), table.len(), form as u64, entry) }
 }
 
-pub fn id(header: &[u8], table: &[u64], entry: u64) -> Part {
-    unsafe { vcfh_id(header.as_ptr(), header.len(), table.as_ptr(), table.len(), entry) }
+pub fn id(header: &[u8], table: &[u64], form: Form, entry: u64) -> Part {
+    unsafe { vcfh_id(header.as_ptr(), header.len(), table.as_ptr(), table.len(), form as u64, entry) }
 }
 
-pub fn field(header: &[u8], table: &[u64], entry: u64, version: Version, field: u64) -> Part {
-    unsafe { vcfh_field(header.as_ptr(), header.len(), table.as_ptr(), table.len(), entry, version.major, version.minor, field) }
+pub fn field(header: &[u8], table: &[u64], form: Form, entry: u64, version: Version, field: u64) -> Part {
+    unsafe { vcfh_field(header.as_ptr(), header.len(), table.as_ptr(), table.len(), form as u64, entry, version.major, version.minor, field) }
 }
 
-pub fn odd(header: &[u8], table: &[u64], version: Version, list: &mut [u64]) -> Listed {
+pub fn odd(header: &[u8], table: &[u64], form: Form, version: Version, list: &mut [u64]) -> Listed {
     let (words, room) = (table.len(), list.len());
-    unsafe { vcfh_odd(header.as_ptr(), header.len(), table.as_ptr(), words, version.major, version.minor, list.as_mut_ptr(), room) }
+    unsafe { vcfh_odd(header.as_ptr(), header.len(), table.as_ptr(), words, form as u64, version.major, version.minor, list.as_mut_ptr(), room) }
 }
 
-pub fn dictionaries(header: &[u8], imposed: Option<Version>, table: &mut [u64], strings: &mut [u64], contigs: &mut [u64]) -> Numbers {
+pub fn to_second(header: &[u8], first: &[u64], second: &mut [u64]) -> Turned {
+    unsafe { vcfh_to_second(header.as_ptr(), header.len(), first.as_ptr(), first.len(), second.as_mut_ptr(), second.len()) }
+}
+
+pub fn to_first(header: &[u8], second: &[u64], first: &mut [u64]) -> Turned {
+    unsafe { vcfh_to_first(header.as_ptr(), header.len(), second.as_ptr(), second.len(), first.as_mut_ptr(), first.len()) }
+}
+
+pub fn dictionaries(header: &[u8], imposed: Option<Version>, form: Form, table: &mut [u64], strings: &mut [u64], contigs: &mut [u64]) -> Numbers {
     let (imposed, major, minor) = imposing(imposed);
     unsafe {
         vcfh_dictionaries(
@@ -174,6 +203,7 @@ pub fn dictionaries(header: &[u8], imposed: Option<Version>, table: &mut [u64], 
             imposed,
             major,
             minor,
+            form as u64,
             table.as_mut_ptr(),
             table.len(),
             strings.as_mut_ptr(),

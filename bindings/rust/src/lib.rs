@@ -27,6 +27,33 @@ impl Version {
     }
 }
 
+/// How the entries of a header are stored, and so how long a header and a line may be.
+#[derive(Clone, Copy, Debug, Eq, PartialEq)]
+pub enum Form {
+    /// For headers of up to a megabyte.
+    First = 1,
+    /// For headers of up to sixteen megabytes.
+    Second = 2,
+}
+
+impl Form {
+    /// The longest header or house form, in bytes.
+    pub const fn max_length(self) -> usize {
+        match self {
+            Form::First => 1_048_575,
+            Form::Second => 16_777_215,
+        }
+    }
+
+    /// The longest line without its ending, in bytes.
+    pub const fn max_line(self) -> usize {
+        match self {
+            Form::First => 65_535,
+            Form::Second => 16_777_215,
+        }
+    }
+}
+
 /// What an entry is.
 #[derive(Clone, Copy, Debug, Eq, PartialEq)]
 pub enum Kind {
@@ -73,23 +100,32 @@ impl fmt::Display for Refused {
 
 impl error::Error for Refused {}
 
+/// What an answer says: number 0, or a refusal.
+fn accepted(number: u64, line: u64, start: u64) -> Result<(), Refused> {
+    match number {
+        0 => Ok(()),
+        _ => Err(Refused { number, line, start }),
+    }
+}
+
 /// Whether the bytes are UTF-8.
 pub fn is_utf8(bytes: &[u8]) -> bool {
     ffi::utf8(bytes)
 }
 
-/// The longest header or house form, in bytes.
-pub const MAX_LENGTH: usize = 1_048_575;
-
-/// The house form of a header: the one form of all headers with the same meaning.
+/// The house form of a header within the limits of the first form of entries: the one form of all headers with the same meaning.
 pub fn house_form(bytes: &[u8], imposed: Option<Version>) -> Result<Vec<u8>, Refused> {
-    let mut form = vec![0; MAX_LENGTH];
-    let answer = ffi::house(bytes, imposed, &mut vec![0; table_words(bytes)], &mut form);
-    if answer.number != 0 {
-        return Err(Refused { number: answer.number, line: answer.line, start: answer.start });
-    }
-    form.truncate(answer.length as usize);
-    Ok(form)
+    house_form_in(bytes, imposed, Form::First)
+}
+
+/// The house form of a header within the limits of the form of entries named.
+pub fn house_form_in(bytes: &[u8], imposed: Option<Version>, form: Form) -> Result<Vec<u8>, Refused> {
+    // Quotes and escapes at most double a line.
+    let mut out = vec![0; form.max_length().min(2 * bytes.len())];
+    let answer = ffi::house(bytes, imposed, form, &mut vec![0; table_words(bytes)], &mut out);
+    accepted(answer.number, answer.line, answer.start)?;
+    out.truncate(answer.length as usize);
+    Ok(out)
 }
 
 /// The two dictionaries of BCF: the entry at which an ID first stands, and the ID's number.
@@ -100,14 +136,17 @@ pub struct Dictionaries {
     pub contigs: Vec<(u64, u64)>,
 }
 
-/// The dictionaries of a header.
+/// The dictionaries of a header within the limits of the first form.
 pub fn dictionaries(bytes: &[u8], imposed: Option<Version>) -> Result<Dictionaries, Refused> {
+    dictionaries_in(bytes, imposed, Form::First)
+}
+
+/// The dictionaries of a header within the limits of the form named.
+pub fn dictionaries_in(bytes: &[u8], imposed: Option<Version>, form: Form) -> Result<Dictionaries, Refused> {
     let words = table_words(bytes);
     let (mut strings, mut contigs) = (vec![0; words], vec![0; words]);
-    let answer = ffi::dictionaries(bytes, imposed, &mut vec![0; words], &mut strings, &mut contigs);
-    if answer.number != 0 {
-        return Err(Refused { number: answer.number, line: answer.line, start: answer.start });
-    }
+    let answer = ffi::dictionaries(bytes, imposed, form, &mut vec![0; words], &mut strings, &mut contigs);
+    accepted(answer.number, answer.line, answer.start)?;
     let pairs = |words: &[u64], count: u64| words.chunks(2).take(count as usize).map(|pair| (pair[0], pair[1])).collect();
     Ok(Dictionaries { strings: pairs(&strings, answer.strings), contigs: pairs(&contigs, answer.contigs) })
 }
@@ -118,9 +157,7 @@ pub fn contigs(sam: &[u8]) -> Result<Vec<u8>, Refused> {
     let lines = sam.iter().filter(|&&b| b == b'\n').count() + 1;
     let mut out = vec![0; 2 * sam.len() + 40 * lines];
     let answer = ffi::contigs(sam, &mut out);
-    if answer.number != 0 {
-        return Err(Refused { number: answer.number, line: answer.line, start: answer.start });
-    }
+    accepted(answer.number, answer.line, answer.start)?;
     out.truncate(answer.length as usize);
     Ok(out)
 }
@@ -140,12 +177,15 @@ pub struct Difference {
 }
 
 impl Register {
-    /// Reads a header, by the version imposed or else by its own, and its register.
+    /// Reads a header within the limits of the first form, by the version imposed or else by its own, and its register.
     pub fn read(bytes: &[u8], imposed: Option<Version>) -> Result<Self, Refused> {
-        let answer = ffi::register(bytes, imposed, &mut vec![0; table_words(bytes)]);
-        if answer.number != 0 {
-            return Err(Refused { number: answer.number, line: answer.line, start: answer.start });
-        }
+        Self::read_in(bytes, imposed, Form::First)
+    }
+
+    /// Reads a header so within the limits of the form named, and its register.
+    pub fn read_in(bytes: &[u8], imposed: Option<Version>, form: Form) -> Result<Self, Refused> {
+        let answer = ffi::register(bytes, imposed, form, &mut vec![0; table_words(bytes)]);
+        accepted(answer.number, answer.line, answer.start)?;
         Ok(Self { constants: answer.constants })
     }
 
@@ -160,21 +200,44 @@ impl Register {
 #[derive(Clone, Debug)]
 pub struct Header<'h> {
     bytes: &'h [u8],
+    form: Form,
     table: Vec<u64>,
     lines: u64,
     imposed: Option<Version>,
 }
 
 impl<'h> Header<'h> {
-    /// Reads a header, by the version imposed or else by its own.
+    /// Reads a header, by the version imposed or else by its own, and stores its entries in the first form.
     pub fn read(bytes: &'h [u8], imposed: Option<Version>) -> Result<Self, Refused> {
+        Self::read_in(bytes, imposed, Form::First)
+    }
+
+    /// Reads a header so and stores its entries in the form named.
+    pub fn read_in(bytes: &'h [u8], imposed: Option<Version>, form: Form) -> Result<Self, Refused> {
         let mut table = vec![0; table_words(bytes)];
-        let answer = ffi::read(bytes, imposed, &mut table);
-        if answer.number != 0 {
-            return Err(Refused { number: answer.number, line: answer.line, start: answer.start });
-        }
+        let answer = ffi::read(bytes, imposed, form, &mut table);
+        accepted(answer.number, answer.line, answer.start)?;
         table.truncate(2 * answer.entries as usize);
-        Ok(Self { bytes, table, lines: answer.line, imposed })
+        Ok(Self { bytes, form, table, lines: answer.line, imposed })
+    }
+
+    /// The same header with its entries stored in the form named; refused with 32 where one does not fit the first form.
+    pub fn to_form(&self, form: Form) -> Result<Self, Refused> {
+        if form == self.form {
+            return Ok(self.clone());
+        }
+        let turn = match form {
+            Form::First => ffi::to_first,
+            Form::Second => ffi::to_second,
+        };
+        let mut table = vec![0; self.table.len()];
+        accepted(turn(self.bytes, &self.table, &mut table).number, 0, 0)?;
+        Ok(Self { form, table, ..*self })
+    }
+
+    /// The form in which the entries are stored.
+    pub fn form(&self) -> Form {
+        self.form
     }
 
     /// How many lines the header has.
@@ -194,14 +257,14 @@ impl<'h> Header<'h> {
 
     /// The entry of this number, from 0.
     pub fn entry(&self, number: u64) -> Option<Entry<'_, 'h>> {
-        let line = self.part(ffi::entry(self.bytes, &self.table, number))?;
+        let line = self.part(ffi::entry(self.bytes, &self.table, self.form, number))?;
         Some(Entry { header: self, number, line })
     }
 
     /// The numbers of the entries that carry a Number, IDX or length with a sign or a leading zero, such as `+5` or `007`.
     pub fn odd(&self) -> Vec<u64> {
         let mut list = vec![0; self.table.len() / 2];
-        let listed = self.version().map_or(0, |version| ffi::odd(self.bytes, &self.table, version, &mut list).listed);
+        let listed = self.version().map_or(0, |version| ffi::odd(self.bytes, &self.table, self.form, version, &mut list).listed);
         list.truncate(listed as usize);
         list
     }
@@ -243,14 +306,14 @@ impl<'t, 'h> Entry<'t, 'h> {
 
     /// The ID as it is written, without quotes; INFO, FILTER, FORMAT, ALT, contig and other maps have one.
     pub fn id(&self) -> Option<&'h [u8]> {
-        self.header.part(ffi::id(self.header.bytes, &self.header.table, self.number))
+        self.header.part(ffi::id(self.header.bytes, &self.header.table, self.header.form, self.number))
     }
 
     /// The fields of a map in order, each from its key through its value with its quotes; none where the entry is no map.
     pub fn fields(&self) -> impl Iterator<Item = &'h [u8]> + 't {
         let (header, entry) = (self.header, self.number);
         let version = header.version();
-        (0..).map_while(move |n| header.part(ffi::field(header.bytes, &header.table, entry, version?, n)))
+        (0..).map_while(move |n| header.part(ffi::field(header.bytes, &header.table, header.form, entry, version?, n)))
     }
 }
 

@@ -1,5 +1,5 @@
 //! The library through the safe functions.
-use vcfh::{Difference, Header, Kind, Refused, Register, Version};
+use vcfh::{Difference, Form, Header, Kind, Refused, Register, Version};
 
 const COLUMNS: &str = "#CHROM\tPOS\tID\tREF\tALT\tQUAL\tFILTER\tINFO";
 
@@ -110,12 +110,12 @@ fn entries_with_oddly_spelled_numbers_are_listed() {
 
 #[test]
 fn every_number_has_its_own_words() {
-    let mut words: Vec<&str> = (1..=29).chain([31]).chain(34..=43).map(|number| Refused { number, line: 0, start: 0 }.words()).collect();
+    let mut words: Vec<&str> = (1..=29).chain([31, 32]).chain(34..=43).map(|number| Refused { number, line: 0, start: 0 }.words()).collect();
     let none = Refused { number: 30, line: 0, start: 0 }.words();
     assert!(!words.contains(&none));
     words.sort();
     words.dedup();
-    assert_eq!(words.len(), 40);
+    assert_eq!(words.len(), 41);
 }
 
 #[test]
@@ -155,4 +155,66 @@ fn contigs_are_written_of_an_alignment_header() {
     assert_eq!(Header::read(header.as_bytes(), None).unwrap().entries().count(), 4);
     let twice = [&sam[..], b"@SQ\tSN:c\tLN:1\n"].concat();
     assert_eq!(vcfh::contigs(&twice).unwrap_err(), Refused { number: 43, line: 4, start: sam.len() as u64 });
+}
+
+/// A header with a text line of so many bytes.
+fn long_line(length: usize) -> String {
+    format!("##fileformat=VCFv4.3\n##a={}\n{COLUMNS}\n", "x".repeat(length - 4))
+}
+
+#[test]
+fn a_line_too_long_for_the_first_form_is_read_in_the_second() {
+    let text = long_line(Form::First.max_line() + 1);
+    let bytes = text.as_bytes();
+    let too_long = Refused { number: 2, line: 2, start: 21 };
+    assert_eq!(Header::read(bytes, None).unwrap_err(), too_long);
+    assert_eq!(Header::read_in(bytes, None, Form::Second).unwrap().entry(1).unwrap().line(), text.lines().nth(1).unwrap().as_bytes());
+    assert_eq!(vcfh::house_form(bytes, None).unwrap_err(), too_long);
+    assert_eq!(vcfh::house_form_in(bytes, None, Form::Second).unwrap(), bytes);
+    assert_eq!(Register::read(bytes, None).unwrap_err(), too_long);
+    assert_eq!(Register::read_in(bytes, None, Form::Second).unwrap_err().number, 39);
+    assert_eq!(vcfh::dictionaries(bytes, None).unwrap_err(), too_long);
+    assert_eq!(vcfh::dictionaries_in(bytes, None, Form::Second).unwrap().strings, []);
+}
+
+#[test]
+fn the_second_form_has_a_limit_too() {
+    let longest = long_line(Form::Second.max_length() - long_line(4).len() + 4);
+    assert_eq!(vcfh::house_form_in(longest.as_bytes(), None, Form::Second).unwrap(), longest.as_bytes());
+    assert_eq!(refused(&longest).number, 27);
+    assert_eq!(Header::read_in((longest + "\n").as_bytes(), None, Form::Second).unwrap_err().number, 27);
+}
+
+#[test]
+fn a_house_form_may_be_nearly_twice_as_long_as_the_header() {
+    let bytes = format!("##fileformat=VCFv4.3\n##cell=<ID=W07,Description={}>\n{COLUMNS}\n", "\\".repeat(30000));
+    for form in [Form::First, Form::Second] {
+        assert_eq!(vcfh::house_form_in(bytes.as_bytes(), None, form).unwrap().len(), bytes.len() + 30000 + 2);
+    }
+}
+
+/// What a header shows of its entries.
+fn shown(header: &Header) -> Vec<(Kind, String)> {
+    let parts = |entry: &vcfh::Entry| format!("{:?} {:?} {:?}", entry.line(), entry.id(), entry.fields().collect::<Vec<_>>());
+    header.entries().map(|entry| (entry.kind(), parts(&entry))).collect()
+}
+
+#[test]
+fn entries_turned_to_the_other_form_show_the_same_parts() {
+    let bytes = format!("##fileformat=VCFv4.3\n##contig=<length=007,ID=\"a\">\n##b=text\n{COLUMNS}\tFORMAT\ts");
+    let by = Version { major: 4, minor: 4 };
+    let first = Header::read(bytes.as_bytes(), Some(by)).unwrap();
+    let second = first.to_form(Form::Second).unwrap();
+    let (back, same) = (second.to_form(Form::First).unwrap(), first.to_form(Form::First).unwrap());
+    for (header, form) in [(&second, Form::Second), (&back, Form::First), (&same, Form::First)] {
+        assert_eq!(shown(header), shown(&first));
+        assert_eq!((header.odd(), header.version(), header.lines(), header.form()), (vec![1], Some(by), 4, form));
+    }
+}
+
+#[test]
+fn entries_that_do_not_fit_the_first_form_are_not_turned() {
+    let bytes = long_line(Form::First.max_line() + 1);
+    let header = Header::read_in(bytes.as_bytes(), None, Form::Second).unwrap();
+    assert_eq!(header.to_form(Form::First).unwrap_err(), Refused { number: 32, line: 0, start: 0 });
 }

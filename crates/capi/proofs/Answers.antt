@@ -1,18 +1,19 @@
 -- The answers as numbers: the ways of the code, on plain values. Assumes nothing.
 use Prim.Native.Nat.{ℕ, _-_, _≤_}
-use mathlib.Core.Path.{_≡_, refl, sym, ap, _∙_, subst}
+use mathlib.Core.Path.{_≡_, refl, sym, ap, ap₂, _∙_, subst, subst₂}
 use mathlib.Core.Bool.{Bool, true, false}
 use mathlib.Core.List.{List}
 use mathlib.Core.Option.{Option, none, some}
 use lib.ListN.{length}
 use lib.Seq.{sets}
 use borrow.Author.Tests.{eq-eqb, ne-eqb}
-use Rattle.rules.specs.Sizes.{limits}
 use Rattle.rules.specs.Version.{Version, version}
-use Rattle.rules.specs.Reading.{reading}
 use Rattle.rules.specs.House.{house}
 use Rattle.rules.specs.Shown.{Part}
-use Rattle.entries.specs.Tables.{room, stored as storedIn, shownField}
+use Rattle.entries.specs.Tables.{room, stored as storedIn, shownEntry, shownId, shownField}
+use Rattle.entries.specs.Values.{limitsBy}
+use Rattle.entries.specs.declared.form.Form.{Form}
+use Rattle.entries.specs.declared.form.Form.the-variants.{First, Second}
 use Rattle.records.specs.Refusals.{number}
 use Rattle.records.specs.declared.refusal.Refusal.{Refusal}
 use Rattle.records.specs.declared.refusal.Refusal.the-variants as refusal
@@ -22,23 +23,26 @@ use Rattle.entries.specs.Shown.{answered, orRefused, shownAs, Inside}
 use Rattle.entries.specs.declared.shown.Shown.{Shown}
 use Rattle.entries.specs.declared.shown.Shown.the-variants as shown
 use Rattle.entries.proofs.Calls.{answer-is}
-use Rattle.header.specs.Parsers.{AnswerMeaning, answerMeans, readingMeans, outcomeNumber}
+use Rattle.header.specs.Parsers.{AnswerMeaning, outcomeNumber, readInto, ReadCall}
 use Rattle.header.specs.declared.parser.Outcome.{Outcome}
 use Rattle.header.specs.declared.parser.Outcome.the-variants as outcome
 use Rattle.header.specs.declared.parser.ReadAnswer.{ReadAnswer}
-use Rattle.house.specs.Answers.{FormMeaning, formAnswerMeans, houseMeans}
+use Rattle.house.specs.Answers.{FormMeaning, HouseCall}
 use Rattle.house.specs.declared.form.HouseAnswer.{HouseAnswer}
 use Rattle.register.specs.Register.{registerOf}
 use Rattle.register.specs.Compare.{differing}
 use Rattle.register.specs.Compared.{listedInArrays}
-use Rattle.register.specs.Answers.{registerNumber, RegisterMeaning, registerAnswerMeans, registerMeans}
+use Rattle.register.specs.Answers.{registerNumber, RegisterMeaning, RegisterCall}
 use Rattle.register.specs.declared.probe.RegisterRead.{RegisterRead}
 use Rattle.register.specs.declared.compare.Differences.{Differences}
 use Rattle.spelling.specs.Odd.{oddIn, oddAnswer, oddList}
 use Rattle.spelling.specs.Odd.{outcomeNumber as oddNumber}
 use Rattle.spelling.specs.declared.odd.OddAnswer.{OddAnswer}
 use Rattle.capi.specs.declared.VcfhOdd.{VcfhOdd}
-use Rattle.capi.specs.Answers.{oddAs, flag, imposedBy, answerInC, formInC, partOf, partAs, Ordered, registerAs, differencesAs}
+use Rattle.turning.specs.Turning.{turnNumber}
+use Rattle.turning.specs.declared.turn.TurnAnswer.{TurnAnswer}
+use Rattle.capi.specs.declared.VcfhTurned.{VcfhTurned}
+use Rattle.capi.specs.Answers.{oddAs, turnedAs, flag, imposedBy, formBy, answerInC, formInC, partOf, partAs, Ordered, registerAs, differencesAs}
 use Rattle.capi.specs.declared.VcfhAnswer.{VcfhAnswer}
 use Rattle.capi.specs.declared.VcfhForm.{VcfhForm}
 use Rattle.capi.specs.declared.VcfhPart.{VcfhPart}
@@ -54,13 +58,20 @@ as-shown : (o : Option Part) → partAs (shownAs o) ≡ partOf o
 as-shown none = refl
 as-shown (some p) = refl
 
-module _ (s : Shown) (o : Option Part) {r : VcfhPart} where
-  pub shows : answered s ≡ orRefused o → r ≡ partAs s → r ≡ partOf o
-  shows a e = e ∙ ap partAs (answer-is s o a) ∙ as-shown o
+-- the form that the code names, and the one that was asked for
+module _ {f form : Form} (k : f ≡ form) (h t : List ℕ) (n : ℕ) (s : Shown) {r : VcfhPart} where
+  shows : (o : Form → Option Part) → answered s ≡ orRefused (o f) → r ≡ partAs s → r ≡ partOf (o form)
+  shows o a b = b ∙ ap partAs (answer-is s (o f) a) ∙ as-shown (o f) ∙ ap (λ (x : Form). partOf (o x)) k
 
-module _ (h t : List ℕ) (n major minor i : ℕ) {f : FileFormat} (s : Shown) {r : VcfhPart} where
-  pub shows-field : f ≡ record { major = major; minor = minor } → answered s ≡ orRefused (shownField h t n (versionOf f) i) → r ≡ partAs s → r ≡ partOf (shownField h t n (version major minor) i)
-  shows-field e a b = b ∙ ap partAs (answer-is s (shownField h t n (versionOf f) i) a) ∙ as-shown (shownField h t n (versionOf f) i) ∙ ap (λ g. partOf (shownField h t n (versionOf g) i)) e
+  pub shows-entry : answered s ≡ orRefused (shownEntry f h t n) → r ≡ partAs s → r ≡ partOf (shownEntry form h t n)
+  shows-entry = shows (λ (x : Form). shownEntry x h t n)
+
+  pub shows-id : answered s ≡ orRefused (shownId f h t n) → r ≡ partAs s → r ≡ partOf (shownId form h t n)
+  shows-id = shows (λ (x : Form). shownId x h t n)
+
+  module _ (major minor i : ℕ) {v : FileFormat} (e : v ≡ record { major = major; minor = minor }) where
+    pub shows-field : answered s ≡ orRefused (shownField f h t n (versionOf v) i) → r ≡ partAs s → r ≡ partOf (shownField form h t n (version major minor) i)
+    shows-field a b = shows (λ (x : Form). shownField x h t n (versionOf v) i) a b ∙ ap (λ g. partOf (shownField form h t n (versionOf g) i)) e
 
 module _ (s : Shown) (start end : ℕ) (e : s ≡ shown.Part start end) where
   pub part-ordered : Ordered s → start ≤ end
@@ -73,54 +84,64 @@ module _ (s : Shown) where
   pub no-part : s ≡ shown.Refused → {n : ℕ} → n ≡ number refusal.InvalidEntry → record { number = n; start = 0; length = 0 } ≡ partAs s
   no-part e q = rw (q, e)
 
-pub ruleset parts = (ordered, shows, shows-field, part-ordered, part-numbers, no-part)
+pub ruleset parts = (ordered, shows-entry, shows-id, shows-field, part-ordered, part-numbers, no-part)
 
 -- Readings
 
 abbrev numbers : AnswerMeaning → VcfhAnswer
 numbers t = record { number = t .number; line = t .line; start = t .start; entries = t .entries }
 
-module _ {imposed wanted : Option Version} (e : imposed ≡ wanted) (h : List ℕ) (a : ReadAnswer) {n : ℕ} (room : ℕ) where
-  pub answers : n ≡ outcomeNumber (a .outcome) → answerMeans a ≡ readingMeans (reading limits imposed room h) → record { number = n; line = a .line; start = a .start; entries = a .entries } ≡ answerInC (reading limits wanted room h)
-  answers c d = ap (λ k. record { number = k; line = a .line; start = a .start; entries = a .entries }) c ∙ ap numbers d ∙ ap (λ i. answerInC (reading limits i room h)) e
+-- a call with the form and the version that were asked for
+module _ {f form : Form} (k : f ≡ form) {imposed wanted : Option Version} (e : imposed ≡ wanted) {h t : List ℕ} (a : ReadAnswer) {t′ : List ℕ} (call : ReadCall f imposed h t a t′) where
+  asked : ReadCall form wanted h t a t′
+  asked = subst₂ (λ (x : Form) (i : Option Version). ReadCall x i h t a t′) k e call
 
-module _ {imposed wanted : Option Version} (e : imposed ≡ wanted) (h t : List ℕ) {t′ : List ℕ} where
-  pub stored : t′ ≡ storedIn t 0 (reading limits imposed (room t) h .entries) → t′ ≡ storedIn t 0 (reading limits wanted (room t) h .entries)
-  stored s = s ∙ ap (λ i. storedIn t 0 (reading limits i (room t) h .entries)) e
+  pub answers : {n : ℕ} → n ≡ outcomeNumber (a .outcome) → record { number = n; line = a .line; start = a .start; entries = a .entries } ≡ answerInC (readInto form wanted t h)
+  answers c = ap (λ k. record { number = k; line = a .line; start = a .start; entries = a .entries }) c ∙ ap numbers (asked .answer)
+
+  pub stored : t′ ≡ storedIn form t 0 (readInto form wanted t h .entries)
+  stored = asked .table
 
 abbrev form-numbers : FormMeaning → VcfhForm
 form-numbers t = record { number = t .number; line = t .line; start = t .start; entries = t .entries; length = t .size }
 
-module _ {imposed wanted : Option Version} (e : imposed ≡ wanted) (h : List ℕ) (a : HouseAnswer) {n : ℕ} (room space : ℕ) where
-  pub form-answers : n ≡ outcomeNumber (a .outcome) → formAnswerMeans a ≡ houseMeans (reading limits imposed room h) (house limits imposed room space h)
-      → record { number = n; line = a .line; start = a .start; entries = a .entries; length = a .length } ≡ formInC (reading limits wanted room h) (house limits wanted room space h)
-  form-answers c d =
-      ap (λ k. record { number = k; line = a .line; start = a .start; entries = a .entries; length = a .length }) c
-      ∙ ap form-numbers d
-      ∙ ap (λ i. formInC (reading limits i room h) (house limits i room space h)) e
+module _ {f form : Form} (k : f ≡ form) {imposed wanted : Option Version} (e : imposed ≡ wanted) {h t o : List ℕ} (a : HouseAnswer) {t′ o′ : List ℕ} (call : HouseCall f imposed h t o a t′ o′) where
+  asked-form : HouseCall form wanted h t o a t′ o′
+  asked-form = subst₂ (λ (x : Form) (i : Option Version). HouseCall x i h t o a t′ o′) k e call
 
-module _ {imposed wanted : Option Version} (e : imposed ≡ wanted) (h t o : List ℕ) {o′ : List ℕ} where
-  pub written : o′ ≡ sets o 0 (house limits imposed (room t) (length o) h .form) → o′ ≡ sets o 0 (house limits wanted (room t) (length o) h .form)
-  written s = s ∙ ap (λ i. sets o 0 (house limits i (room t) (length o) h .form)) e
+  pub form-answers : {n : ℕ} → n ≡ outcomeNumber (a .outcome) → record { number = n; line = a .line; start = a .start; entries = a .entries; length = a .length }
+      ≡ formInC (readInto form wanted t h) (house (limitsBy form) wanted (room form t) (length o) h)
+  form-answers c = ap (λ k. record { number = k; line = a .line; start = a .start; entries = a .entries; length = a .length }) c ∙ ap form-numbers (asked-form .answer)
+
+  pub form-stored : t′ ≡ storedIn form t 0 (readInto form wanted t h .entries)
+  form-stored = asked-form .table
+
+  pub written : o′ ≡ sets o 0 (house (limitsBy form) wanted (room form t) (length o) h .form)
+  written = asked-form .output
 
 module _ (o : Outcome) (x : Refusal) {n : ℕ} where
   pub refused-number : o ≡ outcome.Refused x → n ≡ number x → n ≡ outcomeNumber o
   refused-number e a = a ∙ sym (ap outcomeNumber e)
 
-pub ruleset readings = (answers, form-answers, stored, written, refused-number)
+pub ruleset readings = (answers, stored, form-answers, form-stored, written, refused-number)
 
 -- Registers
 
 abbrev register-numbers : RegisterMeaning → VcfhRegister
 register-numbers t = record { number = t .number; line = t .line; start = t .start; entries = t .entries; constants = t .constants }
 
-module _ {imposed wanted : Option Version} (e : imposed ≡ wanted) (h : List ℕ) (a : RegisterRead) {n : ℕ} (room : ℕ) where
-  pub register-answers : n ≡ registerNumber (a .outcome) → registerAnswerMeans a ≡ registerMeans (registerOf limits imposed room h)
-      → record { number = n; line = a .line; start = a .start; entries = a .entries; constants = a .constants } ≡ registerAs (registerOf limits wanted room h)
-  register-answers c d =
-      ap (λ k. record { number = k; line = a .line; start = a .start; entries = a .entries; constants = a .constants }) c
-      ∙ ap register-numbers d
-      ∙ ap (λ i. registerAs (registerOf limits i room h)) e
+module _ {f form : Form} (k : f ≡ form) {imposed wanted : Option Version} (e : imposed ≡ wanted) {h t : List ℕ} (a : RegisterRead) {t′ : List ℕ} (call : RegisterCall f imposed h t a t′) where
+  asked-register : RegisterCall form wanted h t a t′
+  asked-register = subst₂ (λ (x : Form) (i : Option Version). RegisterCall x i h t a t′) k e call
+
+  pub register-answers : {n : ℕ} → n ≡ registerNumber (a .outcome)
+      → record { number = n; line = a .line; start = a .start; entries = a .entries; constants = a .constants } ≡ registerAs (registerOf (limitsBy form) wanted (room form t) h)
+  register-answers c = ap (λ k. record { number = k; line = a .line; start = a .start; entries = a .entries; constants = a .constants }) c ∙ ap register-numbers (asked-register .answer)
+
+  pub register-stored : t′ ≡ storedIn form t 0 (readInto form wanted t h .entries)
+  register-stored = asked-register .table
+
+pub ruleset registers = (register-answers, register-stored)
 
 pub compared : (old new : List ℕ) {d : Differences} → d ≡ listedInArrays (differing 1 old new) → record { count = d .count; wells = d .wells; old = d .old; new = d .new } ≡ differencesAs (differing 1 old new)
 compared old new e = ap (λ (x : Differences). record { count = x .count; wells = x .wells; old = x .old; new = x .new }) e
@@ -133,6 +154,15 @@ module _ (imposed major minor : ℕ) where
   is-imposed n f e = rw (imposedBy, ne-eqb imposed 0 n) (ap (λ g. some (versionOf g)) e)
 
 pub ruleset imposing = (not-imposed, is-imposed)
+
+module _ (form : ℕ) where
+  pub names-second : form ≡ 2 → Second ≡ formBy form
+  names-second e = rw (formBy, eq-eqb form 2 e)
+
+  pub names-first : (form ≡ 2 → ⊥) → First ≡ formBy form
+  names-first n = rw (formBy, ne-eqb form 2 n)
+
+pub ruleset naming = (names-second, names-first)
 
 -- UTF-8
 
@@ -147,18 +177,28 @@ pub ruleset flags = (flag-set, flag-clear)
 
 -- Oddly spelled numbers
 
-module _ (h t list : List ℕ) (major minor : ℕ) {f : FileFormat} (e : f ≡ record { major = major; minor = minor }) where
-  under : oddIn h t (versionOf f) ≡ oddIn h t (version major minor)
-  under = ap (λ (g : FileFormat). oddIn h t (versionOf g)) e
+module _ {g form : Form} (k : g ≡ form) (h t list : List ℕ) (major minor : ℕ) {f : FileFormat} (e : f ≡ record { major = major; minor = minor }) where
+  under : oddIn g h t (versionOf f) ≡ oddIn form h t (version major minor)
+  under = ap₂ (λ (x : Form) (v : FileFormat). oddIn x h t (versionOf v)) k e
 
-  pub odd-answer : {r : OddAnswer} → r ≡ oddAnswer (length list) (oddIn h t (versionOf f)) → {n : ℕ} → n ≡ oddNumber (r .outcome)
-      → record { number = n; listed = r .listed } ≡ oddAs (oddAnswer (length list) (oddIn h t (version major minor)))
+  pub odd-answer : {r : OddAnswer} → r ≡ oddAnswer (length list) (oddIn g h t (versionOf f)) → {n : ℕ} → n ≡ oddNumber (r .outcome)
+      → record { number = n; listed = r .listed } ≡ oddAs (oddAnswer (length list) (oddIn form h t (version major minor)))
   odd-answer {r} a {n} b = ap (oddOf (r .listed)) b ∙ ap oddAs (a ∙ ap (oddAnswer (length list)) under)
     where
       oddOf : ℕ → ℕ → VcfhOdd
       oddOf listed n = record { number = n; listed = listed }
 
-  pub odd-list : {list′ : List ℕ} → list′ ≡ oddList list (oddIn h t (versionOf f)) → list′ ≡ oddList list (oddIn h t (version major minor))
+  pub odd-list : {list′ : List ℕ} → list′ ≡ oddList list (oddIn g h t (versionOf f)) → list′ ≡ oddList list (oddIn form h t (version major minor))
   odd-list a = a ∙ ap (oddList list) under
 
 pub ruleset odd = (odd-answer, odd-list)
+
+-- Entries in another form
+
+pub turned-told : (a : TurnAnswer) {n : ℕ} → n ≡ turnNumber (a .outcome) → record { number = n; entries = a .entries } ≡ turnedAs a
+turned-told a e = ap (λ k. record { number = k; entries = a .entries }) e
+
+pub turned-is : {a b : TurnAnswer} → a ≡ b → {r : VcfhTurned} → r ≡ turnedAs a → r ≡ turnedAs b
+turned-is e q = q ∙ ap turnedAs e
+
+pub ruleset turnings = (turned-told, turned-is)

@@ -6,11 +6,13 @@ use mathlib.Core.Option.{Option, none, some}
 use lib.Dec.{eqb}
 use lib.ListN.{length}
 use Rattle.values.specs.Bytes.{Bytes}
-use Rattle.rules.specs.Sizes.{limits}
 use Rattle.rules.specs.Version.{Version, version}
 use Rattle.rules.specs.Reading.{Reading}
 use Rattle.rules.specs.House.{HouseReading}
 use Rattle.rules.specs.Shown.{Part}
+use Rattle.entries.specs.declared.form.Form.{Form}
+use Rattle.entries.specs.declared.form.Form.the-variants.{First, Second}
+use Rattle.entries.specs.Values.{limitsBy}
 use Rattle.entries.specs.Tables.{room}
 use Rattle.entries.specs.declared.shown.Shown.{Shown}
 use Rattle.entries.specs.declared.shown.Shown.the-variants as shown
@@ -26,6 +28,9 @@ use Rattle.capi.specs.declared.VcfhPart.{VcfhPart}
 use Rattle.spelling.specs.Odd.{outcomeNumber}
 use Rattle.spelling.specs.declared.odd.OddAnswer.{OddAnswer}
 use Rattle.capi.specs.declared.VcfhOdd.{VcfhOdd}
+use Rattle.turning.specs.Turning.{turnNumber}
+use Rattle.turning.specs.declared.turn.TurnAnswer.{TurnAnswer}
+use Rattle.capi.specs.declared.VcfhTurned.{VcfhTurned}
 use Rattle.capi.specs.declared.VcfhRegister.{VcfhRegister}
 use Rattle.capi.specs.declared.VcfhDifferences.{VcfhDifferences}
 use Rattle.sam.specs.Contigs.{Contigs, contigLines}
@@ -39,6 +44,10 @@ flag false = 0
 abbrev pub imposedBy : ℕ → ℕ → ℕ → Option Version
 imposedBy imposed major minor = elim (eqb imposed 0) [ true ↦ none | false ↦ some (version major minor) ]
 
+-- 2: the second; any other number is the first
+abbrev pub formBy : ℕ → Form
+formBy form = elim (eqb form 2) [ true ↦ Second | false ↦ First ]
+
 abbrev pub answerInC : Reading → VcfhAnswer
 answerInC r = record { number = r .number; line = r .line; start = r .start; entries = length (r .entries) }
 
@@ -47,8 +56,8 @@ abbrev pub formInC : Reading → HouseReading → VcfhForm
 formInC r f = record { number = f .number; line = f .line; start = f .start; entries = length (r .entries); length = length (f .form) }
 
 -- the dictionaries of a header that is read into a table, with slices for strings and contigs
-abbrev pub dictionariesIn : Option Version → Bytes → List ℕ → List ℕ → List ℕ → Dictionaries
-dictionariesIn imposed h t s c = dictionaries limits imposed (room t) (length s) (length c) h
+abbrev pub dictionariesIn : Form → Option Version → Bytes → List ℕ → List ℕ → List ℕ → Dictionaries
+dictionariesIn form imposed h t s c = dictionaries (limitsBy form) imposed (room form t) (length s) (length c) h
 
 abbrev pub dictionariesInC : Reading → Dictionaries → VcfhDictionaries
 dictionariesInC r d = record {
@@ -87,6 +96,9 @@ differencesAs ds = record {
 
 abbrev pub oddAs : OddAnswer → VcfhOdd
 oddAs r = record { number = outcomeNumber (r .outcome); listed = r .listed }
+
+abbrev pub turnedAs : TurnAnswer → VcfhTurned
+turnedAs r = record { number = turnNumber (r .outcome); entries = r .entries }
 
 abbrev pub contigsInC : Contigs → VcfhContigs
 contigsInC r = record { number = r .number; line = r .line; start = r .start; contigs = length (r .contigs); length = length (contigLines (r .contigs)) }

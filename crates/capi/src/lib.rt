@@ -1,4 +1,5 @@
 // The library for programs in C, Rust or Python: answers are structs of 64-bit numbers, slices pass as pointer and length.
+use entries::form::Form;
 use entries::shown::Shown;
 use header::file_format_option::FileFormatOption;
 use header::parser::Outcome;
@@ -7,13 +8,16 @@ use records::refusal::Refusal;
 use register::compare;
 use register::probe;
 use spelling::odd;
+use turning::turn;
+use turning::turn::TurnAnswer;
 ghost use mathlib.Core.Path.{_≡_};
 ghost use lib.ListN.{length};
 ghost use lib.Seq.{sets};
 ghost use Rattle.values.specs.Utf8.{isUtf8};
-ghost use Rattle.rules.specs.Sizes.{limits};
 ghost use Rattle.rules.specs.Version.{version};
 ghost use Rattle.rules.specs.House.{house};
+ghost use Rattle.entries.specs.declared.form.Form.the-variants.{First, Second};
+ghost use Rattle.entries.specs.Values.{limitsBy};
 ghost use Rattle.entries.specs.Tables.{room, stored, shownEntry, shownId, shownField};
 ghost use Rattle.header.specs.Verdicts.{imposedOf};
 ghost use Rattle.header.specs.Parsers.{outcomeNumber, readInto};
@@ -21,7 +25,8 @@ ghost use Rattle.sam.specs.Contigs.{contigLines, contigsFitting};
 ghost use Rattle.register.specs.Register.{registerOf};
 ghost use Rattle.register.specs.Compare.{differing};
 ghost use Rattle.spelling.specs.Odd.{oddIn, oddAnswer, oddList};
-ghost use Rattle.capi.specs.Answers.{flag, imposedBy, answerInC, formInC, dictionariesIn, dictionariesInC, partOf, partAs, Ordered, registerAs, differencesAs, oddAs, contigsInC};
+ghost use Rattle.turning.specs.Turning.{turnAnswer, turnTable};
+ghost use Rattle.capi.specs.Answers.{flag, imposedBy, formBy, answerInC, formInC, dictionariesIn, dictionariesInC, partOf, partAs, Ordered, registerAs, differencesAs, oddAs, turnedAs, contigsInC};
 
 // Document 01's number, 0 if accepted; the line and its start; how many entries the table keeps.
 #[repr(C)]
@@ -58,6 +63,13 @@ pub struct VcfhDictionaries {
 pub struct VcfhOdd {
     pub number: u64,
     pub listed: u64,
+}
+
+// Document 02's number, 0 if the entries are turned, and how many there are, 0 if refused.
+#[repr(C)]
+pub struct VcfhTurned {
+    pub number: u64,
+    pub entries: u64,
 }
 
 // The number, the line and its start, how many contigs were written and in how many bytes, both 0 if refused.
@@ -107,6 +119,16 @@ fn imposed_by(imposed: u64, major: u32, minor: u32) -> FileFormatOption
     FileFormatOption::Some(FileFormat::new(major, minor))
 }
 
+// 2 names the second form, any other number the first.
+fn form_of(form: u64) -> Form
+    ensures { λ r. ⌜ r ≡ formBy form ⌝ }
+{
+    if form == 2 {
+        return Form::Second;
+    }
+    Form::First
+}
+
 fn number_of(outcome: Outcome) -> u64
     ensures { λ r. ⌜ r ≡ outcomeNumber outcome ⌝ }
 {
@@ -137,6 +159,17 @@ fn part_of(shown: Shown) -> VcfhPart
     }
 }
 
+fn turned(answer: TurnAnswer) -> VcfhTurned
+    ensures { λ r. ⌜ r ≡ turnedAs answer ⌝ }
+{
+    let outcome = answer.outcome;
+    let number = outcome.number();
+    VcfhTurned {
+        number,
+        entries: answer.entries as u64,
+    }
+}
+
 // 1 if the bytes are UTF-8, else 0.
 #[no_mangle]
 pub extern "C" fn vcfh_utf8(bytes: &[u8]) -> u64
@@ -148,21 +181,23 @@ pub extern "C" fn vcfh_utf8(bytes: &[u8]) -> u64
     0
 }
 
-// Reads a header into the table, two words for each entry.
+// Reads a header into the table, two words for each entry. `form`: 1 for the first form and its limits, 2 for the second.
 #[no_mangle]
 pub extern "C" fn vcfh_read(
     header: &[u8],
     imposed: u64,
     major: u32,
     minor: u32,
+    form: u64,
     table: &mut [u64],
 ) -> VcfhAnswer
-    ensures answer { λ r. ⌜ r ≡ answerInC (readInto limits (imposedBy imposed major minor) (now (table .entry)) (now (header .entry))) ⌝ }
-    ensures table { λ _. ⌜ now (table .exit) ≡ stored (now (table .entry)) 0
-        (readInto limits (imposedBy imposed major minor) (now (table .entry)) (now (header .entry)) .entries) ⌝ }
+    ensures answer { λ r. ⌜ r ≡ answerInC (readInto (formBy form) (imposedBy imposed major minor) (now (table .entry)) (now (header .entry))) ⌝ }
+    ensures table { λ _. ⌜ now (table .exit) ≡ stored (formBy form) (now (table .entry)) 0
+        (readInto (formBy form) (imposedBy imposed major minor) (now (table .entry)) (now (header .entry)) .entries) ⌝ }
 {
     let version = imposed_by(imposed, major, minor);
-    let answer = header::parser::read(header, version, table);
+    let named = form_of(form);
+    let answer = header::parser::read(header, version, named, table);
     let outcome = answer.outcome;
     let number = number_of(outcome);
     VcfhAnswer {
@@ -180,18 +215,20 @@ pub extern "C" fn vcfh_house(
     imposed: u64,
     major: u32,
     minor: u32,
+    form: u64,
     table: &mut [u64],
     out: &mut [u8],
 ) -> VcfhForm
-    ensures answer { λ r. ⌜ r ≡ formInC (readInto limits (imposedBy imposed major minor) (now (table .entry)) (now (header .entry)))
-        (house limits (imposedBy imposed major minor) (room (now (table .entry))) (length (now (out .entry))) (now (header .entry))) ⌝ }
-    ensures table { λ _. ⌜ now (table .exit) ≡ stored (now (table .entry)) 0
-        (readInto limits (imposedBy imposed major minor) (now (table .entry)) (now (header .entry)) .entries) ⌝ }
+    ensures answer { λ r. ⌜ r ≡ formInC (readInto (formBy form) (imposedBy imposed major minor) (now (table .entry)) (now (header .entry)))
+        (house (limitsBy (formBy form)) (imposedBy imposed major minor) (room (formBy form) (now (table .entry))) (length (now (out .entry))) (now (header .entry))) ⌝ }
+    ensures table { λ _. ⌜ now (table .exit) ≡ stored (formBy form) (now (table .entry)) 0
+        (readInto (formBy form) (imposedBy imposed major minor) (now (table .entry)) (now (header .entry)) .entries) ⌝ }
     ensures output { λ _. ⌜ now (out .exit) ≡ sets (now (out .entry)) 0
-        (house limits (imposedBy imposed major minor) (room (now (table .entry))) (length (now (out .entry))) (now (header .entry)) .form) ⌝ }
+        (house (limitsBy (formBy form)) (imposedBy imposed major minor) (room (formBy form) (now (table .entry))) (length (now (out .entry))) (now (header .entry)) .form) ⌝ }
 {
     let version = imposed_by(imposed, major, minor);
-    let answer = house::form::house_form(header, version, table, out);
+    let named = form_of(form);
+    let answer = house::form::house_form(header, version, named, table, out);
     let outcome = answer.outcome;
     let number = number_of(outcome);
     VcfhForm {
@@ -210,21 +247,30 @@ pub extern "C" fn vcfh_dictionaries(
     imposed: u64,
     major: u32,
     minor: u32,
+    form: u64,
     table: &mut [u64],
     strings: &mut [u64],
     contigs: &mut [u64],
 ) -> VcfhDictionaries
-    ensures answer { λ r. ⌜ r ≡ dictionariesInC (readInto limits (imposedBy imposed major minor) (now (table .entry)) (now (header .entry)))
-        (dictionariesIn (imposedBy imposed major minor) (now (header .entry)) (now (table .entry)) (now (strings .entry)) (now (contigs .entry))) ⌝ }
-    ensures table { λ _. ⌜ now (table .exit) ≡ stored (now (table .entry)) 0
-        (readInto limits (imposedBy imposed major minor) (now (table .entry)) (now (header .entry)) .entries) ⌝ }
+    ensures answer { λ r. ⌜ r ≡ dictionariesInC (readInto (formBy form) (imposedBy imposed major minor) (now (table .entry)) (now (header .entry)))
+        (dictionariesIn (formBy form) (imposedBy imposed major minor) (now (header .entry)) (now (table .entry)) (now (strings .entry)) (now (contigs .entry))) ⌝ }
+    ensures table { λ _. ⌜ now (table .exit) ≡ stored (formBy form) (now (table .entry)) 0
+        (readInto (formBy form) (imposedBy imposed major minor) (now (table .entry)) (now (header .entry)) .entries) ⌝ }
     ensures strings { λ _. ⌜ now (strings .exit) ≡ sets (now (strings .entry)) 0
-        (dictionariesIn (imposedBy imposed major minor) (now (header .entry)) (now (table .entry)) (now (strings .entry)) (now (contigs .entry)) .strings) ⌝ }
+        (dictionariesIn (formBy form) (imposedBy imposed major minor) (now (header .entry)) (now (table .entry)) (now (strings .entry)) (now (contigs .entry)) .strings) ⌝ }
     ensures contigs { λ _. ⌜ now (contigs .exit) ≡ sets (now (contigs .entry)) 0
-        (dictionariesIn (imposedBy imposed major minor) (now (header .entry)) (now (table .entry)) (now (strings .entry)) (now (contigs .entry)) .contigs) ⌝ }
+        (dictionariesIn (formBy form) (imposedBy imposed major minor) (now (header .entry)) (now (table .entry)) (now (strings .entry)) (now (contigs .entry)) .contigs) ⌝ }
 {
     let version = imposed_by(imposed, major, minor);
-    let answer = dictionary::string_maps::dictionaries(header, version, table, strings, contigs);
+    let named = form_of(form);
+    let answer = dictionary::string_maps::dictionaries(
+        header,
+        version,
+        named,
+        table,
+        strings,
+        contigs,
+    );
     let outcome = answer.outcome;
     let number = outcome.number();
     VcfhDictionaries {
@@ -244,14 +290,16 @@ pub extern "C" fn vcfh_register(
     imposed: u64,
     major: u32,
     minor: u32,
+    form: u64,
     table: &mut [u64],
 ) -> VcfhRegister
-    ensures answer { λ r. ⌜ r ≡ registerAs (registerOf limits (imposedBy imposed major minor) (room (now (table .entry))) (now (header .entry))) ⌝ }
-    ensures table { λ _. ⌜ now (table .exit) ≡ stored (now (table .entry)) 0
-        (readInto limits (imposedBy imposed major minor) (now (table .entry)) (now (header .entry)) .entries) ⌝ }
+    ensures answer { λ r. ⌜ r ≡ registerAs (registerOf (limitsBy (formBy form)) (imposedBy imposed major minor) (room (formBy form) (now (table .entry))) (now (header .entry))) ⌝ }
+    ensures table { λ _. ⌜ now (table .exit) ≡ stored (formBy form) (now (table .entry)) 0
+        (readInto (formBy form) (imposedBy imposed major minor) (now (table .entry)) (now (header .entry)) .entries) ⌝ }
 {
     let version = imposed_by(imposed, major, minor);
-    let answer = probe::register(header, version, table);
+    let named = form_of(form);
+    let answer = probe::register(header, version, named, table);
     let outcome = answer.outcome;
     let number = outcome.number();
     let constants = answer.constants;
@@ -304,19 +352,19 @@ pub extern "C" fn vcfh_contigs(sam: &[u8], out: &mut [u8]) -> VcfhContigs
 
 // The line of an entry, from 0, or the sample name.
 #[no_mangle]
-pub extern "C" fn vcfh_entry(header: &[u8], table: &[u64], entry: u64) -> VcfhPart
-    ensures { λ r. ⌜ r ≡ partOf (shownEntry (now (header .entry)) (now (table .entry)) entry) ⌝ }
+pub extern "C" fn vcfh_entry(header: &[u8], table: &[u64], form: u64, entry: u64) -> VcfhPart
+    ensures { λ r. ⌜ r ≡ partOf (shownEntry (formBy form) (now (header .entry)) (now (table .entry)) entry) ⌝ }
 {
-    let shown = header::shown::entry(header, table, entry as usize);
+    let shown = header::shown::entry(header, table, form_of(form), entry as usize);
     part_of(shown)
 }
 
 // The ID of an entry, without quotes.
 #[no_mangle]
-pub extern "C" fn vcfh_id(header: &[u8], table: &[u64], entry: u64) -> VcfhPart
-    ensures { λ r. ⌜ r ≡ partOf (shownId (now (header .entry)) (now (table .entry)) entry) ⌝ }
+pub extern "C" fn vcfh_id(header: &[u8], table: &[u64], form: u64, entry: u64) -> VcfhPart
+    ensures { λ r. ⌜ r ≡ partOf (shownId (formBy form) (now (header .entry)) (now (table .entry)) entry) ⌝ }
 {
-    let shown = header::shown::id(header, table, entry as usize);
+    let shown = header::shown::id(header, table, form_of(form), entry as usize);
     part_of(shown)
 }
 
@@ -325,15 +373,23 @@ pub extern "C" fn vcfh_id(header: &[u8], table: &[u64], entry: u64) -> VcfhPart
 pub extern "C" fn vcfh_field(
     header: &[u8],
     table: &[u64],
+    form: u64,
     entry: u64,
     major: u32,
     minor: u32,
     field: u64,
 ) -> VcfhPart
-    ensures { λ r. ⌜ r ≡ partOf (shownField (now (header .entry)) (now (table .entry)) entry (version major minor) field) ⌝ }
+    ensures { λ r. ⌜ r ≡ partOf (shownField (formBy form) (now (header .entry)) (now (table .entry)) entry (version major minor) field) ⌝ }
 {
     let under = FileFormat::new(major, minor);
-    let shown = header::shown::field(header, table, entry as usize, under, field as usize);
+    let shown = header::shown::field(
+        header,
+        table,
+        form_of(form),
+        entry as usize,
+        under,
+        field as usize,
+    );
     part_of(shown)
 }
 
@@ -342,19 +398,38 @@ pub extern "C" fn vcfh_field(
 pub extern "C" fn vcfh_odd(
     header: &[u8],
     table: &[u64],
+    form: u64,
     major: u32,
     minor: u32,
     list: &mut [u64],
 ) -> VcfhOdd
-    ensures answer { λ r. ⌜ r ≡ oddAs (oddAnswer (length (now (list .entry))) (oddIn (now (header .entry)) (now (table .entry)) (version major minor))) ⌝ }
-    ensures list { λ _. ⌜ now (list .exit) ≡ oddList (now (list .entry)) (oddIn (now (header .entry)) (now (table .entry)) (version major minor)) ⌝ }
+    ensures answer { λ r. ⌜ r ≡ oddAs (oddAnswer (length (now (list .entry))) (oddIn (formBy form) (now (header .entry)) (now (table .entry)) (version major minor))) ⌝ }
+    ensures list { λ _. ⌜ now (list .exit) ≡ oddList (now (list .entry)) (oddIn (formBy form) (now (header .entry)) (now (table .entry)) (version major minor)) ⌝ }
 {
     let under = FileFormat::new(major, minor);
-    let answer = odd::odd_entries(header, table, under, list);
+    let answer = odd::odd_entries(header, table, form_of(form), under, list);
     let outcome = answer.outcome;
     let number = outcome.number();
     VcfhOdd {
         number,
         listed: answer.listed as u64,
     }
+}
+
+// The entries of a table of the first form, in one of the second.
+#[no_mangle]
+pub extern "C" fn vcfh_to_second(header: &[u8], first: &[u64], second: &mut [u64]) -> VcfhTurned
+    ensures answer { λ r. ⌜ r ≡ turnedAs (turnAnswer First Second (now (header .entry)) (now (first .entry)) (now (second .entry))) ⌝ }
+    ensures table { λ _. ⌜ now (second .exit) ≡ turnTable First Second (now (header .entry)) (now (first .entry)) (now (second .entry)) ⌝ }
+{
+    turned(turn::to_second(header, first, second))
+}
+
+// The entries of a table of the second form, in one of the first.
+#[no_mangle]
+pub extern "C" fn vcfh_to_first(header: &[u8], second: &[u64], first: &mut [u64]) -> VcfhTurned
+    ensures answer { λ r. ⌜ r ≡ turnedAs (turnAnswer Second First (now (header .entry)) (now (second .entry)) (now (first .entry))) ⌝ }
+    ensures table { λ _. ⌜ now (first .exit) ≡ turnTable Second First (now (header .entry)) (now (second .entry)) (now (first .entry)) ⌝ }
+{
+    turned(turn::to_first(header, second, first))
 }

@@ -2,6 +2,8 @@
 // number: each, and one past the last), then words to forge (no number: the word that reading left stays).
 use crate::text;
 use crate::words;
+use entries::form::Form;
+use entries::table;
 use header::file_format_option::FileFormatOption;
 use header::parser;
 use header::shown;
@@ -30,8 +32,8 @@ fn put_shown(out: &mut [u8], at: usize, shown: Shown) -> usize {
 }
 
 // The ID's part, and its bytes.
-fn put_id(out: &mut [u8], at: usize, header: &[u8], table: &[u64], n: usize) -> usize {
-    let id = shown::id(header, table, n);
+fn put_id(out: &mut [u8], at: usize, header: &[u8], table: &[u64], form: Form, n: usize) -> usize {
+    let id = shown::id(header, table, form, n);
     let labelled = output::put_bytes(out, at, b" id=");
     let placed = put_shown(out, labelled, id);
     let next = output::put_byte(out, placed, b' ');
@@ -44,13 +46,14 @@ fn put_fields(
     at: usize,
     header: &[u8],
     table: &[u64],
+    form: Form,
     n: usize,
     version: FileFormat,
 ) -> usize {
     let mut next = at;
     let mut i = 0;
     while i < 64 {
-        let shown = shown::field(header, table, n, version, i);
+        let shown = shown::field(header, table, form, n, version, i);
         next = output::put_byte(out, next, b' ');
         next = put_shown(out, next, shown);
         match shown {
@@ -62,11 +65,18 @@ fn put_fields(
 }
 
 // The entry's number, its part, and its ID.
-fn put_places(out: &mut [u8], at: usize, header: &[u8], table: &[u64], n: usize) -> usize {
+fn put_places(
+    out: &mut [u8],
+    at: usize,
+    header: &[u8],
+    table: &[u64],
+    form: Form,
+    n: usize,
+) -> usize {
     let numbered = text::put_number(out, at, b"", n as u64);
     let labelled = output::put_bytes(out, numbered, b" entry=");
-    let placed = put_shown(out, labelled, shown::entry(header, table, n));
-    put_id(out, placed, header, table, n)
+    let placed = put_shown(out, labelled, shown::entry(header, table, form, n));
+    put_id(out, placed, header, table, form, n)
 }
 
 fn put_entry(
@@ -74,44 +84,61 @@ fn put_entry(
     at: usize,
     header: &[u8],
     table: &[u64],
+    form: Form,
     n: usize,
     version: FileFormat,
     field: IntegerRead,
 ) -> usize {
-    let placed = put_places(out, at, header, table, n);
+    let placed = put_places(out, at, header, table, form, n);
     match field {
         IntegerRead::Value(i, _) => {
             let next = output::put_bytes(out, placed, b" fields: ");
             put_shown(
                 out,
                 next,
-                shown::field(header, table, n, version, i as usize),
+                shown::field(header, table, form, n, version, i as usize),
             )
         }
         IntegerRead::Refused => {
             let next = output::put_bytes(out, placed, b" fields:");
-            put_fields(out, next, header, table, n, version)
+            put_fields(out, next, header, table, form, n, version)
         }
     }
 }
 
-// How many entries a view steps over, then each entry.
+// An entry on a line of its own.
+fn put_line(
+    out: &mut [u8],
+    at: usize,
+    header: &[u8],
+    table: &[u64],
+    form: Form,
+    n: usize,
+    version: FileFormat,
+    field: IntegerRead,
+) -> usize {
+    let next = output::put_byte(out, at, b'\n');
+    put_entry(out, next, header, table, form, n, version, field)
+}
+
+// How many entries a view steps over, then each entry, and one past the last.
 fn put_entries(
     out: &mut [u8],
     header: &[u8],
     table: &[u64],
+    form: Form,
     version: FileFormat,
     field: IntegerRead,
 ) -> usize {
-    let mut next = text::put_number(out, 0, b"steps=", view::count_from(header, table, 0) as u64);
-    let entries = table.len() / 2;
+    let steps = view::count_from(header, table, form, 0);
+    let mut next = text::put_number(out, 0, b"steps=", steps as u64);
+    let entries = table::count(table, form);
     let mut n = 0;
-    while n <= entries {
-        next = output::put_byte(out, next, b'\n');
-        next = put_entry(out, next, header, table, n, version, field);
+    while n < entries {
+        next = put_line(out, next, header, table, form, n, version, field);
         n += 1;
     }
-    next
+    put_line(out, next, header, table, form, entries, version, field)
 }
 
 fn forge_word(table: &mut [u64], k: usize, word: IntegerRead) {
@@ -134,13 +161,23 @@ pub fn forge(table: &mut [u64], asked: &[u8]) {
 
 // Reads the header into the table, forges words of that, and puts what the calls show.
 fn put_calls(out: &mut [u8], header: &[u8], asked: &[u8], table: &mut [u64]) -> usize {
-    parser::read(header, FileFormatOption::None, table);
+    let form = words::form(asked);
+    parser::read(header, FileFormatOption::None, form, table);
     forge(table, asked);
     let version = words::version(asked, 1);
     let field = words::number(asked, 4);
     match words::number(asked, 3) {
-        IntegerRead::Value(n, _) => put_entry(out, 0, header, table, n as usize, version, field),
-        IntegerRead::Refused => put_entries(out, header, table, version, field),
+        IntegerRead::Value(n, _) => put_entry(
+            out,
+            0,
+            header,
+            table,
+            form,
+            n as usize,
+            version,
+            field,
+        ),
+        IntegerRead::Refused => put_entries(out, header, table, form, version, field),
     }
 }
 

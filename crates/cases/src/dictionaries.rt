@@ -69,6 +69,7 @@ fn put_dictionaries(
         string_maps::dictionaries(
             header,
             words::imposed(asked, 1),
+            words::form(asked),
             &mut table[..t],
             &mut strings[..s],
             &mut contigs[..c],

@@ -2,6 +2,7 @@
 use crate::reads;
 use crate::text;
 use crate::words;
+use entries::form::Form;
 use header::file_format_option::FileFormatOption;
 use header::parser::Outcome;
 use house::form;
@@ -67,6 +68,7 @@ fn put_form(
     out: &mut [u8],
     header: &[u8],
     imposed: FileFormatOption,
+    stored: Form,
     table: &mut [u64],
     room: usize,
     form: &mut [u8],
@@ -77,7 +79,7 @@ fn put_form(
     blank(form);
     let at = put_answer(
         out,
-        form::house_form(header, imposed, &mut table[..room], form),
+        form::house_form(header, imposed, stored, &mut table[..room], form),
     );
     let changed = text::put_number(out, at, b" changed=", reads::written_end(table) as u64);
     put_written(out, changed, form)
@@ -93,6 +95,7 @@ pub fn put(out: &mut [u8], header: &[u8], asked: &[u8], form: &mut [u8]) -> usiz
         out,
         header,
         words::imposed(asked, 1),
+        words::form(asked),
         &mut table,
         words::size(asked, 2),
         &mut form[..size],

@@ -5,15 +5,25 @@ use crate::reads;
 use crate::text;
 use crate::words;
 use capi::VcfhPart;
+use entries::form::Form;
 use records::file_format;
 use records::file_format::FileFormatRead;
 use values::bytes;
 
-// What goes to the library as a version: where none is imposed, numbers that are to be overlooked.
+// What goes to the library as a version and a form: where none is imposed, numbers that are to be overlooked.
 struct Imposed {
     imposed: u64,
     major: u32,
     minor: u32,
+    form: u64,
+}
+
+// Any number but 2 names the first form.
+fn form_of(asked: &[u8]) -> u64 {
+    match words::form(asked) {
+        Form::First => 9,
+        Form::Second => 2,
+    }
 }
 
 fn imposed_by(asked: &[u8]) -> Imposed {
@@ -22,11 +32,13 @@ fn imposed_by(asked: &[u8]) -> Imposed {
             imposed: 1,
             major: version.major,
             minor: version.minor,
+            form: form_of(asked),
         },
         FileFormatRead::Refused => Imposed {
             imposed: 0,
             major: 9,
             minor: 8,
+            form: form_of(asked),
         },
     }
 }
@@ -35,7 +47,14 @@ fn put_reading(out: &mut [u8], header: &[u8], v: Imposed, table: &mut [u64], roo
     if table.len() < room {
         return 0;
     }
-    let a = capi::vcfh_read(header, v.imposed, v.major, v.minor, &mut table[..room]);
+    let a = capi::vcfh_read(
+        header,
+        v.imposed,
+        v.major,
+        v.minor,
+        v.form,
+        &mut table[..room],
+    );
     reads::put_place(
         out,
         a.number,
@@ -74,6 +93,7 @@ fn put_answer(
         v.imposed,
         v.major,
         v.minor,
+        v.form,
         &mut table[..room],
         form,
     );
@@ -120,15 +140,26 @@ fn put_parts(out: &mut [u8], header: &[u8], asked: &[u8], table: &[u64]) -> usiz
     let entry = words::size(asked, 3) as u64;
     let field = words::size(asked, 4) as u64;
     let v = words::version(asked, 1);
-    let shown = put_part(out, 0, b"entry ", capi::vcfh_entry(header, table, entry));
-    let named = put_part(out, shown, b", id ", capi::vcfh_id(header, table, entry));
-    let part = capi::vcfh_field(header, table, entry, v.major, v.minor, field);
+    let form = form_of(asked);
+    let shown = put_part(
+        out,
+        0,
+        b"entry ",
+        capi::vcfh_entry(header, table, form, entry),
+    );
+    let named = put_part(
+        out,
+        shown,
+        b", id ",
+        capi::vcfh_id(header, table, form, entry),
+    );
+    let part = capi::vcfh_field(header, table, form, entry, v.major, v.minor, field);
     put_part(out, named, b", field ", part)
 }
 
 // Those of the entries that reading leaves.
 fn put_read_parts(out: &mut [u8], header: &[u8], asked: &[u8], table: &mut [u64]) -> usize {
-    capi::vcfh_read(header, 0, 0, 0, table);
+    capi::vcfh_read(header, 0, 0, 0, form_of(asked), table);
     put_parts(out, header, asked, table)
 }
 
@@ -141,10 +172,10 @@ fn put_shown(out: &mut [u8], header: &[u8], asked: &[u8], table: &mut [u64], siz
 
 pub fn put(out: &mut [u8], input: &[u8], asked: &[u8], form: &mut [u8]) -> usize {
     let what = words::word(asked, 0);
-    if bytes::same(what, b"c-read") {
+    if words::is_asked(asked, b"c-read") {
         return put_read(out, input, asked);
     }
-    if bytes::same(what, b"c-form") {
+    if words::is_asked(asked, b"c-form") {
         return put_sized_form(out, input, asked, form);
     }
     if bytes::same(what, b"c-utf8") {

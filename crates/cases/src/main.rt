@@ -9,19 +9,21 @@ mod odd;
 mod reads;
 mod registers;
 mod text;
+mod turns;
 mod value;
 mod words;
 
+use entries::form::Form;
 use text::nth;
 use values::bytes;
 ghost use mathlib.Core.Path.{_≡_};
 ghost use lib.ListN.{length};
 
-// Room for a header that is two bytes too long. As with `io::buffer`, the contract gives only the length.
-fn longest_buffer() -> [u8; 1048577]
-    ensures { λ r. ⌜ 1048577 ≡ length r ⌝ }
+// Room for a header that is too long for the first form. As with `io::buffer`, the contract gives only the length.
+fn longest_buffer() -> [u8; 1200000]
+    ensures { λ r. ⌜ 1200000 ≡ length r ⌝ }
 {
-    [0; 1048577]
+    [0; 1200000]
 }
 
 fn say(text: &[u8]) {
@@ -35,25 +37,31 @@ fn say_number(n: u64) {
 // What comes of the input: the first word says whom it is asked of.
 fn answer(asked: &[u8], input: &[u8], form: &mut [u8], out: &mut [u8]) -> usize {
     let what = words::word(asked, 0);
-    if bytes::same(what, b"read") {
+    if words::is_asked(asked, b"read") {
         return reads::put(out, input, asked);
     }
-    if bytes::same(what, b"form") {
+    if words::is_asked(asked, b"form") {
         return forms::put(out, input, asked, form);
     }
-    if bytes::same(what, b"show") {
+    if words::is_asked(asked, b"show") {
         return calls::put(out, input, asked);
     }
-    if bytes::same(what, b"dictionaries") {
+    if words::is_asked(asked, b"dictionaries") {
         return dictionaries::put(out, input, asked);
     }
-    if bytes::same(what, b"register") {
+    if words::is_asked(asked, b"register") {
         return registers::put(out, input, asked);
     }
-    if bytes::same(what, b"odd") {
+    if words::is_asked(asked, b"odd") {
         return odd::put(out, input, asked);
     }
-    if bytes::same(what, b"contigs") {
+    if words::is_asked(asked, b"to-first") {
+        return turns::put(out, input, asked, Form::Second);
+    }
+    if words::is_asked(asked, b"to-second") {
+        return turns::put(out, input, asked, Form::First);
+    }
+    if words::is_asked(asked, b"contigs") {
         return contigs::put(out, input, asked, form);
     }
     if bytes::starts_with(what, b"c-") {

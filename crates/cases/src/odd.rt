@@ -3,6 +3,7 @@
 use crate::calls;
 use crate::text;
 use crate::words;
+use entries::form::Form;
 use header::file_format_option::FileFormatOption;
 use header::parser;
 use records::file_format::FileFormat;
@@ -24,10 +25,11 @@ fn put_answer(
     out: &mut [u8],
     header: &[u8],
     table: &[u64],
+    form: Form,
     version: FileFormat,
     list: &mut [u64],
 ) -> usize {
-    let answer = odd::odd_entries(header, table, version, list);
+    let answer = odd::odd_entries(header, table, form, version, list);
     let outcome = answer.outcome;
     let numbered = text::put_number(out, 0, b"number=", outcome.number());
     let listed = text::put_number(out, numbered, b" listed=", answer.listed as u64);
@@ -42,9 +44,10 @@ fn put_odd(
     table: &mut [u64],
     list: &mut [u64],
 ) -> usize {
-    parser::read(header, FileFormatOption::None, table);
+    let form = words::form(asked);
+    parser::read(header, FileFormatOption::None, form, table);
     calls::forge(table, asked);
-    put_answer(out, header, table, words::version(asked, 1), list)
+    put_answer(out, header, table, form, words::version(asked, 1), list)
 }
 
 // The same with the first words of the list.

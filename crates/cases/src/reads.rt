@@ -1,6 +1,7 @@
 // What a reading answers, and which of the table's words it writes. Asked: the version imposed and the table's words.
 use crate::text;
 use crate::words;
+use entries::form::Form;
 use header::file_format_option::FileFormatOption;
 use header::parser;
 use header::parser::Outcome;
@@ -93,13 +94,14 @@ fn put_reading(
     out: &mut [u8],
     header: &[u8],
     imposed: FileFormatOption,
+    form: Form,
     table: &mut [u64],
     room: usize,
 ) -> usize {
     if table.len() < room {
         return 0;
     }
-    put_answer(out, parser::read(header, imposed, &mut table[..room]))
+    put_answer(out, parser::read(header, imposed, form, &mut table[..room]))
 }
 
 pub fn put(out: &mut [u8], header: &[u8], asked: &[u8]) -> usize {
@@ -108,6 +110,7 @@ pub fn put(out: &mut [u8], header: &[u8], asked: &[u8]) -> usize {
         out,
         header,
         words::imposed(asked, 1),
+        words::form(asked),
         &mut table,
         words::size(asked, 2),
     );

@@ -2,6 +2,7 @@
 use crate::reads;
 use crate::text;
 use crate::words;
+use entries::form::Form;
 use header::file_format_option::FileFormatOption;
 use register::probe;
 use register::probe::RegisterRead;
@@ -37,13 +38,17 @@ fn put_register(
     out: &mut [u8],
     header: &[u8],
     imposed: FileFormatOption,
+    form: Form,
     table: &mut [u64],
     room: usize,
 ) -> usize {
     if table.len() < room {
         return 0;
     }
-    put_answer(out, probe::register(header, imposed, &mut table[..room]))
+    put_answer(
+        out,
+        probe::register(header, imposed, form, &mut table[..room]),
+    )
 }
 
 pub fn put(out: &mut [u8], header: &[u8], asked: &[u8]) -> usize {
@@ -52,6 +57,7 @@ pub fn put(out: &mut [u8], header: &[u8], asked: &[u8]) -> usize {
         out,
         header,
         words::imposed(asked, 1),
+        words::form(asked),
         &mut table,
         words::size(asked, 2),
     );

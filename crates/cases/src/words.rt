@@ -1,14 +1,45 @@
 // The words of what is asked, which spaces part.
 use crate::text;
+use entries::form::Form;
 use header::file_format_option::FileFormatOption;
 use records::file_format;
 use records::file_format::FileFormat;
 use records::file_format::FileFormatRead;
+use values::bytes;
 use values::integer;
 use values::integer::IntegerRead;
 
 pub fn word(asked: &[u8], n: usize) -> &[u8] {
     text::nth(asked, b' ', n)
+}
+
+// Whether the first word ends in 2, which names the second form.
+fn names_second(asked: &[u8]) -> bool {
+    let first = word(asked, 0);
+    if first.len() == 0 {
+        return false;
+    }
+    let last = first.len() - 1;
+    first[last] == b'2'
+}
+
+pub fn form(asked: &[u8]) -> Form {
+    if names_second(asked) {
+        return Form::Second;
+    }
+    Form::First
+}
+
+// Whether this is asked, in either form.
+pub fn is_asked(asked: &[u8], what: &[u8]) -> bool {
+    let first = word(asked, 0);
+    if !bytes::starts_with(first, what) {
+        return false;
+    }
+    if first.len() == what.len() {
+        return true;
+    }
+    bytes::same(bytes::part(first, what.len(), first.len()), b"2")
 }
 
 // A word that is no version imposes none.

@@ -11,6 +11,7 @@ use Rattle.rules.specs.Answer.{ok, refuse}
 use Rattle.rules.specs.Known.{isIn}
 use Rattle.rules.specs.Columns.{Columns, split, readColumns}
 use Rattle.rules.specs.Entry.{Entry, columnsKind, sampleKind, plainEntry, sampleEntries}
+use Rattle.entries.specs.declared.form.Form.{Form}
 use Rattle.entries.specs.Tables.{putAll}
 use Rattle.columns.specs.declared.header_line.ColumnsRead.{ColumnsRead}
 use Rattle.columns.specs.declared.header_line.ColumnsRead.the-variants as read
@@ -43,5 +44,5 @@ unfoldable pub nameEntries : Bytes → ℕ → List Entry
 nameEntries s start = elim (leb 46 (length s)) [ true ↦ sampleEntries (start + 46) (split (drop 46 s)) | false ↦ [] ]
 
 -- the table t with the entries of the line s, which stands at `start` in its header, from number n on
-unfoldable pub columnsPut : Bytes → ℕ → ℕ → List ℕ → List ℕ
-columnsPut s start n t = putAll t n (plainEntry columnsKind start (length s) ∷ nameEntries s start)
+unfoldable pub columnsPut : Form → Bytes → ℕ → ℕ → List ℕ → List ℕ
+columnsPut form s start n t = putAll form t n (plainEntry columnsKind start (length s) ∷ nameEntries s start)

@@ -1,5 +1,6 @@
 // The column line: its fixed columns and its sample names, and their entries.
 use entries::entry::Entry;
+use entries::form::Form;
 use entries::kind;
 use entries::table;
 use values::bytes;
@@ -101,8 +102,8 @@ pub fn parse_header(s: &[u8]) -> ColumnsRead
 }
 
 // One entry for each name after FORMAT, from number n on, as far as there is room.
-fn write_samples(h: &[u8], start: usize, end: usize, n: usize, table: &mut [u64])
-    ensures { λ _. ⌜ now (table .exit) ≡ putAll (now (table .entry)) n (nameEntries (part (now (h .entry)) start end) start) ⌝ }
+fn write_samples(h: &[u8], start: usize, end: usize, n: usize, table: &mut [u64], form: Form)
+    ensures { λ _. ⌜ now (table .exit) ≡ putAll form (now (table .entry)) n (nameEntries (part (now (h .entry)) start end) start) ⌝ }
 {
     let line = bytes::part(h, start, end);
     if line.len() < NAMES_START {
@@ -114,6 +115,7 @@ fn write_samples(h: &[u8], start: usize, end: usize, n: usize, table: &mut [u64]
         let tab = bytes::find(line, from, b'\t');
         if !table::put(
             table,
+            form,
             k,
             Entry::plain(kind::SAMPLE, start + from, tab - from),
         ) {
@@ -129,12 +131,17 @@ fn write_samples(h: &[u8], start: usize, end: usize, n: usize, table: &mut [u64]
 
 // The entry of the column line that stands from `start` to `end`, from number n on, and those of its samples, as far as there
 // is room.
-pub fn write_columns(h: &[u8], start: usize, end: usize, n: usize, table: &mut [u64])
-    ensures { λ _. ⌜ now (table .exit) ≡ columnsPut (part (now (h .entry)) start end) start n (now (table .entry)) ⌝ }
+pub fn write_columns(h: &[u8], start: usize, end: usize, n: usize, table: &mut [u64], form: Form)
+    ensures { λ _. ⌜ now (table .exit) ≡ columnsPut form (part (now (h .entry)) start end) start n (now (table .entry)) ⌝ }
 {
     let line = bytes::part(h, start, end);
-    if !table::put(table, n, Entry::plain(kind::COLUMNS, start, line.len())) {
+    if !table::put(
+        table,
+        form,
+        n,
+        Entry::plain(kind::COLUMNS, start, line.len()),
+    ) {
         return;
     }
-    write_samples(h, start, end, n + 1, table);
+    write_samples(h, start, end, n + 1, table, form);
 }

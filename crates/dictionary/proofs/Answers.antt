@@ -1,32 +1,28 @@
 -- What a dictionary call answers is what the rules say. Assumes nothing.
-use Prim.Native.Nat.{ℕ, suc, _/_, _≤_, _<_}
+use Prim.Native.Nat.{ℕ, suc, _/_, _<_}
 use native.Mathlib.Omega.{arith}
 use mathlib.Core.Path.{_≡_, refl, sym, ap, subst, _∙_}
 use mathlib.Core.List.{List, []}
-use mathlib.Core.Option.{Option, none, some}
+use mathlib.Core.Option.{Option, some}
 use lib.ListN.{length}
 use lib.Seq.{sets}
 use Rattle.values.specs.Bytes.{Bytes}
-use Rattle.values.proofs.Lists.{none-not, some-is}
 use Rattle.rules.specs.Answer.{first}
-use Rattle.rules.specs.Sizes.{limits}
-use Rattle.rules.specs.Version.{Version, inForce}
-use Rattle.rules.specs.Record.{Record}
-use Rattle.rules.specs.Columns.{Columns}
+use Rattle.rules.specs.Version.{Version}
 use Rattle.rules.specs.Reading.{State, empty, ready, done, Reading}
-use Rattle.rules.proofs.House.{accepted-good}
 use Rattle.rules.proofs.Trace.{header-traced}
-use Rattle.rules.proofs.Stands.{reading-stands, reading-fits, accepted-short}
 use Rattle.records.specs.Formats.{versionOf}
 use Rattle.records.specs.Refusals.{number}
 use Rattle.records.specs.declared.refusal.Refusal.{Refusal}
 use Rattle.records.specs.declared.file_format.FileFormat.{FileFormat}
 use Rattle.records.proofs.Refusals.{number-suc}
-use Rattle.entries.specs.Tables.{room, firstEntries, entriesIn}
-use Rattle.entries.proofs.Stored.{entries-stored, first-packed}
+use Rattle.entries.specs.declared.form.Form.{Form}
+use Rattle.entries.specs.Values.{limitsBy}
+use Rattle.entries.specs.Tables.{room, firstEntries}
+use Rattle.header.proofs.Callers.{Read, read-line, read-start, read-entries, read-refused, read-accepted, read-records, read-kept, read-good}
 use Rattle.header.specs.declared.parser.Outcome.the-variants as read-outcome
 use Rattle.header.specs.declared.parser.ReadAnswer.{ReadAnswer}
-use Rattle.header.specs.Parsers.{AnswerMeaning, outcomeNumber as readNumber, outcomeSays as readSays, answerMeans, acceptedIn, readingMeans, readInto, ReadCall}
+use Rattle.header.specs.Parsers.{AnswerMeaning, outcomeSays as readSays, answerMeans, acceptedIn, readingMeans, readInto, ReadCall}
 use Rattle.dictionary.specs.Dictionary.{Line, firstLines, pairs, refusal, linesOf, Dictionaries, refusedBy, numbering, dictionariesOf, dictionaries}
 use Rattle.dictionary.specs.Lines.{entryLines, tableLines, stringLines, contigLines}
 use Rattle.dictionary.specs.Answers.{dictionaryNumber, dictionaryAnswerMeans, dictionariesMean, DictionaryCall, judgedOf, pairsWritten, NumbersBoth, dictionaryRefusedAs, answerOf, AnswersBoth}
@@ -39,7 +35,6 @@ use Rattle.dictionary.specs.declared.string_maps.DictionaryOutcome.the-v
 use Rattle.dictionary.specs.declared.string_maps.DictionaryAnswer.{DictionaryAnswer}
 use Rattle.dictionary.proofs.Judging.{pairs-length, Judgement, partly, clashing, small, whole, judgement}
 use Rattle.dictionary.proofs.Rows.{header-lines}
-use Rattle.rules.specs.Claims.{Sized, SizedOption, Accepted}
 
 -- what answers the needs of `number`
 module _ (o : DictionaryOutcome) where
@@ -78,31 +73,9 @@ module _ (a : ReadAnswer) (f : FileFormat) (k : ℕ) (j : Judged) where
 pub ruleset answers = (answer-whole, answer-partly, answer-clash, answer-small)
 
 -- what answers the needs of `answer_accepted`
-pub both-answered : (a : ReadAnswer) (f : FileFormat) (k : ℕ) → f .major < 4294967296 → f .minor < 4294967296 → {h : Bytes} {t s c : List ℕ} {j : Judged} {s′ c′ : List ℕ}
-    → NumbersBoth h t s c j s′ c′ → {r : DictionaryAnswer} → r ≡ answerOf a f k j → AnswersBoth a f k h t s c r s′ c′
-both-answered a f k x y w e = record { judgement = _; numbers = w; answers = e; sized = record { major = omega arith; minor = omega arith } }
-
--- an accepted reading: the version in force is that of the answer
-record Read (r : Reading) (v : Version) (n : ℕ) : Type 0 where
-  records : List Record
-  columns : Columns
-  accepted : Accepted v records columns r
-
-was-accepted : (r : Reading) (v : Version) (n : ℕ) → r .number ≡ 0 → acceptedIn (r .number) (r .state) ≡ some (v, n) → Read r v n
-was-accepted r v n z e = go (r .state) refl (rw z at e)
-  where
-    go : (s : State) → r .state ≡ s → acceptedIn 0 s ≡ some (v, n) → Read r v n
-    go empty q a = none-not a
-    go (ready w rs) q a = none-not a
-    go (done w rs c) q a = record {
-      records = rs;
-      columns = c;
-      accepted = record { number = z; state = q ∙ ap (λ (u : Version). done u rs c) (ap (λ (x : Version × ℕ). x .0) (some-is a)) };
-    }
-
-sized-imposed : (imposed : Option Version) (own : Version) {v : Version} → v ≡ inForce imposed own → Sized v → SizedOption imposed
-sized-imposed none own e s = tt
-sized-imposed (some w) own e s = rw e at s
+pub both-answered : (form : Form) (a : ReadAnswer) (f : FileFormat) (k : ℕ) → f .major < 4294967296 → f .minor < 4294967296 → {h : Bytes} {t s c : List ℕ} {j : Judged} {s′ c′ : List ℕ}
+    → NumbersBoth form h t s c j s′ c′ → {r : DictionaryAnswer} → r ≡ answerOf a f k j → AnswersBoth form a f k h t s c r s′ c′
+both-answered form a f k x y w e = record { judgement = _; numbers = w; answers = e; sized = record { major = omega arith; minor = omega arith } }
 
 -- What becomes of both, and what the rules answer
 
@@ -141,33 +114,24 @@ dictionaries-refused s c r e = go (r .state)
     go (done v rs y) = rw e
 
 -- what answers the needs of `dictionaries`
-module _ (imposed : Option Version) (h : Bytes) (t₀ : List ℕ) (a : ReadAnswer) {t : List ℕ} (call : ReadCall limits imposed h t₀ a t) where
-  e : answerMeans a ≡ readingMeans (readInto limits imposed t₀ h)
-  e = call .answer
-
+module _ (form : Form) (imposed : Option Version) (h : Bytes) (t₀ : List ℕ) (a : ReadAnswer) {t : List ℕ} (call : ReadCall form imposed h t₀ a t) where
   abbrev read : Reading
-  read = readInto limits imposed t₀ h
+  read = readInto form imposed t₀ h
 
   abbrev given : ℕ → ℕ → Dictionaries
-  given s c = dictionaries limits imposed (room t₀) s c h
-
-  entries-are : length (read .entries) ≡ a .entries
-  entries-are = sym (ap (λ (x : AnswerMeaning). x .entries) e)
+  given s c = dictionaries (limitsBy form) imposed (room form t₀) s c h
 
   module _ {x : Refusal} (o : a .outcome ≡ read-outcome.Refused x) where
-    number-is : read .number ≡ number x
-    number-is = sym (ap (λ (y : AnswerMeaning). y .number) e) ∙ ap readNumber o
-
     refused-is : (s c : ℕ) → given s c ≡ refusedBy (read .number) (read .line) (read .start)
     unfolding dictionaries
-    refused-is s c = let n = number-suc x in dictionaries-refused s c read (number-is ∙ n .1)
+    refused-is s c = let n = number-suc x in dictionaries-refused s c read (read-refused call o ∙ n .1)
 
     refused-told : (s c : ℕ) {r : DictionaryAnswer} → r ≡ dictionaryRefusedAs (outcome.Refused x) (a .line) (a .start) (a .entries) → dictionaryAnswerMeans r ≡ dictionariesMean read (given s c)
     refused-told s c q =
         let n = number-suc x in
-        ap dictionaryAnswerMeans q ∙ rw (refused-is s c, number-is, ap (λ (y : AnswerMeaning). y .line) e, ap (λ (y : AnswerMeaning). y .start) e, entries-are) (rw (n .1))
+        ap dictionaryAnswerMeans q ∙ rw (refused-is s c, read-refused call o, read-line call, read-start call, read-entries call) (rw (n .1))
 
-    pub refused-call : (s c : List ℕ) {r : DictionaryAnswer} → r ≡ dictionaryRefusedAs (outcome.Refused x) (a .line) (a .start) (a .entries) → DictionaryCall limits imposed h t₀ s c r t s c
+    pub refused-call : (s c : List ℕ) {r : DictionaryAnswer} → r ≡ dictionaryRefusedAs (outcome.Refused x) (a .line) (a .start) (a .entries) → DictionaryCall form imposed h t₀ s c r t s c
     refused-call s c q = record {
       answer = refused-told (length s) (length c) q;
       table = call .table;
@@ -175,41 +139,32 @@ module _ (imposed : Option Version) (h : Bytes) (t₀ : List ℕ) (a : ReadAnswe
       contigs = rw (refused-is (length s) (length c));
     }
 
-  module _ {f : FileFormat} {k : ℕ} (o : a .outcome ≡ read-outcome.Accepted f k) {kept : List ℕ} (ek : kept ≡ firstEntries t (a .entries))
-      {s c : List ℕ} {r : DictionaryAnswer} {s′ c′ : List ℕ} (w : AnswersBoth a f k h kept s c r s′ c′) where
-    accepted : read .number ≡ 0
-    accepted = sym (ap (λ (y : AnswerMeaning). y .number) e) ∙ ap readNumber o
+  module _ {f : FileFormat} {k : ℕ} (o : a .outcome ≡ read-outcome.Accepted f k) {kept : List ℕ} (ek : kept ≡ firstEntries form t (a .entries))
+      {s c : List ℕ} {r : DictionaryAnswer} {s′ c′ : List ℕ} (w : AnswersBoth form a f k h kept s c r s′ c′) where
+    abbrev was-read : Read read (versionOf f) k
+    was-read = read-records call o
 
-    was-read : Read read (versionOf f) k
-    was-read = was-accepted read (versionOf f) k accepted (sym (ap (λ (y : AnswerMeaning). y .accepted) e) ∙ ap readSays o)
-
-    the-entries : entriesIn kept ≡ read .entries
-    the-entries =
-        ap entriesIn (ek ∙ ap (λ (x : List ℕ). firstEntries x (a .entries)) (call .table))
-        ∙ entries-stored limits first-packed (accepted-short limits imposed (room t₀) h accepted) t₀ (read .entries) entries-are (subst (λ (n : ℕ). n ≤ room t₀) entries-are (reading-fits limits imposed (room t₀) h)) (reading-stands limits h imposed (room t₀))
-
-    the-lines : (d : Dictionary) → tableLines d h kept ≡ linesOf d (versionOf f) 1 (was-read .records)
+    the-lines : (d : Dictionary) → tableLines d form h kept ≡ linesOf d (versionOf f) 1 (was-read .records)
     the-lines d =
-        let x = header-traced limits imposed (room t₀) h (was-read .accepted) in
-        let g = accepted-good limits imposed (room t₀) h (sized-imposed imposed (x .own) (x .force) (w .sized)) (was-read .accepted) in
-        ap (entryLines d h 0) the-entries ∙ header-lines limits h (versionOf f) d (read .entries) x (g .0 .0 .good)
+        let x = header-traced (limitsBy form) imposed (room form t₀) h (was-read .accepted) in
+        ap (entryLines d h 0) (read-kept call o ek) ∙ header-lines (limitsBy form) h (versionOf f) d (read .entries) x (read-good call o (w .sized))
 
     abbrev ss : List Line
-    ss = stringLines h kept
+    ss = stringLines form h kept
 
     abbrev cs : List Line
-    cs = contigLines h kept
+    cs = contigLines form h kept
 
     given-is : given (length s) (length c) ≡ numbering (length s) (length c) read ss cs
     unfolding dictionaries
-    given-is = rw (was-read .accepted .state, accepted, ← the-lines Strings, ← the-lines Contigs)
+    given-is = rw (was-read .accepted .state, read-accepted call o, ← the-lines Strings, ← the-lines Contigs)
 
     answers-it : Answers a f k read ss cs (w .judgement) (given (length s) (length c))
     answers-it =
         subst (λ (j : Judged). Answers a f k read ss cs j (given (length s) (length c))) (sym (w .numbers .is))
-        (subst (Answers a f k read ss cs (judgedOf (length s) (length c) ss cs)) (sym given-is) (answers-by a f k read e o accepted (length s) (length c) ss cs (judgement (length s) (length c) ss cs)))
+        (subst (Answers a f k read ss cs (judgedOf (length s) (length c) ss cs)) (sym given-is) (answers-by a f k read (call .answer) o (read-accepted call o) (length s) (length c) ss cs (judgement (length s) (length c) ss cs)))
 
-    pub accepted-call : DictionaryCall limits imposed h t₀ s c r t s′ c′
+    pub accepted-call : DictionaryCall form imposed h t₀ s c r t s′ c′
     accepted-call = record {
       answer = ap dictionaryAnswerMeans (w .answers) ∙ answers-it .tells-it;
       table = call .table;

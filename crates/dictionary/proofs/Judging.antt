@@ -21,6 +21,7 @@ use Rattle.dictionary.specs.declared.numbering.Numbering.the-variants as
 use Rattle.dictionary.specs.declared.string_maps.Judged.{Judged}
 use Rattle.dictionary.specs.declared.string_maps.Judged.the-variants.{Whole, PartlyIndexed, NumberClash, SliceTooSmall}
 use Rattle.dictionary.proofs.Pairs.{words-length}
+use Rattle.entries.specs.declared.form.Form.{Form}
 
 -- what answers the needs of `is_mixed`
 pub mixed-given : (x : Carried) → x .given ≡ true → x .missing ≡ x .given && x .missing
@@ -102,18 +103,18 @@ counts-not true k e = refl
 counts-not false k e = never cc
 
 -- what answers the needs of `judge`
-module _ (x y : Carried) (h : Bytes) (t : List ℕ) (s c : ℕ) {p : Bool} (ep : p ≡ x .given && x .missing) where
+module _ (x y : Carried) (form : Form) (h : Bytes) (t : List ℕ) (s c : ℕ) {p : Bool} (ep : p ≡ x .given && x .missing) where
   abbrev ss : List Line
-  ss = stringLines h t
+  ss = stringLines form h t
 
   abbrev cs : List Line
-  cs = contigLines h t
+  cs = contigLines form h t
 
-  pub judge-strings : p ≡ true → Judges x y h t s c PartlyIndexed
+  pub judge-strings : p ≡ true → Judges form x y h t s c PartlyIndexed
   judge-strings e = record { is = λ ex ey. sym (judged-mixed s c ss cs (rw (sym (ap (λ (z : Carried). z .given && z .missing) ex) ∙ sym ep ∙ e))) }
 
   module _ (fp : p ≡ false) {q : Bool} (eq : q ≡ y .given && y .missing) where
-    pub judge-contigs : q ≡ true → Judges x y h t s c PartlyIndexed
+    pub judge-contigs : q ≡ true → Judges form x y h t s c PartlyIndexed
     judge-contigs e = record { is = λ ex ey. sym (judged-mixed s c ss cs (or-on (mixedIdx ss) (sym (ap (λ (z : Carried). z .given && z .missing) ey) ∙ sym eq ∙ e))) }
 
     module _ (fq : q ≡ false) where
@@ -125,7 +126,7 @@ module _ (x y : Carried) (h : Bytes) (t : List ℕ) (s c : ℕ) {p : Bool} (ep :
         unfolding numberingOf
         strings-are ex = sym (w .is (uniform x ss ex (sym ep ∙ fp)))
 
-        pub judge-strings-clash : m ≡ numbering.Clash → Judges x y h t s c NumberClash
+        pub judge-strings-clash : m ≡ numbering.Clash → Judges form x y h t s c NumberClash
         judge-strings-clash e = record {
           is = λ ex ey. sym (judged-clash s c ss cs (unmixed ex ey) (rw (counts-not (dictionaryClash Strings ss) (length (firstLines [] ss)) (strings-are ex ∙ e))));
         }
@@ -138,7 +139,7 @@ module _ (x y : Carried) (h : Bytes) (t : List ℕ) (s c : ℕ) {p : Bool} (ep :
           unfolding numberingOf
           contigs-are ey = sym (w′ .is (uniform y cs ey (sym eq ∙ fq)))
 
-          pub judge-contigs-clash : m′ ≡ numbering.Clash → Judges x y h t s c NumberClash
+          pub judge-contigs-clash : m′ ≡ numbering.Clash → Judges form x y h t s c NumberClash
           judge-contigs-clash e = record {
             is = λ ex ey. sym (judged-clash s c ss cs (unmixed ex ey) (or-on (dictionaryClash Strings ss) (counts-not (dictionaryClash Contigs cs) (length (firstLines [] cs)) (contigs-are ey ∙ e))));
           }
@@ -150,7 +151,7 @@ module _ (x y : Carried) (h : Bytes) (t : List ℕ) (s c : ℕ) {p : Bool} (ep :
             free : x ≡ carriedBy ss → y ≡ carriedBy cs → dictionaryClash Strings ss || dictionaryClash Contigs cs ≡ false
             free ex ey = rw (string-counts ex .0, contig-counts ey .0)
 
-            pub judge-strings-small : s / 2 < n₁ → Judges x y h t s c SliceTooSmall
+            pub judge-strings-small : s / 2 < n₁ → Judges form x y h t s c SliceTooSmall
             judge-strings-small l = record {
               is = λ ex ey.
                   let f : leb (length (pairs Strings ss)) s ≡ false = lt-leb (length (pairs Strings ss)) s (omega (arith, pairs-length Strings ss, string-counts ex .1)) in
@@ -158,14 +159,14 @@ module _ (x y : Carried) (h : Bytes) (t : List ℕ) (s c : ℕ) {p : Bool} (ep :
             }
 
             module _ (ls : n₁ ≤ s / 2) where
-              pub judge-contigs-small : c / 2 < n₂ → Judges x y h t s c SliceTooSmall
+              pub judge-contigs-small : c / 2 < n₂ → Judges form x y h t s c SliceTooSmall
               judge-contigs-small l = record {
                 is = λ ex ey.
                     let f : leb (length (pairs Contigs cs)) c ≡ false = lt-leb (length (pairs Contigs cs)) c (omega (arith, pairs-length Contigs cs, contig-counts ey .1)) in
                     sym (judged-small s c ss cs (unmixed ex ey) (free ex ey) (and-off (leb (length (pairs Strings ss)) s) f));
               }
 
-              pub judge-whole : n₂ ≤ c / 2 → Judges x y h t s c (Whole n₁ n₂)
+              pub judge-whole : n₂ ≤ c / 2 → Judges form x y h t s c (Whole n₁ n₂)
               judge-whole l = record {
                 is = λ ex ey.
                     let a = string-counts ex .1 in
@@ -178,24 +179,24 @@ module _ (x y : Carried) (h : Bytes) (t : List ℕ) (s c : ℕ) {p : Bool} (ep :
 pub ruleset judges = (judge-strings, judge-contigs, judge-strings-clash, judge-contigs-clash, judge-strings-small, judge-contigs-small, judge-whole)
 
 -- what answers the needs of `number_both`
-module _ (h : Bytes) (t s c : List ℕ) {x : Carried} (ex : x ≡ carriedBy (stringLines h t)) {y : Carried} (ey : y ≡ carriedBy (contigLines h t))
-    {r : Judged} (j : Judges x y h t (length s) (length c) r) where
+module _ (form : Form) (h : Bytes) (t s c : List ℕ) {x : Carried} (ex : x ≡ carriedBy (stringLines form h t)) {y : Carried} (ey : y ≡ carriedBy (contigLines form h t))
+    {r : Judged} (j : Judges form x y h t (length s) (length c) r) where
   abbrev strings : List Line
-  strings = stringLines h t
+  strings = stringLines form h t
 
   abbrev contigs : List Line
-  contigs = contigLines h t
+  contigs = contigLines form h t
 
   judged-is : r ≡ judgedOf (length s) (length c) strings contigs
   judged-is = j .is ex ey
 
-  pub both-partly : r ≡ PartlyIndexed → NumbersBoth h t s c PartlyIndexed s c
+  pub both-partly : r ≡ PartlyIndexed → NumbersBoth form h t s c PartlyIndexed s c
   both-partly e = record { is = sym e ∙ judged-is; strings-are = refl; contigs-are = refl }
 
-  pub both-clash : r ≡ NumberClash → NumbersBoth h t s c NumberClash s c
+  pub both-clash : r ≡ NumberClash → NumbersBoth form h t s c NumberClash s c
   both-clash e = record { is = sym e ∙ judged-is; strings-are = refl; contigs-are = refl }
 
-  pub both-small : r ≡ SliceTooSmall → NumbersBoth h t s c SliceTooSmall s c
+  pub both-small : r ≡ SliceTooSmall → NumbersBoth form h t s c SliceTooSmall s c
   both-small e = record { is = sym e ∙ judged-is; strings-are = refl; contigs-are = refl }
 
   -- where both fit, nothing is mixed and nothing clashes
@@ -227,7 +228,7 @@ module _ (h : Bytes) (t s c : List ℕ) {x : Carried} (ex : x ≡ carriedBy (str
           }
 
   pub both-whole : {n m : ℕ} → r ≡ Whole n m → {r₁ : Numbering} {s′ : List ℕ} → NumbersLines Strings (x .given) strings s r₁ s′ → {r₂ : Numbering} {c′ : List ℕ}
-      → NumbersLines Contigs (y .given) contigs c r₂ c′ → NumbersBoth h t s c (Whole n m) s′ c′
+      → NumbersLines Contigs (y .given) contigs c r₂ c′ → NumbersBoth form h t s c (Whole n m) s′ c′
   both-whole e w₁ w₂ =
       let f = fits e in
       record {

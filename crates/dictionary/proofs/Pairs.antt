@@ -16,6 +16,7 @@ use Rattle.rules.specs.Entry.{Entry}
 use Rattle.entries.specs.declared.entry.Entry.{Entry as CodeEntry}
 use Rattle.entries.specs.Values.{entryOf}
 use Rattle.entries.specs.Tables.{room, firstEntries, entriesIn, entryIn}
+use Rattle.entries.proofs.Tables.{room-small}
 use Rattle.entries.proofs.Stored.{entries-here, entries-count, first-entries}
 use Rattle.dictionary.specs.Dictionary.{Line, lineIf, anyOf, carries, lacks, firstLines, idNumber, pairWords, pairs}
 use Rattle.dictionary.specs.Lines.{holds, idxMeant, lineOfEntry, entryLines, tableLines, idAt, idxAt}
@@ -36,44 +37,45 @@ use Rattle.dictionary.proofs.Firsts.{ids, first-new, first-old, onto, i
 use Rattle.dictionary.proofs.Left.{left, left-end, left-skip, left-take}
 use Rattle.dictionary.proofs.Going.{AllMarked, found-named, marked-more}
 use Rattle.dictionary.proofs.Verdicts.{Mode, VerdictIs, verdict, mode-start, mode-end}
+use Rattle.entries.specs.declared.form.Form.{Form}
 
 -- Whether lines carry IDX: what was seen before entry k, and what is left
 
-pub record Carrying (d : Dictionary) (h : Bytes) (t : List ℕ) (given missing : Bool) (k : ℕ) : Type 0 where
-  pub with-idx : anyOf carries (tableLines d h t) ≡ given || anyOf carries (left d h t k)
-  pub without : anyOf lacks (tableLines d h t) ≡ missing || anyOf lacks (left d h t k)
+pub record Carrying (d : Dictionary) (form : Form) (h : Bytes) (t : List ℕ) (given missing : Bool) (k : ℕ) : Type 0 where
+  pub with-idx : anyOf carries (tableLines d form h t) ≡ given || anyOf carries (left d form h t k)
+  pub without : anyOf lacks (tableLines d form h t) ≡ missing || anyOf lacks (left d form h t k)
 
-pub carry-start : {d : Dictionary} {h : Bytes} {t : List ℕ} → Carrying d h t false false 0
+pub carry-start : {d : Dictionary} {form : Form} {h : Bytes} {t : List ℕ} → Carrying d form h t false false 0
 carry-start = record { with-idx = refl; without = refl }
 
 on : (a b : Bool) → (a || (true || b)) ≡ (true || b)
 on true b = refl
 on false b = refl
 
-module _ {d : Dictionary} {h : Bytes} {t : List ℕ} {given missing : Bool} {k : ℕ} (g : Carrying d h t given missing k) {n : ℕ} (en : n ≡ room t) where
-  pub carry-end : n ≤ k → _≡_ {A = Carried} (record { given = given; missing = missing }) (carriedBy (tableLines d h t))
+module _ {d : Dictionary} {form : Form} {h : Bytes} {t : List ℕ} {given missing : Bool} {k : ℕ} (g : Carrying d form h t given missing k) {n : ℕ} (en : n ≡ room form t) where
+  pub carry-end : n ≤ k → _≡_ {A = Carried} (record { given = given; missing = missing }) (carriedBy (tableLines d form h t))
   unfolding anyOf
   carry-end l =
-      let e = left-end d h t k en l in
+      let e = left-end d form h t k en l in
       rw (g .with-idx, g .without, e, or-false given, or-false missing)
 
-  module _ (l : k < n) {e : CodeEntry} (ee : entryOf e ≡ entryIn t k) {q : Bool} (eq : q ≡ holds d (e .kind)) where
-    pub carry-skip : q ≡ false → Carrying d h t given missing (k + 1)
-    carry-skip f = let s = left-skip d h t k en l ee eq f in record { with-idx = g .with-idx ∙ rw s; without = g .without ∙ rw s }
+  module _ (l : k < n) {e : CodeEntry} (ee : entryOf e ≡ entryIn form t k) {q : Bool} (eq : q ≡ holds d (e .kind)) where
+    pub carry-skip : q ≡ false → Carrying d form h t given missing (k + 1)
+    carry-skip f = let s = left-skip d form h t k en l ee eq f in record { with-idx = g .with-idx ∙ rw s; without = g .without ∙ rw s }
 
     module _ (f : q ≡ true) {r : IdxRead} (er : idxMeant r ≡ idxAt h e) where
-      pub carry-given : {m : ℕ} → r ≡ idx.Idx m → Carrying d h t true missing (k + 1)
+      pub carry-given : {m : ℕ} → r ≡ idx.Idx m → Carrying d form h t true missing (k + 1)
       unfolding anyOf
-      carry-given {m} i = let s = left-take d h t k en l ee eq f in record {
-        with-idx = g .with-idx ∙ rw (s, ← er, i) (on given (anyOf carries (left d h t (k + 1))));
+      carry-given {m} i = let s = left-take d form h t k en l ee eq f in record {
+        with-idx = g .with-idx ∙ rw (s, ← er, i) (on given (anyOf carries (left d form h t (k + 1))));
         without = g .without ∙ rw (s, ← er, i);
       }
 
-      pub carry-missing : r ≡ idx.Missing → Carrying d h t given true (k + 1)
+      pub carry-missing : r ≡ idx.Missing → Carrying d form h t given true (k + 1)
       unfolding anyOf
-      carry-missing i = let s = left-take d h t k en l ee eq f in record {
+      carry-missing i = let s = left-take d form h t k en l ee eq f in record {
         with-idx = g .with-idx ∙ rw (s, ← er, i);
-        without = g .without ∙ rw (s, ← er, i) (on missing (anyOf lacks (left d h t (k + 1))));
+        without = g .without ∙ rw (s, ← er, i) (on missing (anyOf lacks (left d form h t (k + 1))));
       }
 
 pub ruleset carried = (carry-start, carry-end, carry-skip, carry-given, carry-missing)
@@ -151,8 +153,8 @@ module _ {d : Dictionary} {indexed : Bool} {ls before : List Line} (l : Line) {l
 
 -- The lines before entry k
 
-abbrev pub before : Dictionary → Bytes → List ℕ → ℕ → List Line
-before d h t k = entryLines d h 0 (take k (entriesIn t))
+abbrev pub before : Dictionary → Form → Bytes → List ℕ → ℕ → List Line
+before d form h t k = entryLines d h 0 (take k (entriesIn form t))
 
 lines-append : (d : Dictionary) (h : Bytes) (n : ℕ) (xs ys : List Entry) → entryLines d h n (xs ++ ys) ≡ entryLines d h n xs ++ entryLines d h (n + length xs) ys
 unfolding entryLines
@@ -166,23 +168,23 @@ lines-append d h n (x ∷ xs) ys =
     go true e = ap (lineOfEntry h n x ∷_) e
     go false e = e
 
-module _ (d : Dictionary) (h : Bytes) (t : List ℕ) (k : ℕ) where
-  taken : k ≤ room t → length (take k (entriesIn t)) ≡ k
-  taken l = length-take-le k (entriesIn t) (rw (entries-count t) l)
+module _ (d : Dictionary) (form : Form) (h : Bytes) (t : List ℕ) (k : ℕ) where
+  taken : k ≤ room form t → length (take k (entriesIn form t)) ≡ k
+  taken l = length-take-le k (entriesIn form t) (rw (entries-count form t) l)
 
-  split-at : k ≤ room t → tableLines d h t ≡ before d h t k ++ left d h t k
+  split-at : k ≤ room form t → tableLines d form h t ≡ before d form h t k ++ left d form h t k
   split-at l =
-      let e : 0 + length (take k (entriesIn t)) ≡ k = omega (arith, taken l) in
-      ap (entryLines d h 0) (sym (take-append-drop k (entriesIn t))) ∙ lines-append d h 0 (take k (entriesIn t)) (drop k (entriesIn t)) ∙ rw e
+      let e : 0 + length (take k (entriesIn form t)) ≡ k = omega (arith, taken l) in
+      ap (entryLines d h 0) (sym (take-append-drop k (entriesIn form t))) ∙ lines-append d h 0 (take k (entriesIn form t)) (drop k (entriesIn form t)) ∙ rw e
 
-  module _ {n : ℕ} (en : n ≡ room t) (l : k < n) {e : CodeEntry} (ee : entryOf e ≡ entryIn t k) {q : Bool} (eq : q ≡ holds d (e .kind)) where
-    before-turn : before d h t (k + 1) ≡ before d h t k ++ lineIf q (lineOfEntry h k (entryOf e)) []
+  module _ {n : ℕ} (en : n ≡ room form t) (l : k < n) {e : CodeEntry} (ee : entryOf e ≡ entryIn form t k) {q : Bool} (eq : q ≡ holds d (e .kind)) where
+    before-turn : before d form h t (k + 1) ≡ before d form h t k ++ lineIf q (lineOfEntry h k (entryOf e)) []
     unfolding entryLines
     before-turn =
-        let here : drop k (entriesIn t) ≡ entryOf e ∷ drop (k + 1) (entriesIn t) = entries-here t k (rw (← en) l) ∙ ap (_∷ drop (k + 1) (entriesIn t)) (sym ee) in
-        let more : take (k + 1) (entriesIn t) ≡ take k (entriesIn t) ++ entryOf e ∷ [] = take-add k 1 (entriesIn t) ∙ rw here in
-        let c : 0 + length (take k (entriesIn t)) ≡ k = omega (arith, taken (rw (← en) (omega arith))) in
-        ap (entryLines d h 0) more ∙ lines-append d h 0 (take k (entriesIn t)) (entryOf e ∷ []) ∙ rw (c, eq)
+        let here : drop k (entriesIn form t) ≡ entryOf e ∷ drop (k + 1) (entriesIn form t) = entries-here form t k (rw (← en) l) ∙ ap (_∷ drop (k + 1) (entriesIn form t)) (sym ee) in
+        let more : take (k + 1) (entriesIn form t) ≡ take k (entriesIn form t) ++ entryOf e ∷ [] = take-add k 1 (entriesIn form t) ∙ rw here in
+        let c : 0 + length (take k (entriesIn form t)) ≡ k = omega (arith, taken (rw (← en) (omega arith))) in
+        ap (entryLines d h 0) more ∙ lines-append d h 0 (take k (entriesIn form t)) (entryOf e ∷ []) ∙ rw (c, eq)
 
 -- what answers the needs of `number_line`
 module _ (c : Count) (out : List ℕ) (entry : ℕ) {p r : Placed} (er : r ≡ p) where
@@ -214,22 +216,22 @@ pub ruleset turns = (turn-given, turn-due, turn-again, turn-clash, out-given, ou
 
 -- The loop: the lines before entry k are numbered
 
-pub record Progress (d : Dictionary) (indexed : Bool) (h : Bytes) (t out₀ out : List ℕ) (ms₀ ms ns₀ ns : Bytes) (c : Count) (k : ℕ) : Type 0 where
+pub record Progress (d : Dictionary) (indexed : Bool) (form : Form) (h : Bytes) (t out₀ out : List ℕ) (ms₀ ms ns₀ ns : Bytes) (c : Count) (k : ℕ) : Type 0 where
   pub size : length out ≡ length out₀
   pub ids-size : length ms ≡ length ms₀
   pub numbers-size : length ns ≡ length ns₀
   pub few : c .pairs ≤ k
   pub due : c .next ≤ k + 1
-  pub is : Uniform indexed (tableLines d h t) → Going d indexed (tableLines d h t) (before d h t k) (left d h t k) out₀ out ms ns (c .pairs) (c .next)
+  pub is : Uniform indexed (tableLines d form h t) → Going d indexed (tableLines d form h t) (before d form h t k) (left d form h t k) out₀ out ms ns (c .pairs) (c .next)
 
 first-small : (d : Dictionary) → firstNumber d ≤ 1
 first-small Strings = omega arith
 first-small Contigs = omega arith
 
-pub progress-start : (d : Dictionary) (indexed : Bool) (h : Bytes) (t out : List ℕ) (ms ns : Bytes) {next : ℕ} → next ≡ firstNumber d
-    → Progress d indexed h t out out ms ms ns ns (record { pairs = 0; next = next }) 0
+pub progress-start : (d : Dictionary) (indexed : Bool) (form : Form) (h : Bytes) (t out : List ℕ) (ms ns : Bytes) {next : ℕ} → next ≡ firstNumber d
+    → Progress d indexed form h t out out ms ms ns ns (record { pairs = 0; next = next }) 0
 unfolding entryLines isIn pairs
-progress-start d indexed h t out ms ns e = record {
+progress-start d indexed form h t out ms ns e = record {
   size = refl;
   ids-size = refl;
   numbers-size = refl;
@@ -239,14 +241,14 @@ progress-start d indexed h t out ms ns e = record {
     marked = λ x i. both i refl;
     counted = omega arith;
     written = λ r. refl;
-    mode = rw e (mode-start indexed d (tableLines d h t) ns);
+    mode = rw e (mode-start indexed d (tableLines d form h t) ns);
   };
 }
 
-module _ {d : Dictionary} {indexed : Bool} {h : Bytes} {t out₀ out : List ℕ} {ms₀ ms ns₀ ns : Bytes} {c : Count} {k : ℕ} (g : Progress d indexed h t out₀ out ms₀ ms ns₀ ns c k)
-    {n : ℕ} (en : n ≡ room t) where
+module _ {d : Dictionary} {indexed : Bool} {form : Form} {h : Bytes} {t out₀ out : List ℕ} {ms₀ ms ns₀ ns : Bytes} {c : Count} {k : ℕ} (g : Progress d indexed form h t out₀ out ms₀ ms ns₀ ns c k)
+    {n : ℕ} (en : n ≡ room form t) where
   abbrev ls : List Line
-  ls = tableLines d h t
+  ls = tableLines d form h t
 
   abbrev Goes : List Line → List Line → List ℕ → Bytes → Bytes → ℕ → ℕ → Type 0
   Goes bs rs o ms′ ns′ m′ next′ = Going d indexed ls bs rs out₀ o ms′ ns′ m′ next′
@@ -254,65 +256,64 @@ module _ {d : Dictionary} {indexed : Bool} {h : Bytes} {t out₀ out : List ℕ}
   pub progress-end : n ≤ k → NumbersLines d indexed ls out₀ (numbering.Pairs (c .pairs)) out
   unfolding numberingOf firstLines pairWords
   progress-end l =
-      let e = left-end d h t k en l in
+      let e = left-end d form h t k en l in
       record {
         is = λ u.
-            let x = subst (λ (rs : List Line). Goes (before d h t k) rs out ms ns (c .pairs) (c .next)) e (g .is u) in
+            let x = subst (λ (rs : List Line). Goes (before d form h t k) rs out ms ns (c .pairs) (c .next)) e (g .is u) in
             let m : length (firstLines [] ls) ≡ c .pairs = omega (arith, x .counted) in
-            rw (mode-end indexed d ls (before d h t k) ns (c .next) u (x .mode), m);
-        output = λ u f r. sym (subst (λ (rs : List Line). Goes (before d h t k) rs out ms ns (c .pairs) (c .next)) e (g .is u) .written r);
+            rw (mode-end indexed d ls (before d form h t k) ns (c .next) u (x .mode), m);
+        output = λ u f r. sym (subst (λ (rs : List Line). Goes (before d form h t k) rs out ms ns (c .pairs) (c .next)) e (g .is u) .written r);
       }
 
   module _ (l : k < n) where
     pub counts-few : length t < 2 ^ 64 → Counts c
-    unfolding room
-    counts-few small = record { pairs-small = omega (arith, g .few, en); next-small = omega (arith, g .due, en) }
+    counts-few small = let r = room-small form t in record { pairs-small = omega (arith, g .few, en); next-small = omega (arith, g .due, en) }
 
-    module _ {e : CodeEntry} (ee : entryOf e ≡ entryIn t k) {q : Bool} (eq : q ≡ holds d (e .kind)) where
-      pub progress-skip : q ≡ false → Progress d indexed h t out₀ out ms₀ ms ns₀ ns c (k + 1)
+    module _ {e : CodeEntry} (ee : entryOf e ≡ entryIn form t k) {q : Bool} (eq : q ≡ holds d (e .kind)) where
+      pub progress-skip : q ≡ false → Progress d indexed form h t out₀ out ms₀ ms ns₀ ns c (k + 1)
       progress-skip f =
-          let b : before d h t (k + 1) ≡ before d h t k = before-turn d h t k en l ee eq ∙ rw f (append-nil (before d h t k)) in
+          let b : before d form h t (k + 1) ≡ before d form h t k = before-turn d form h t k en l ee eq ∙ rw f (append-nil (before d form h t k)) in
           record {
             size = g .size;
             ids-size = g .ids-size;
             numbers-size = g .numbers-size;
             few = omega (arith, g .few);
             due = omega (arith, g .due);
-            is = λ u. rw (b, ← left-skip d h t k en l ee eq f) (g .is u);
+            is = λ u. rw (b, ← left-skip d form h t k en l ee eq f) (g .is u);
           }
 
-      module _ (f : q ≡ true) {ahead : List ℕ} (ea : ahead ≡ firstEntries t k) where
+      module _ (f : q ≡ true) {ahead : List ℕ} (ea : ahead ≡ firstEntries form t k) where
         abbrev line : Line
         line = lineOfEntry h k (entryOf e)
 
         abbrev placed : Placed
-        placed = placeAt indexed d h ahead ms ns e
+        placed = placeAt indexed d form h ahead ms ns e
 
-        before-more : before d h t (k + 1) ≡ before d h t k ++ line ∷ []
-        before-more = before-turn d h t k en l ee eq ∙ rw f
+        before-more : before d form h t (k + 1) ≡ before d form h t k ++ line ∷ []
+        before-more = before-turn d form h t k en l ee eq ∙ rw f
 
-        left-is : left d h t k ≡ line ∷ left d h t (k + 1)
-        left-is = left-take d h t k en l ee eq f
+        left-is : left d form h t k ≡ line ∷ left d form h t (k + 1)
+        left-is = left-take d form h t k en l ee eq f
 
         module _ (u : Uniform indexed ls) where
-          going : Goes (before d h t k) (line ∷ left d h t (k + 1)) out ms ns (c .pairs) (c .next)
-          going = subst (λ (rs : List Line). Goes (before d h t k) rs out ms ns (c .pairs) (c .next)) left-is (g .is u)
+          going : Goes (before d form h t k) (line ∷ left d form h t (k + 1)) out ms ns (c .pairs) (c .next)
+          going = subst (λ (rs : List Line). Goes (before d form h t k) rs out ms ns (c .pairs) (c .next)) left-is (g .is u)
 
-          ahead-is : tableLines d h ahead ≡ before d h t k
-          ahead-is = ap (entryLines d h 0) (ap entriesIn ea ∙ first-entries t k)
+          ahead-is : tableLines d form h ahead ≡ before d form h t k
+          ahead-is = ap (entryLines d h 0) (ap (entriesIn form) ea ∙ first-entries form t k)
 
-          split : ls ≡ before d h t k ++ line ∷ left d h t (k + 1)
-          split = split-at d h t k (rw (← en) (omega arith)) ∙ rw left-is
+          split : ls ≡ before d form h t k ++ line ∷ left d form h t (k + 1)
+          split = split-at d form h t k (rw (← en) (omega arith)) ∙ rw left-is
 
-          told : VerdictIs indexed d ls (before d h t k) line (left d h t (k + 1)) (metBy indexed ns (idxAt h e)) (c .next) placed
+          told : VerdictIs indexed d ls (before d form h t k) line (left d form h t (k + 1)) (metBy indexed ns (idxAt h e)) (c .next) placed
           told =
-              let p : placed ≡ placeBy indexed d (idAt h e) (idxAt h e) (idxNamed (idAt h e) (before d h t k)) (isTaken ns (before d h t k))
-              = rw (ahead-is, found-named ms (idAt h e) (before d h t k) (going .marked)) in
-              rw p (verdict d ls (before d h t k) line (left d h t (k + 1)) indexed u split ns (c .next) (going .mode))
+              let p : placed ≡ placeBy indexed d (idAt h e) (idxAt h e) (idxNamed (idAt h e) (before d form h t k)) (isTaken ns (before d form h t k))
+              = rw (ahead-is, found-named ms (idAt h e) (before d form h t k) (going .marked)) in
+              rw p (verdict d ls (before d form h t k) line (left d form h t (k + 1)) indexed u split ns (c .next) (going .mode))
 
         -- what the turn leaves, by the line's place
         abbrev Leaves : Placed → Turn → List ℕ → Type 0
-        Leaves p (turn.Next c′) o = Progress d indexed h t out₀ o ms₀ (markTwice ms (idAt h e)) ns₀ (metBy indexed ns (idxAt h e)) c′ (k + 1)
+        Leaves p (turn.Next c′) o = Progress d indexed form h t out₀ o ms₀ (markTwice ms (idAt h e)) ns₀ (metBy indexed ns (idxAt h e)) c′ (k + 1)
         Leaves p turn.Clash o = NumbersLines d indexed ls out₀ numbering.Clash o
 
         module _ (ids-kept : length (markTwice ms (idAt h e)) ≡ length ms) (numbers-kept : length (metBy indexed ns (idxAt h e)) ≡ length ns) where
@@ -353,7 +354,7 @@ module _ {d : Dictionary} {indexed : Bool} {h : Bytes} {t out₀ out : List ℕ}
           pub progress-clash : r ≡ turn.Clash → NumbersLines d indexed ls out₀ numbering.Clash o
           progress-clash i = rw i at left-with
 
-          pub progress-next : {c′ : Count} → r ≡ turn.Next c′ → Progress d indexed h t out₀ o ms₀ ms′ ns₀ ns′ c′ (k + 1)
+          pub progress-next : {c′ : Count} → r ≡ turn.Next c′ → Progress d indexed form h t out₀ o ms₀ ms′ ns₀ ns′ c′ (k + 1)
           progress-next i = rw (em, es) (rw i at left-with)
 
 pub ruleset progresses = (progress-start, progress-end, counts-few, progress-skip, progress-clash, progress-next)

@@ -28,34 +28,35 @@ use Rattle.dictionary.specs.declared.place.Earlier.the-variants as earli
 use Rattle.dictionary.specs.declared.place.Placed.{Placed}
 use Rattle.dictionary.specs.declared.place.Placed.the-variants.{Numbered, Due, Again, Clash}
 use Rattle.dictionary.proofs.Left.{left, left-end, left-skip, left-take}
+use Rattle.entries.specs.declared.form.Form.{Form}
 
 -- The search for the ID of y: no line before entry k has it
 
-pub record Finding (d : Dictionary) (h : Bytes) (t : List ℕ) (y : CodeEntry) (k : ℕ) : Type 0 where
-  pub still : idxNamed (idAt h y) (tableLines d h t) ≡ idxNamed (idAt h y) (left d h t k)
+pub record Finding (d : Dictionary) (form : Form) (h : Bytes) (t : List ℕ) (y : CodeEntry) (k : ℕ) : Type 0 where
+  pub still : idxNamed (idAt h y) (tableLines d form h t) ≡ idxNamed (idAt h y) (left d form h t k)
 
-pub find-start : {d : Dictionary} {h : Bytes} {t : List ℕ} {y : CodeEntry} → Finding d h t y 0
+pub find-start : {d : Dictionary} {form : Form} {h : Bytes} {t : List ℕ} {y : CodeEntry} → Finding d form h t y 0
 find-start = record { still = refl }
 
-module _ {d : Dictionary} {h : Bytes} {t : List ℕ} {y : CodeEntry} {k : ℕ} (g : Finding d h t y k) {n : ℕ} (en : n ≡ room t) where
-  pub find-end : n ≤ k → none ≡ idxNamed (idAt h y) (tableLines d h t)
+module _ {d : Dictionary} {form : Form} {h : Bytes} {t : List ℕ} {y : CodeEntry} {k : ℕ} (g : Finding d form h t y k) {n : ℕ} (en : n ≡ room form t) where
+  pub find-end : n ≤ k → none ≡ idxNamed (idAt h y) (tableLines d form h t)
   unfolding idxNamed
-  find-end l = sym (g .still ∙ ap (idxNamed (idAt h y)) (left-end d h t k en l))
+  find-end l = sym (g .still ∙ ap (idxNamed (idAt h y)) (left-end d form h t k en l))
 
-  module _ (l : k < n) {e : CodeEntry} (ee : entryOf e ≡ entryIn t k) {q : Bool} (eq : q ≡ holds d (e .kind)) where
-    pub find-skip : q ≡ false → Finding d h t y (k + 1)
-    find-skip f = record { still = g .still ∙ ap (idxNamed (idAt h y)) (left-skip d h t k en l ee eq f) }
+  module _ (l : k < n) {e : CodeEntry} (ee : entryOf e ≡ entryIn form t k) {q : Bool} (eq : q ≡ holds d (e .kind)) where
+    pub find-skip : q ≡ false → Finding d form h t y (k + 1)
+    find-skip f = record { still = g .still ∙ ap (idxNamed (idAt h y)) (left-skip d form h t k en l ee eq f) }
 
     module _ (f : q ≡ true) {p : Bytes} (ep : p ≡ idIn h (entryOf e)) {i : Bytes} (ei : i ≡ idIn h (entryOf y))
         {s : Bool} (es : s ≡ same (meaning (e .quoted) p) (meaning (y .quoted) i)) where
-      find-turn : idxNamed (idAt h y) (tableLines d h t) ≡ elim s [ true ↦ some (idxAt h e) | false ↦ idxNamed (idAt h y) (left d h t (k + 1)) ]
+      find-turn : idxNamed (idAt h y) (tableLines d form h t) ≡ elim s [ true ↦ some (idxAt h e) | false ↦ idxNamed (idAt h y) (left d form h t (k + 1)) ]
       unfolding idxNamed
-      find-turn = let i : same (idAt h e) (idAt h y) ≡ s = sym (es ∙ rw (ep, ei)) in g .still ∙ ap (idxNamed (idAt h y)) (left-take d h t k en l ee eq f) ∙ rw (idxNamed, i)
+      find-turn = let i : same (idAt h e) (idAt h y) ≡ s = sym (es ∙ rw (ep, ei)) in g .still ∙ ap (idxNamed (idAt h y)) (left-take d form h t k en l ee eq f) ∙ rw (idxNamed, i)
 
-      pub find-other : s ≡ false → Finding d h t y (k + 1)
+      pub find-other : s ≡ false → Finding d form h t y (k + 1)
       find-other u = record { still = find-turn ∙ rw u }
 
-      pub find-here : s ≡ true → some (idxAt h e) ≡ idxNamed (idAt h y) (tableLines d h t)
+      pub find-here : s ≡ true → some (idxAt h e) ≡ idxNamed (idAt h y) (tableLines d form h t)
       find-here u = sym (find-turn ∙ rw u)
 
 pub ruleset finds = (find-start, find-end, find-skip, find-other, find-here)
@@ -72,30 +73,30 @@ pub ruleset idxs = (no-idx, idx-tested)
 
 -- The search for a number: no line before entry k carries it
 
-pub record Counting (d : Dictionary) (h : Bytes) (t : List ℕ) (m k : ℕ) : Type 0 where
-  pub still : numberSeen m (tableLines d h t) ≡ numberSeen m (left d h t k)
+pub record Counting (d : Dictionary) (form : Form) (h : Bytes) (t : List ℕ) (m k : ℕ) : Type 0 where
+  pub still : numberSeen m (tableLines d form h t) ≡ numberSeen m (left d form h t k)
 
-pub count-start : {d : Dictionary} {h : Bytes} {t : List ℕ} {m : ℕ} → Counting d h t m 0
+pub count-start : {d : Dictionary} {form : Form} {h : Bytes} {t : List ℕ} {m : ℕ} → Counting d form h t m 0
 count-start = record { still = refl }
 
-module _ {d : Dictionary} {h : Bytes} {t : List ℕ} {m k : ℕ} (g : Counting d h t m k) {n : ℕ} (en : n ≡ room t) where
-  pub count-end : n ≤ k → false ≡ numberSeen m (tableLines d h t)
+module _ {d : Dictionary} {form : Form} {h : Bytes} {t : List ℕ} {m k : ℕ} (g : Counting d form h t m k) {n : ℕ} (en : n ≡ room form t) where
+  pub count-end : n ≤ k → false ≡ numberSeen m (tableLines d form h t)
   unfolding anyOf
-  count-end l = sym (g .still ∙ ap (numberSeen m) (left-end d h t k en l))
+  count-end l = sym (g .still ∙ ap (numberSeen m) (left-end d form h t k en l))
 
-  module _ (l : k < n) {e : CodeEntry} (ee : entryOf e ≡ entryIn t k) {q : Bool} (eq : q ≡ holds d (e .kind)) where
-    pub count-skip : q ≡ false → Counting d h t m (k + 1)
-    count-skip f = record { still = g .still ∙ ap (numberSeen m) (left-skip d h t k en l ee eq f) }
+  module _ (l : k < n) {e : CodeEntry} (ee : entryOf e ≡ entryIn form t k) {q : Bool} (eq : q ≡ holds d (e .kind)) where
+    pub count-skip : q ≡ false → Counting d form h t m (k + 1)
+    count-skip f = record { still = g .still ∙ ap (numberSeen m) (left-skip d form h t k en l ee eq f) }
 
     module _ (f : q ≡ true) {s : Bool} (es : s ≡ isIdx m (idxAt h e)) where
-      count-turn : numberSeen m (tableLines d h t) ≡ (s || numberSeen m (left d h t (k + 1)))
+      count-turn : numberSeen m (tableLines d form h t) ≡ (s || numberSeen m (left d form h t (k + 1)))
       unfolding anyOf
-      count-turn = g .still ∙ ap (numberSeen m) (left-take d h t k en l ee eq f) ∙ rw (← es)
+      count-turn = g .still ∙ ap (numberSeen m) (left-take d form h t k en l ee eq f) ∙ rw (← es)
 
-      pub count-other : s ≡ false → Counting d h t m (k + 1)
+      pub count-other : s ≡ false → Counting d form h t m (k + 1)
       count-other u = record { still = count-turn ∙ rw u }
 
-      pub count-here : s ≡ true → true ≡ numberSeen m (tableLines d h t)
+      pub count-here : s ≡ true → true ≡ numberSeen m (tableLines d form h t)
       count-here u = sym (count-turn ∙ rw u)
 
 pub ruleset counts = (count-start, count-end, count-skip, count-other, count-here)

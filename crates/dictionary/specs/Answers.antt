@@ -8,12 +8,13 @@ use lib.Dec.{leb}
 use lib.ListN.{length}
 use lib.Seq.{sets}
 use Rattle.values.specs.Bytes.{Bytes}
-use Rattle.rules.specs.Sizes.{Limits}
 use Rattle.rules.specs.Version.{Version}
 use Rattle.rules.specs.Reading.{Reading}
 use Rattle.records.specs.Formats.{versionOf}
 use Rattle.records.specs.Refusals.{number}
 use Rattle.records.specs.declared.file_format.FileFormat.{FileFormat}
+use Rattle.entries.specs.declared.form.Form.{Form}
+use Rattle.entries.specs.Values.{limitsBy}
 use Rattle.entries.specs.Tables.{room, stored}
 use Rattle.header.specs.declared.parser.ReadAnswer.{ReadAnswer}
 use Rattle.header.specs.Parsers.{acceptedIn, readInto}
@@ -80,11 +81,11 @@ dictionariesMean r d = record {
 }
 
 -- what `dictionaries` promises of a call: the version imposed, the header, the table and the slices for strings and contigs; the answer, and what was lent after it
-pub record DictionaryCall (lim : Limits) (imposed : Option Version) (h : Bytes) (t s c : List ℕ) (r : DictionaryAnswer) (t′ s′ c′ : List ℕ) : Type 0 where
-  pub answer : dictionaryAnswerMeans r ≡ dictionariesMean (readInto lim imposed t h) (dictionaries lim imposed (room t) (length s) (length c) h)
-  pub table : t′ ≡ stored t 0 (readInto lim imposed t h .entries)
-  pub strings : s′ ≡ sets s 0 (dictionaries lim imposed (room t) (length s) (length c) h .strings)
-  pub contigs : c′ ≡ sets c 0 (dictionaries lim imposed (room t) (length s) (length c) h .contigs)
+pub record DictionaryCall (form : Form) (imposed : Option Version) (h : Bytes) (t s c : List ℕ) (r : DictionaryAnswer) (t′ s′ c′ : List ℕ) : Type 0 where
+  pub answer : dictionaryAnswerMeans r ≡ dictionariesMean (readInto form imposed t h) (dictionaries (limitsBy form) imposed (room form t) (length s) (length c) h)
+  pub table : t′ ≡ stored form t 0 (readInto form imposed t h .entries)
+  pub strings : s′ ≡ sets s 0 (dictionaries (limitsBy form) imposed (room form t) (length s) (length c) h .strings)
+  pub contigs : c′ ≡ sets c 0 (dictionaries (limitsBy form) imposed (room form t) (length s) (length c) h .contigs)
 
 -- How the code comes to it
 
@@ -112,13 +113,13 @@ pub record CountsPairs (d : Dictionary) (indexed : Bool) (ls : List Line) (r : N
   pub is : Uniform indexed ls → r ≡ numberingOf d ls
 
 -- x and y tell which lines carry IDX
-pub record Judges (x y : Carried) (h : Bytes) (t : List ℕ) (s c : ℕ) (r : Judged) : Type 0 where
-  pub is : x ≡ carriedBy (stringLines h t) → y ≡ carriedBy (contigLines h t) → r ≡ judgedOf s c (stringLines h t) (contigLines h t)
+pub record Judges (form : Form) (x y : Carried) (h : Bytes) (t : List ℕ) (s c : ℕ) (r : Judged) : Type 0 where
+  pub is : x ≡ carriedBy (stringLines form h t) → y ≡ carriedBy (contigLines form h t) → r ≡ judgedOf s c (stringLines form h t) (contigLines form h t)
 
-pub record NumbersBoth (h : Bytes) (t s c : List ℕ) (r : Judged) (s′ c′ : List ℕ) : Type 0 where
-  pub is : r ≡ judgedOf (length s) (length c) (stringLines h t) (contigLines h t)
-  pub strings-are : s′ ≡ sets s 0 (pairsWritten r (pairs Strings (stringLines h t)))
-  pub contigs-are : c′ ≡ sets c 0 (pairsWritten r (pairs Contigs (contigLines h t)))
+pub record NumbersBoth (form : Form) (h : Bytes) (t s c : List ℕ) (r : Judged) (s′ c′ : List ℕ) : Type 0 where
+  pub is : r ≡ judgedOf (length s) (length c) (stringLines form h t) (contigLines form h t)
+  pub strings-are : s′ ≡ sets s 0 (pairsWritten r (pairs Strings (stringLines form h t)))
+  pub contigs-are : c′ ≡ sets c 0 (pairsWritten r (pairs Contigs (contigLines form h t)))
 
 abbrev pub dictionaryRefusedAs : DictionaryOutcome → ℕ → ℕ → ℕ → DictionaryAnswer
 dictionaryRefusedAs x line start entries = record { outcome = x; line = line; start = start; entries = entries; strings = 0; contigs = 0 }
@@ -130,8 +131,8 @@ answerOf a f k judged.PartlyIndexed = dictionaryRefusedAs outcome.PartlyIndexed 
 answerOf a f k judged.NumberClash = dictionaryRefusedAs outcome.NumberClash 0 0 (a .entries)
 answerOf a f k judged.SliceTooSmall = dictionaryRefusedAs outcome.SliceTooSmall 0 0 (a .entries)
 
-pub record AnswersBoth (a : ReadAnswer) (f : FileFormat) (k : ℕ) (h : Bytes) (t s c : List ℕ) (r : DictionaryAnswer) (s′ c′ : List ℕ) : Type 0 where
+pub record AnswersBoth (form : Form) (a : ReadAnswer) (f : FileFormat) (k : ℕ) (h : Bytes) (t s c : List ℕ) (r : DictionaryAnswer) (s′ c′ : List ℕ) : Type 0 where
   pub judgement : Judged
-  pub numbers : NumbersBoth h t s c judgement s′ c′
+  pub numbers : NumbersBoth form h t s c judgement s′ c′
   pub answers : r ≡ answerOf a f k judgement
   pub sized : Sized (versionOf f)

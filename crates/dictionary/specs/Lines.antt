@@ -8,6 +8,7 @@ use Rattle.values.specs.Bytes.{Bytes, ascii}
 use Rattle.rules.specs.Known.{isIn}
 use Rattle.rules.specs.Entry.{Entry}
 use Rattle.rules.specs.Shown.{lineIn, idMeaning}
+use Rattle.entries.specs.declared.form.Form.{Form}
 use Rattle.entries.specs.Tables.{entriesIn}
 use Rattle.entries.specs.Values.{entryOf}
 use Rattle.entries.specs.declared.entry.Entry.{Entry as CodeEntry}
@@ -47,8 +48,8 @@ entryLines d h n [] = []
 entryLines d h n (e ∷ es) = lineIf (holds d (e .kind)) (lineOfEntry h n e) (entryLines d h (n + 1) es)
 
 -- the lines of the entries in a table
-abbrev pub tableLines : Dictionary → Bytes → List ℕ → List Line
-tableLines d h t = entryLines d h 0 (entriesIn t)
+abbrev pub tableLines : Dictionary → Form → Bytes → List ℕ → List Line
+tableLines d form h t = entryLines d h 0 (entriesIn form t)
 
 -- what the code's entry says
 abbrev pub idAt : Bytes → CodeEntry → Bytes
@@ -58,8 +59,8 @@ abbrev pub idxAt : Bytes → CodeEntry → Option ℕ
 idxAt h e = entryIdx h (entryOf e)
 
 -- both dictionaries of the entries in a table
-abbrev pub stringLines : Bytes → List ℕ → List Line
-stringLines h t = tableLines Strings h t
+abbrev pub stringLines : Form → Bytes → List ℕ → List Line
+stringLines form h t = tableLines Strings form h t
 
-abbrev pub contigLines : Bytes → List ℕ → List Line
-contigLines h t = tableLines Contigs h t
+abbrev pub contigLines : Form → Bytes → List ℕ → List Line
+contigLines form h t = tableLines Contigs form h t

@@ -7,6 +7,7 @@ use lib.Dec.{eqb}
 use Rattle.values.specs.Bytes.{Bytes, same}
 use Rattle.values.specs.Marks.{isMarked, mark}
 use Rattle.rules.specs.Known.{isIn}
+use Rattle.entries.specs.declared.form.Form.{Form}
 use Rattle.dictionary.specs.Dictionary.{Line, anyOf, implied, impliedNumbers, clashes}
 use Rattle.dictionary.specs.Numbers.{isMet, metAlso}
 use Rattle.entries.specs.declared.entry.Entry.{Entry as CodeEntry}
@@ -84,11 +85,11 @@ placeBy false d x idx before taken = countedPlace (isIn x (implied d)) before
 
 -- The same of an entry, where those of the table t stand before it
 
-abbrev pub earlierAt : Dictionary → Bytes → List ℕ → Bytes → CodeEntry → Option (Option ℕ)
-earlierAt d h t ms e = idxFound ms (idAt h e) (tableLines d h t)
+abbrev pub earlierAt : Dictionary → Form → Bytes → List ℕ → Bytes → CodeEntry → Option (Option ℕ)
+earlierAt d form h t ms e = idxFound ms (idAt h e) (tableLines d form h t)
 
-abbrev pub indexedAt : Dictionary → Bytes → List ℕ → Bytes → CodeEntry → Earlier → Placed
-indexedAt d h t ns e o = indexedPlace d (idAt h e) (idxAt h e) (earlierMeant h o) (isTaken ns (tableLines d h t))
+abbrev pub indexedAt : Dictionary → Form → Bytes → List ℕ → Bytes → CodeEntry → Earlier → Placed
+indexedAt d form h t ns e o = indexedPlace d (idAt h e) (idxAt h e) (earlierMeant h o) (isTaken ns (tableLines d form h t))
 
-abbrev pub placeAt : Bool → Dictionary → Bytes → List ℕ → Bytes → Bytes → CodeEntry → Placed
-placeAt indexed d h t ms ns e = placeBy indexed d (idAt h e) (idxAt h e) (earlierAt d h t ms e) (isTaken ns (tableLines d h t))
+abbrev pub placeAt : Bool → Dictionary → Form → Bytes → List ℕ → Bytes → Bytes → CodeEntry → Placed
+placeAt indexed d form h t ms ns e = placeBy indexed d (idAt h e) (idxAt h e) (earlierAt d form h t ms e) (isTaken ns (tableLines d form h t))

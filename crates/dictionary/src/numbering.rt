@@ -5,6 +5,7 @@ use crate::line::IdxRead;
 use crate::place;
 use crate::place::Placed;
 use entries::entry::Entry;
+use entries::form::Form;
 use entries::table;
 ghost use mathlib.Core.Path.{_≡_};
 ghost use Rattle.dictionary.specs.Lines.{tableLines, idAt, idxAt};
@@ -35,14 +36,14 @@ pub enum Numbering {
     Clash,
 }
 
-pub fn carried_in(h: &[u8], kept: &[u64], dictionary: Dictionary) -> Carried
-    ensures { λ r. ⌜ r ≡ carriedBy (tableLines dictionary (now (h .entry)) (now (kept .entry))) ⌝ }
+pub fn carried_in(h: &[u8], kept: &[u64], form: Form, dictionary: Dictionary) -> Carried
+    ensures { λ r. ⌜ r ≡ carriedBy (tableLines dictionary form (now (h .entry)) (now (kept .entry))) ⌝ }
 {
     let mut given = false;
     let mut missing = false;
     let mut k = 0;
-    while k < table::count(kept) {
-        let e = table::get(kept, k);
+    while k < table::count(kept, form) {
+        let e = table::get(kept, form, k);
         k += 1;
         if line::has_kind(dictionary, e.kind) {
             match line::line_idx(h, e) {
@@ -79,6 +80,7 @@ fn first_number(dictionary: Dictionary) -> u64
 fn number_line(
     h: &[u8],
     ahead: &[u64],
+    form: Form,
     dictionary: Dictionary,
     indexed: bool,
     e: Entry,
@@ -90,16 +92,16 @@ fn number_line(
 ) -> Turn
     requires { ⌜ Counts count ⌝ }
     ensures turn { λ r.
-        ⌜ r ≡ turnOf count (placeAt indexed dictionary (now (h .entry)) (now (ahead .entry)) (now (marks .entry)) (now (numbers .entry)) e) ⌝ }
+        ⌜ r ≡ turnOf count (placeAt indexed dictionary form (now (h .entry)) (now (ahead .entry)) (now (marks .entry)) (now (numbers .entry)) e) ⌝ }
     ensures out { λ _.
         ⌜ now (out .exit) ≡ turnOut (now (out .entry)) entry count
-        (placeAt indexed dictionary (now (h .entry)) (now (ahead .entry)) (now (marks .entry)) (now (numbers .entry)) e) ⌝ }
+        (placeAt indexed dictionary form (now (h .entry)) (now (ahead .entry)) (now (marks .entry)) (now (numbers .entry)) e) ⌝ }
     ensures marks { λ _. ⌜ now (marks .exit) ≡ markTwice (now (marks .entry)) (idAt (now (h .entry)) e) ⌝ }
     ensures numbers { λ _. ⌜ now (numbers .exit) ≡ metBy indexed (now (numbers .entry)) (idxAt (now (h .entry)) e) ⌝ }
 {
     let pairs = count.pairs;
     let next = count.next;
-    match place::place_line(h, ahead, dictionary, indexed, e, marks, numbers) {
+    match place::place_line(h, ahead, form, dictionary, indexed, e, marks, numbers) {
         Placed::Numbered(n) => {
             put_pair(out, pairs, entry, n);
             Turn::Next(Count {
@@ -123,28 +125,30 @@ fn number_line(
 fn number_lines(
     h: &[u8],
     kept: &[u64],
+    form: Form,
     dictionary: Dictionary,
     indexed: bool,
     out: &mut [u64],
     marks: &mut [u8],
     numbers: &mut [u8],
 ) -> Numbering
-    ensures { λ r. ⌜ NumbersLines dictionary indexed (tableLines dictionary (now (h .entry)) (now (kept .entry))) (now (out .entry)) r (now (out .exit)) ⌝ }
+    ensures { λ r. ⌜ NumbersLines dictionary indexed (tableLines dictionary form (now (h .entry)) (now (kept .entry))) (now (out .entry)) r (now (out .exit)) ⌝ }
 {
     let mut count = Count {
         pairs: 0,
         next: first_number(dictionary),
     };
     let mut k = 0;
-    while k < table::count(kept) {
-        let e = table::get(kept, k);
-        let ahead = table::kept(kept, k);
+    while k < table::count(kept, form) {
+        let e = table::get(kept, form, k);
+        let ahead = table::kept(kept, form, k);
         let entry = k as u64;
         k += 1;
         if line::has_kind(dictionary, e.kind) {
             match number_line(
                 h,
                 ahead,
+                form,
                 dictionary,
                 indexed,
                 e,
@@ -165,19 +169,38 @@ fn number_lines(
 pub fn number_dictionary(
     h: &[u8],
     kept: &[u64],
+    form: Form,
     dictionary: Dictionary,
     indexed: bool,
     out: &mut [u64],
 ) -> Numbering
-    ensures { λ r. ⌜ NumbersLines dictionary indexed (tableLines dictionary (now (h .entry)) (now (kept .entry))) (now (out .entry)) r (now (out .exit)) ⌝ }
+    ensures { λ r. ⌜ NumbersLines dictionary indexed (tableLines dictionary form (now (h .entry)) (now (kept .entry))) (now (out .entry)) r (now (out .exit)) ⌝ }
 {
     // A short header has few lines, and clearing more marks than they need costs more than it spares.
     if h.len() < 65536 {
         let mut marks = [0u8; 4096];
         let mut numbers = [0u8; 4096];
-        return number_lines(h, kept, dictionary, indexed, out, &mut marks, &mut numbers);
+        return number_lines(
+            h,
+            kept,
+            form,
+            dictionary,
+            indexed,
+            out,
+            &mut marks,
+            &mut numbers,
+        );
     }
     let mut marks = [0u8; 65536];
     let mut numbers = [0u8; 65536];
-    number_lines(h, kept, dictionary, indexed, out, &mut marks, &mut numbers)
+    number_lines(
+        h,
+        kept,
+        form,
+        dictionary,
+        indexed,
+        out,
+        &mut marks,
+        &mut numbers,
+    )
 }

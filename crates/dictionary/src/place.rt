@@ -4,6 +4,7 @@ use crate::line::Dictionary;
 use crate::line::IdxRead;
 use crate::numbers;
 use entries::entry::Entry;
+use entries::form::Form;
 use entries::part;
 use entries::table;
 use values::marks;
@@ -30,13 +31,13 @@ pub enum Placed {
     Clash,
 }
 
-fn find_id(h: &[u8], ahead: &[u64], dictionary: Dictionary, e: Entry) -> Earlier
-    ensures { λ r. ⌜ earlierMeant (now (h .entry)) r ≡ idxNamed (idAt (now (h .entry)) e) (tableLines dictionary (now (h .entry)) (now (ahead .entry))) ⌝ }
+fn find_id(h: &[u8], ahead: &[u64], form: Form, dictionary: Dictionary, e: Entry) -> Earlier
+    ensures { λ r. ⌜ earlierMeant (now (h .entry)) r ≡ idxNamed (idAt (now (h .entry)) e) (tableLines dictionary form (now (h .entry)) (now (ahead .entry))) ⌝ }
 {
     let id = part::id_part(h, e);
     let mut k = 0;
-    while k < table::count(ahead) {
-        let x = table::get(ahead, k);
+    while k < table::count(ahead, form) {
+        let x = table::get(ahead, form, k);
         k += 1;
         if line::has_kind(dictionary, x.kind) {
             if string::same_meaning(part::id_part(h, x), x.quoted, id, e.quoted) {
@@ -57,12 +58,12 @@ fn has_idx(h: &[u8], e: Entry, n: u64) -> bool
     m == n
 }
 
-fn has_number(h: &[u8], ahead: &[u64], dictionary: Dictionary, n: u64) -> bool
-    ensures { λ r. ⌜ r ≡ numberSeen n (tableLines dictionary (now (h .entry)) (now (ahead .entry))) ⌝ }
+fn has_number(h: &[u8], ahead: &[u64], form: Form, dictionary: Dictionary, n: u64) -> bool
+    ensures { λ r. ⌜ r ≡ numberSeen n (tableLines dictionary form (now (h .entry)) (now (ahead .entry))) ⌝ }
 {
     let mut k = 0;
-    while k < table::count(ahead) {
-        let x = table::get(ahead, k);
+    while k < table::count(ahead, form) {
+        let x = table::get(ahead, form, k);
         k += 1;
         if line::has_kind(dictionary, x.kind) {
             if has_idx(h, x, n) {
@@ -78,12 +79,13 @@ fn has_number(h: &[u8], ahead: &[u64], dictionary: Dictionary, n: u64) -> bool
 fn find_earlier(
     h: &[u8],
     ahead: &[u64],
+    form: Form,
     dictionary: Dictionary,
     e: Entry,
     marks: &mut [u8],
 ) -> Earlier
     ensures found { λ r.
-        ⌜ earlierMeant (now (h .entry)) r ≡ earlierAt dictionary (now (h .entry)) (now (ahead .entry)) (now (marks .entry)) e ⌝ }
+        ⌜ earlierMeant (now (h .entry)) r ≡ earlierAt dictionary form (now (h .entry)) (now (ahead .entry)) (now (marks .entry)) e ⌝ }
     ensures marks { λ _. ⌜ now (marks .exit) ≡ markTwice (now (marks .entry)) (idAt (now (h .entry)) e) ⌝ }
 {
     let id = part::id_part(h, e);
@@ -95,7 +97,7 @@ fn find_earlier(
     if !met_again {
         return Earlier::Missing;
     }
-    find_id(h, ahead, dictionary, e)
+    find_id(h, ahead, form, dictionary, e)
 }
 
 // Only PASS is 0.
@@ -117,13 +119,14 @@ fn clashes_implied(h: &[u8], dictionary: Dictionary, e: Entry, n: u64) -> bool
 fn place_beside(
     h: &[u8],
     ahead: &[u64],
+    form: Form,
     dictionary: Dictionary,
     earlier: Earlier,
     n: u64,
     met: bool,
 ) -> Placed
     ensures { λ r.
-        ⌜ r ≡ placeBeside n (earlierMeant (now (h .entry)) earlier) (met && numberSeen n (tableLines dictionary (now (h .entry)) (now (ahead .entry)))) ⌝ }
+        ⌜ r ≡ placeBeside n (earlierMeant (now (h .entry)) earlier) (met && numberSeen n (tableLines dictionary form (now (h .entry)) (now (ahead .entry)))) ⌝ }
 {
     match earlier {
         Earlier::Found(x) => {
@@ -136,7 +139,7 @@ fn place_beside(
             if !met {
                 return Placed::Numbered(n);
             }
-            if has_number(h, ahead, dictionary, n) {
+            if has_number(h, ahead, form, dictionary, n) {
                 return Placed::Clash;
             }
             Placed::Numbered(n)
@@ -148,13 +151,14 @@ fn place_beside(
 fn place_indexed(
     h: &[u8],
     ahead: &[u64],
+    form: Form,
     dictionary: Dictionary,
     e: Entry,
     earlier: Earlier,
     numbers: &mut [u8],
 ) -> Placed
     ensures placed { λ r.
-        ⌜ r ≡ indexedAt dictionary (now (h .entry)) (now (ahead .entry)) (now (numbers .entry)) e earlier ⌝ }
+        ⌜ r ≡ indexedAt dictionary form (now (h .entry)) (now (ahead .entry)) (now (numbers .entry)) e earlier ⌝ }
     ensures numbers { λ _. ⌜ now (numbers .exit) ≡ metIdx (now (numbers .entry)) (idxAt (now (h .entry)) e) ⌝ }
 {
     let IdxRead::Idx(n) = line::line_idx(h, e) else {
@@ -164,7 +168,7 @@ fn place_indexed(
     if clashes_implied(h, dictionary, e, n) {
         return Placed::Clash;
     }
-    place_beside(h, ahead, dictionary, earlier, n, met)
+    place_beside(h, ahead, form, dictionary, earlier, n, met)
 }
 
 // Where they don't.
@@ -184,6 +188,7 @@ fn place_counted(h: &[u8], dictionary: Dictionary, e: Entry, earlier: Earlier) -
 pub fn place_line(
     h: &[u8],
     ahead: &[u64],
+    form: Form,
     dictionary: Dictionary,
     indexed: bool,
     e: Entry,
@@ -191,13 +196,13 @@ pub fn place_line(
     numbers: &mut [u8],
 ) -> Placed
     ensures placed { λ r.
-        ⌜ r ≡ placeAt indexed dictionary (now (h .entry)) (now (ahead .entry)) (now (marks .entry)) (now (numbers .entry)) e ⌝ }
+        ⌜ r ≡ placeAt indexed dictionary form (now (h .entry)) (now (ahead .entry)) (now (marks .entry)) (now (numbers .entry)) e ⌝ }
     ensures marks { λ _. ⌜ now (marks .exit) ≡ markTwice (now (marks .entry)) (idAt (now (h .entry)) e) ⌝ }
     ensures numbers { λ _. ⌜ now (numbers .exit) ≡ metBy indexed (now (numbers .entry)) (idxAt (now (h .entry)) e) ⌝ }
 {
-    let earlier = find_earlier(h, ahead, dictionary, e, marks);
+    let earlier = find_earlier(h, ahead, form, dictionary, e, marks);
     if indexed {
-        return place_indexed(h, ahead, dictionary, e, earlier, numbers);
+        return place_indexed(h, ahead, form, dictionary, e, earlier, numbers);
     }
     place_counted(h, dictionary, e, earlier)
 }

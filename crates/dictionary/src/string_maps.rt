@@ -3,6 +3,7 @@ use crate::line::Dictionary;
 use crate::numbering;
 use crate::numbering::Carried;
 use crate::numbering::Numbering;
+use entries::form::Form;
 use entries::table;
 use header::file_format_option::FileFormatOption;
 use header::parser;
@@ -12,7 +13,6 @@ use records::file_format::FileFormat;
 use records::refusal::Refusal;
 ghost use mathlib.Core.Path.{_≡_};
 ghost use mathlib.Core.Bool.{_&&_};
-ghost use Rattle.rules.specs.Sizes.{limits};
 ghost use Rattle.header.specs.Verdicts.{imposedOf};
 ghost use Rattle.dictionary.specs.Lines.{tableLines};
 ghost use Rattle.dictionary.specs.Answers.{dictionaryNumber, DictionaryCall, CountsPairs, Judges, NumbersBoth, dictionaryRefusedAs, answerOf, AnswersBoth};
@@ -70,17 +70,31 @@ fn is_mixed(carried: Carried) -> bool
     false
 }
 
-fn count_pairs(h: &[u8], kept: &[u64], dictionary: Dictionary, indexed: bool) -> Numbering
-    ensures { λ r. ⌜ CountsPairs dictionary indexed (tableLines dictionary (now (h .entry)) (now (kept .entry))) r ⌝ }
+fn count_pairs(
+    h: &[u8],
+    kept: &[u64],
+    form: Form,
+    dictionary: Dictionary,
+    indexed: bool,
+) -> Numbering
+    ensures { λ r. ⌜ CountsPairs dictionary indexed (tableLines dictionary form (now (h .entry)) (now (kept .entry))) r ⌝ }
 {
     let mut nothing = [0u64; 0];
-    numbering::number_dictionary(h, kept, dictionary, indexed, &mut nothing)
+    numbering::number_dictionary(h, kept, form, dictionary, indexed, &mut nothing)
 }
 
 // `s` and `c` tell which lines carry IDX, `strings` and `contigs` are the words that there are for them.
-fn judge(h: &[u8], kept: &[u64], s: Carried, c: Carried, strings: usize, contigs: usize) -> Judged
+fn judge(
+    h: &[u8],
+    kept: &[u64],
+    form: Form,
+    s: Carried,
+    c: Carried,
+    strings: usize,
+    contigs: usize,
+) -> Judged
     ensures { λ r.
-        ⌜ Judges s c (now (h .entry)) (now (kept .entry)) strings contigs r ⌝ }
+        ⌜ Judges form s c (now (h .entry)) (now (kept .entry)) strings contigs r ⌝ }
 {
     if is_mixed(s) {
         return Judged::PartlyIndexed;
@@ -88,10 +102,10 @@ fn judge(h: &[u8], kept: &[u64], s: Carried, c: Carried, strings: usize, contigs
     if is_mixed(c) {
         return Judged::PartlyIndexed;
     }
-    let Numbering::Pairs(n) = count_pairs(h, kept, Dictionary::Strings, s.given) else {
+    let Numbering::Pairs(n) = count_pairs(h, kept, form, Dictionary::Strings, s.given) else {
         return Judged::NumberClash;
     };
-    let Numbering::Pairs(m) = count_pairs(h, kept, Dictionary::Contigs, c.given) else {
+    let Numbering::Pairs(m) = count_pairs(h, kept, form, Dictionary::Contigs, c.given) else {
         return Judged::NumberClash;
     };
     if strings / 2 < n {
@@ -104,16 +118,22 @@ fn judge(h: &[u8], kept: &[u64], s: Carried, c: Carried, strings: usize, contigs
 }
 
 // `kept` are the entries of an accepted header.
-fn number_both(h: &[u8], kept: &[u64], strings: &mut [u64], contigs: &mut [u64]) -> Judged
+fn number_both(
+    h: &[u8],
+    kept: &[u64],
+    form: Form,
+    strings: &mut [u64],
+    contigs: &mut [u64],
+) -> Judged
     ensures { λ r.
-        ⌜ NumbersBoth (now (h .entry)) (now (kept .entry)) (now (strings .entry)) (now (contigs .entry)) r (now (strings .exit)) (now (contigs .exit)) ⌝ }
+        ⌜ NumbersBoth form (now (h .entry)) (now (kept .entry)) (now (strings .entry)) (now (contigs .entry)) r (now (strings .exit)) (now (contigs .exit)) ⌝ }
 {
-    let s = numbering::carried_in(h, kept, Dictionary::Strings);
-    let c = numbering::carried_in(h, kept, Dictionary::Contigs);
-    match judge(h, kept, s, c, strings.len(), contigs.len()) {
+    let s = numbering::carried_in(h, kept, form, Dictionary::Strings);
+    let c = numbering::carried_in(h, kept, form, Dictionary::Contigs);
+    match judge(h, kept, form, s, c, strings.len(), contigs.len()) {
         Judged::Whole(n, m) => {
-            numbering::number_dictionary(h, kept, Dictionary::Strings, s.given, strings);
-            numbering::number_dictionary(h, kept, Dictionary::Contigs, c.given, contigs);
+            numbering::number_dictionary(h, kept, form, Dictionary::Strings, s.given, strings);
+            numbering::number_dictionary(h, kept, form, Dictionary::Contigs, c.given, contigs);
             Judged::Whole(n, m)
         }
         Judged::PartlyIndexed => Judged::PartlyIndexed,
@@ -158,6 +178,7 @@ fn answer(read: ReadAnswer, version: FileFormat, samples: usize, judged: Judged)
 fn answer_accepted(
     h: &[u8],
     kept: &[u64],
+    form: Form,
     read: ReadAnswer,
     version: FileFormat,
     samples: usize,
@@ -165,10 +186,10 @@ fn answer_accepted(
     contigs: &mut [u64],
 ) -> DictionaryAnswer
     ensures { λ r.
-        ⌜ AnswersBoth read version samples (now (h .entry)) (now (kept .entry)) (now (strings .entry)) (now (contigs .entry)) r (now (strings .exit))
+        ⌜ AnswersBoth form read version samples (now (h .entry)) (now (kept .entry)) (now (strings .entry)) (now (contigs .entry)) r (now (strings .exit))
         (now (contigs .exit)) ⌝ }
 {
-    let judged = number_both(h, kept, strings, contigs);
+    let judged = number_both(h, kept, form, strings, contigs);
     answer(read, version, samples, judged)
 }
 
@@ -177,15 +198,16 @@ fn answer_accepted(
 pub fn dictionaries(
     header: &[u8],
     imposed: FileFormatOption,
+    form: Form,
     table: &mut [u64],
     strings: &mut [u64],
     contigs: &mut [u64],
 ) -> DictionaryAnswer
     ensures { λ r.
-        ⌜ DictionaryCall limits (imposedOf imposed) (now (header .entry)) (now (table .entry)) (now (strings .entry)) (now (contigs .entry)) r
+        ⌜ DictionaryCall form (imposedOf imposed) (now (header .entry)) (now (table .entry)) (now (strings .entry)) (now (contigs .entry)) r
         (now (table .exit)) (now (strings .exit)) (now (contigs .exit)) ⌝ }
 {
-    let read = parser::read(header, imposed, table);
+    let read = parser::read(header, imposed, form, table);
     let entries = read.entries;
     let outcome = read.outcome;
     match outcome {
@@ -197,7 +219,8 @@ pub fn dictionaries(
         ),
         Outcome::Accepted(version, samples) => answer_accepted(
             header,
-            table::kept(table, entries),
+            table::kept(table, form, entries),
+            form,
             read,
             version,
             samples,

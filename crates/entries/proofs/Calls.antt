@@ -18,6 +18,7 @@ use Rattle.rules.specs.Shown.{Part as RulePart, hasId, saysNoId, wellFormed, id
 use Rattle.entries.specs.Tables.{entryIn, wordsClear, entryAt, shownEntry, shownId}
 use Rattle.entries.specs.Values.{entryOf}
 use Rattle.entries.specs.declared.entry.Entry.{Entry}
+use Rattle.entries.specs.declared.form.Form.{Form}
 use Rattle.entries.specs.declared.shown.Shown.{Shown}
 use Rattle.entries.specs.declared.shown.Shown.the-variants.{Part, Refused}
 use Rattle.entries.specs.declared.shown.EntryRead.{EntryRead}
@@ -124,17 +125,17 @@ id-text h e a b = b ∙ rw (a, take-all (length h) (drop (e .start) h) (simp len
 
 -- The entry
 
-module _ (h : Bytes) (table : List ℕ) (n : ℕ) {p : Bool} (a : p ≡ wordsClear table n) where
-  pub entry-unclear : not p ≡ true → none ≡ entryAt h table n
+module _ (form : Form) (h : Bytes) (table : List ℕ) (n : ℕ) {p : Bool} (a : p ≡ wordsClear form table n) where
+  pub entry-unclear : not p ≡ true → none ≡ entryAt form h table n
   unfolding entryAt
   entry-unclear f = rw (entryAt, ← a, not-true p f)
 
-  module _ (on : not p ≡ false) {e : RuleEntry} (c : e ≡ entryIn table n) {q : Bool} (b : q ≡ wellFormed (length h) e) where
-    pub entry-formed : q ≡ true → some e ≡ entryAt h table n
+  module _ (on : not p ≡ false) {e : RuleEntry} (c : e ≡ entryIn form table n) {q : Bool} (b : q ≡ wellFormed (length h) e) where
+    pub entry-formed : q ≡ true → some e ≡ entryAt form h table n
     unfolding entryAt
     entry-formed f = rw (entryAt, ← a, not-false p on, ← c, ← b, f) (ap some c)
 
-    pub entry-malformed : q ≡ false → none ≡ entryAt h table n
+    pub entry-malformed : q ≡ false → none ≡ entryAt form h table n
     unfolding entryAt
     entry-malformed f = rw (entryAt, ← a, not-false p on, ← c, ← b, f)
 
@@ -174,34 +175,45 @@ formed size e w =
       id = leb-true (e .offset + e .idLength) (e .length) (and-r ls ds c);
     }
 
-pub entry-inside : (h : Bytes) (table : List ℕ) (n : ℕ) {e : RuleEntry} → entryAt h table n ≡ some e → Formed (length h) e
+-- an entry that is found: what the words hold, with no bits but its numbers', and well formed
+pub record FoundAt (form : Form) (h : Bytes) (table : List ℕ) (n : ℕ) (e : RuleEntry) : Type 0 where
+  pub clear : wordsClear form table n ≡ true
+  pub held : entryIn form table n ≡ e
+  pub well : wellFormed (length h) e ≡ true
+
+pub found-at : (form : Form) (h : Bytes) (table : List ℕ) (n : ℕ) {e : RuleEntry} → entryAt form h table n ≡ some e → FoundAt form h table n e
 unfolding entryAt
-entry-inside h table n {e} a = elim (test (wordsClear table n && wellFormed (length h) (entryIn table n))) [
-  | pass f ↦ rw (← some-is (rw (entryAt, f) at a)) (formed (length h) (entryIn table n) (and-r (wordsClear table n) _ f))
+found-at form h table n {e} a = elim (test (wordsClear form table n && wellFormed (length h) (entryIn form table n))) [
+  | pass f ↦
+      let i = some-is (rw (entryAt, f) at a) in
+      record { clear = and-l (wordsClear form table n) _ f; held = i; well = rw i at (and-r (wordsClear form table n) _ f) }
   | fail f ↦ none-not (rw (entryAt, f) at a)
 ]
+
+pub entry-inside : (form : Form) (h : Bytes) (table : List ℕ) (n : ℕ) {e : RuleEntry} → entryAt form h table n ≡ some e → Formed (length h) e
+entry-inside form h table n {e} a = formed (length h) e (found-at form h table n a .well)
 
 pub refused-inside : (size : ℕ) → Inside size Refused
 refused-inside size = tt
 
-module _ (h : Bytes) (table : List ℕ) (n : ℕ) {r : EntryRead} (a : entryMeant r ≡ entryAt h table n) where
-  missing : r ≡ read.Missing → entryAt h table n ≡ none
+module _ (form : Form) (h : Bytes) (table : List ℕ) (n : ℕ) {r : EntryRead} (a : entryMeant r ≡ entryAt form h table n) where
+  missing : r ≡ read.Missing → entryAt form h table n ≡ none
   missing e = sym a ∙ ap entryMeant e
 
-  pub entry-unshown : r ≡ read.Missing → answered Refused ≡ orRefused (shownEntry h table n)
+  pub entry-unshown : r ≡ read.Missing → answered Refused ≡ orRefused (shownEntry form h table n)
   entry-unshown e = rw (missing e)
 
-  pub id-unshown : r ≡ read.Missing → answered Refused ≡ orRefused (shownId h table n)
+  pub id-unshown : r ≡ read.Missing → answered Refused ≡ orRefused (shownId form h table n)
   id-unshown e = rw (missing e)
 
   module _ {x : Entry} (b : r ≡ read.Entry x) where
-    pub found : entryAt h table n ≡ some (entryOf x)
+    pub found : entryAt form h table n ≡ some (entryOf x)
     found = sym a ∙ ap entryMeant b
 
     pub found-inside : Formed (length h) (entryOf x)
-    found-inside = entry-inside h table n found
+    found-inside = entry-inside form h table n found
 
-    pub entry-shown : answered (Part (x .start) (x .start + x .length)) ≡ orRefused (shownEntry h table n)
+    pub entry-shown : answered (Part (x .start) (x .start + x .length)) ≡ orRefused (shownEntry form h table n)
     entry-shown = rw found
 
     pub entry-part-inside : Inside (length h) (Part (x .start) (x .start + x .length))
@@ -211,10 +223,10 @@ module _ (h : Bytes) (table : List ℕ) (n : ℕ) {r : EntryRead} (a : entryMean
     id-part-inside = let i = found-inside in (omega arith, omega arith)
 
     module _ {q : Bool} (d : q ≡ hasId (x .kind)) where
-      pub id-not-due : not q ≡ true → answered Refused ≡ orRefused (shownId h table n)
+      pub id-not-due : not q ≡ true → answered Refused ≡ orRefused (shownId form h table n)
       id-not-due e = rw (found, idPart, ← d, not-true q e)
 
-      pub id-shown : not q ≡ false → answered (Part (x .start + x .offset) (x .start + x .offset + x .«id_length»)) ≡ orRefused (shownId h table n)
+      pub id-shown : not q ≡ false → answered (Part (x .start + x .offset) (x .start + x .offset + x .«id_length»)) ≡ orRefused (shownId form h table n)
       id-shown e = rw (found, idPart, ← d, not-false q e)
 
 pub ruleset shown-entries = (entry-unshown, entry-shown, entry-part-inside, refused-inside, found-inside)

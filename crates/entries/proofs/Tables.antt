@@ -1,78 +1,158 @@
--- The lent table: what its functions answer, and how its entries follow one another. Assumes nothing.
-use Prim.Native.Nat.{ℕ, _+_, _*_, _/_, _^_, _≤_, _<_}
+-- The lent table: what its functions answer. Assumes nothing.
+use Prim.Native.Nat.{ℕ, _+_, _*_, _/_, _-_, _^_, _≤_, _<_}
 use native.Mathlib.Numerals.{add-one}
+use native.Mathlib.Nat.{add-sub-cancel-left}
 use native.Mathlib.Omega.{arith}
-use mathlib.Core.Path.{_≡_, refl, sym, _∙_}
+use mathlib.Core.Path.{_≡_, sym, ap, _∙_}
 use mathlib.Core.Bool.{Bool, true, false, not, false≢true}
-use mathlib.Core.List.{List}
+use mathlib.Core.List.{List, [], _∷_}
 use lib.Dec.{ltb}
-use lib.ListN.{length, getD, take, set, length-set}
+use lib.ListN.{length, getD, take, drop, set, length-take, length-drop}
 use lib.Seq.{take-all}
-use borrow.Author.Tests.{lt-ltb, le-ltb}
-use Rattle.values.proofs.Tests.{not-false}
+use borrow.Author.Tests.{lt-ltb, le-ltb, ltb-true}
+use Rattle.values.proofs.Tests.{pass, fail, test, not-false}
 use Rattle.rules.specs.Entry.{Entry}
-use Rattle.entries.specs.Words.{wordOne, wordTwo, unpacked, isClear}
-use Rattle.entries.specs.Tables.{room, words, stored, put, NextFits, firstEntries, entryIn, wordsClear}
+use Rattle.entries.specs.declared.form.Form.{Form}
+use Rattle.entries.specs.declared.form.Form.the-variants.{First, Second}
+use Rattle.entries.specs.Words.{wordCount, wordOne, wordTwo, unpacked, isClear}
+use Rattle.entries.specs.Tables.{room, words, stored, put, NextFits, firstEntries, wordsAt, entryIn, wordsClear}
+
+-- How many entries so many words have room for
+
+pub some-words : (form : Form) → 2 ≤ wordCount form
+some-words First = omega arith
+some-words Second = omega arith
+
+pub few-words : (form : Form) → wordCount form ≤ 3
+few-words First = omega arith
+few-words Second = omega arith
+
+pub room-small : (form : Form) (t : List ℕ) → 2 * room form t ≤ length t
+unfolding room
+room-small First t = omega arith
+room-small Second t = omega arith
+
+-- the words of n entries
+pub entries-fit : (form : Form) (t : List ℕ) (n : ℕ) → n ≤ room form t → wordCount form * n ≤ length t
+unfolding room
+entries-fit First t n h = omega arith
+entries-fit Second t n h = omega arith
+
+pub entry-fits : (form : Form) (t : List ℕ) (n : ℕ) → n < room form t → wordCount form * n + wordCount form ≤ length t
+unfolding room
+entry-fits First t n h = omega arith
+entry-fits Second t n h = omega arith
+
+-- more than those that there is room for
+pub kept-over : (form : Form) (t : List ℕ) (n : ℕ) → room form t < n → length t ≤ wordCount form * n
+unfolding room
+kept-over First t n h = omega arith
+kept-over Second t n h = omega arith
+
+pub room-of : (form : Form) (t : List ℕ) (n : ℕ) → length t ≡ wordCount form * n → room form t ≡ n
+unfolding room
+room-of First t n e = omega arith
+room-of Second t n e = omega arith
+
+-- the words from one entry to a later one
+pub words-between : (form : Form) (i n : ℕ) → i < n → wordCount form ≤ wordCount form * n - wordCount form * i
+words-between First i n h = omega arith
+words-between Second i n h = omega arith
 
 -- What answers the needs of the table's functions
 
-module _ (t : List ℕ) (n : ℕ) where
-  pub counted : length t / 2 ≡ room t
-  unfolding room
-  counted = refl
+module _ (form : Form) (t : List ℕ) {w : ℕ} (e : w ≡ wordCount form) where
+  pub size-positive : 0 < w
+  size-positive = omega (arith, some-words form)
 
-  pub kept-all : length t / 2 < n → t ≡ firstEntries t n
+  pub room-told : length t / w ≡ room form t
+  unfolding room
+  room-told = rw e
+
+pub ruleset counted = (size-positive, room-told)
+
+-- by what `count` and `words` answered
+module _ (form : Form) (t : List ℕ) (n : ℕ) {k : ℕ} (a : k ≡ room form t) where
+  pub words-inside : {w : ℕ} → w ≡ wordCount form → n < k → w * n + w ≤ length t
+  words-inside e h = rw e (entry-fits form t n (omega arith))
+
+  pub kept-inside : {w : ℕ} → w ≡ wordCount form → n ≤ k → w * n ≤ length t
+  kept-inside e h = rw e (entries-fit form t n (omega arith))
+
+  pub kept-all : k < n → t ≡ firstEntries form t n
   unfolding firstEntries
-  kept-all h = sym (take-all (2 * n) t (omega arith))
+  kept-all h = sym (take-all (wordCount form * n) t (kept-over form t n (omega arith)))
 
-  pub kept-some : take (2 * n) t ≡ firstEntries t n
+  pub kept-some : {w : ℕ} → w ≡ wordCount form → take (w * n) t ≡ firstEntries form t n
   unfolding firstEntries
-  kept-some = refl
+  kept-some e = rw e
 
-  past : length t / 2 ≤ n → ltb n (room t) ≡ false
-  unfolding room
-  past h = le-ltb n (length t / 2) h
+  past : k ≤ n → ltb n (room form t) ≡ false
+  past h = le-ltb n (room form t) (omega arith)
 
-  inside : n < length t / 2 → ltb n (room t) ≡ true
-  unfolding room
-  inside h = lt-ltb n (length t / 2) h
+  inside : n < k → ltb n (room form t) ≡ true
+  inside h = lt-ltb n (room form t) (omega arith)
 
-  pub none-got : {e : Entry} → length t / 2 ≤ n → e ≡ unpacked 0 0 → e ≡ entryIn t n
-  unfolding entryIn
-  none-got h a = a ∙ rw (past h, entryIn)
+  pub none-there : k ≤ n → take 0 (drop 0 t) ≡ wordsAt form t n
+  unfolding wordsAt
+  none-there h = rw (past h, wordsAt)
 
-  pub got : {e : Entry} → n < length t / 2 → e ≡ unpacked (getD t (2 * n) 0) (getD t (2 * n + 1) 0) → e ≡ entryIn t n
-  unfolding entryIn
-  got h a = a ∙ rw (inside h, entryIn)
+  pub words-there : n < k → {w : ℕ} → w ≡ wordCount form → take (w * n + w - w * n) (drop (w * n) t) ≡ wordsAt form t n
+  unfolding wordsAt
+  words-there h {w} e = rw (inside h, wordsAt, ← e, add-sub-cancel-left (w * n) w)
 
-  pub none-clear : length t / 2 ≤ n → false ≡ wordsClear t n
-  unfolding wordsClear
-  none-clear h = rw (past h)
-
-  pub clear-there : n < length t / 2 → {q : Bool} → q ≡ isClear (getD t (2 * n) 0) (getD t (2 * n + 1) 0) → q ≡ wordsClear t n
-  unfolding wordsClear
-  clear-there h a = rw (inside h) a
-
-  pub no-room : length t / 2 ≤ n → false ≡ ltb n (room t)
+  pub no-room : k ≤ n → false ≡ ltb n (room form t)
   no-room h = sym (past h)
 
-  pub some-room : n < length t / 2 → true ≡ ltb n (room t)
+  pub some-room : n < k → true ≡ ltb n (room form t)
   some-room h = sym (inside h)
 
-  pub nothing-put : (e : Entry) → length t / 2 ≤ n → t ≡ put t n e
+  pub nothing-put : (e : Entry) → k ≤ n → t ≡ put form t n e
   unfolding put
   nothing-put e h = rw (past h, put)
 
-  pub one-put : (e : Entry) → n < length t / 2 → {w x : ℕ} → w ≡ wordOne e → x ≡ wordTwo e → set (set t (2 * n) w) (2 * n + 1) x ≡ put t n e
+  pub one-put : (e : Entry) → n < k → {s : ℕ} → s ≡ wordCount form → {w x : ℕ} → w ≡ wordOne form e → x ≡ wordTwo form e → set (set t (s * n) w) (s * n + 1) x ≡ put form t n e
   unfolding put stored words
-  one-put e h a b = rw (inside h, put, a, b, add-one)
+  one-put e h z b d = rw (inside h, put, z, b, d, add-one)
 
-pub ruleset counts = (counted, kept-all, kept-some)
+pub ruleset counts = (kept-all, kept-some, none-there, words-there)
+
+-- the words that were found
+module _ (form : Form) (t : List ℕ) (n : ℕ) {ws : List ℕ} (a : ws ≡ wordsAt form t n) where
+  there : 2 ≤ length ws → ltb n (room form t) ≡ true
+  unfolding wordsAt
+  there h = elim (test (ltb n (room form t))) [
+    | pass e ↦ e
+    | fail e ↦ let z : length ws ≡ 0 = ap length a ∙ rw (e, wordsAt) in absurd (omega arith)
+  ]
+
+  missing : length ws < 2 → ltb n (room form t) ≡ false
+  unfolding wordsAt
+  missing h = elim (test (ltb n (room form t))) [
+    | pass e ↦
+        let f = entry-fits form t n (ltb-true n (room form t) e) in
+        let z : length ws ≡ wordCount form = ap length a ∙ rw (e, wordsAt) (simp (length-take, length-drop) (omega arith)) in
+        absurd (omega (arith, some-words form))
+    | fail e ↦ e
+  ]
+
+  pub none-got : {e : Entry} → length ws < 2 → e ≡ unpacked form (0 ∷ 0 ∷ []) → e ≡ entryIn form t n
+  unfolding entryIn wordsAt unpacked
+  none-got h b = b ∙ rw (missing h, wordsAt)
+
+  pub got : {e : Entry} → e ≡ unpacked form (getD ws 0 0 ∷ getD ws 1 0 ∷ []) → e ≡ entryIn form t n
+  unfolding entryIn unpacked
+  got b = b ∙ rw a
+
+  pub none-clear : length ws < 2 → false ≡ wordsClear form t n
+  unfolding wordsClear
+  none-clear h = rw (missing h)
+
+  pub clear-there : 2 ≤ length ws → {q : Bool} → q ≡ isClear form (getD ws 0 0 ∷ getD ws 1 0 ∷ []) → q ≡ wordsClear form t n
+  unfolding wordsClear isClear
+  clear-there h b = rw (there h, ← a) b
 
 pub ruleset gets = (none-got, got, none-clear, clear-there)
-
-pub second-inside : (t : List ℕ) (n w : ℕ) → n < length t / 2 → 2 * n + 1 < length (set t (2 * n) w)
-second-inside t n w h = rw (length-set t (2 * n) w) (omega arith)
 
 pub none-next : (n : ℕ) → NextFits n false
 none-next n = record { is = λ e. absurd (false≢true e) }
@@ -84,4 +164,4 @@ some-next n h = record { is = λ e. h }
 pub next-fits : {n : ℕ} {q : Bool} → NextFits n q → not q ≡ false → n + 1 < 2 ^ 64
 next-fits {q = q} f e = f .is (not-false q e)
 
-pub ruleset puts = (none-next, some-next, second-inside, no-room, some-room, nothing-put, one-put)
+pub ruleset puts = (none-next, some-next, no-room, some-room, nothing-put, one-put)

@@ -1,24 +1,27 @@
--- Document 01, "Lines on both sides": the words that the starred cases leave, and a few of the others, computed by the checker. Assumes nothing.
+-- Document 01, "Lines on both sides": the words that the starred cases leave, and what the calls show of other words, computed by the checker; both in each form of document 02, §5. Assumes nothing.
 use Prim.Native.Nat.{ℕ}
 use mathlib.Core.Path.{_≡_, refl}
 use mathlib.Core.List.{List, [], _∷_, _++_, map}
+use lib.ListN.{take}
 use Rattle.rules.specs.Answer.{Answer, ok, refuse}
 use Rattle.rules.specs.Version.{v4-3}
 use Rattle.rules.specs.Shown.{Part, saysNoId, wellFormed, lineIn, nthFieldPart}
 use Rattle.rules.specs.Examples.{Case, Expected, starred, opened, cell}
+use Rattle.entries.specs.declared.form.Form.{Form}
+use Rattle.entries.specs.declared.form.Form.the-variants.{First, Second}
 use Rattle.entries.specs.Words.{wordOne, wordTwo, unpacked, isClear}
 use Rattle.entries.specs.Shown.{orRefused}
-use Rattle.entries.specs.Tables.{room, words, entryIn, wordsClear, entryAt, shownEntry, shownId, shownField}
+use Rattle.entries.specs.Tables.{room, words, wordsAt, entryIn, wordsClear, entryAt, shownEntry, shownId, shownField}
 
-abbrev pub wordsKept : Case × Expected → List ℕ
-wordsKept c = words (c .1 .entries)
+abbrev pub wordsKept : Form → Case × Expected → List ℕ
+wordsKept form c = words form (c .1 .entries)
 
 -- the fileformat line's words
 abbrev pub formatWords : List ℕ
 formatWords = 0x1000000014000000 ∷ 0 ∷ []
 
 -- those of the rules' tables of cases, in their order
-starred-words : map wordsKept starred ≡ (
+starred-words : map (wordsKept First) starred ≡ (
     []
     ∷ formatWords
     ∷ (formatWords ++ 0x7000150016000000 ∷ 0x000B000300000000 ∷ 0x90002C0026000000 ∷ 0 ∷ [])
@@ -38,6 +41,20 @@ starred-words : map wordsKept starred ≡ (
 unfolding words wordOne wordTwo
 starred-words = refl
 
+-- the first four in the second form
+abbrev pub secondWords : List ℕ
+secondWords = 0x1000000000014000 ∷ 0 ∷ []
+
+starred-second : map (wordsKept Second) (take 4 starred) ≡ (
+    []
+    ∷ secondWords
+    ∷ (secondWords ++ 0x7000015000016000 ∷ 0x00000B0000030000 ∷ 0x900002C000026000 ∷ 0 ∷ [])
+    ∷ (secondWords ++ 0x700001500001A000 ∷ 0x0000150000038000 ∷ 0x9000030000026000 ∷ 0 ∷ [])
+    ∷ []
+    )
+unfolding words wordOne wordTwo
+starred-second = refl
+
 -- 29: the words of a table of one entry, and what the calls answer of the 83 bytes: the entry, its ID, its field 1 under 4.3
 
 pub record Parts : Type 0 where
@@ -45,11 +62,11 @@ pub record Parts : Type 0 where
   pub id : Answer Part
   pub field : Answer Part
 
-abbrev pub parts : List ℕ → Parts
-parts t = record {
-  entry = orRefused (shownEntry cell t 0);
-  id = orRefused (shownId cell t 0);
-  field = orRefused (shownField cell t 0 v4-3 1);
+abbrev pub parts : Form → List ℕ → Parts
+parts form t = record {
+  entry = orRefused (shownEntry form cell t 0);
+  id = orRefused (shownId form cell t 0);
+  field = orRefused (shownField form cell t 0 v4-3 1);
 }
 
 abbrev pub shows : Answer Part → Answer Part → Answer Part → Parts
@@ -87,6 +104,39 @@ shown =
     ∷ (0x6000150016000000 ∷ 0x000B000300000000 ∷ [], shows line (ok (32, 35)) (refuse 29))
     ∷ []
 
-pub refused-parts : map (λ (c : List ℕ × Parts). parts (c .0)) shown ≡ map (λ (c : List ℕ × Parts). c .1) shown
-unfolding opened room unpacked isClear entryIn wordsClear entryAt saysNoId wellFormed lineIn nthFieldPart
+pub refused-parts : map (λ (c : List ℕ × Parts). parts First (c .0)) shown ≡ map (λ (c : List ℕ × Parts). c .1) shown
+unfolding opened room unpacked isClear wordsAt entryIn wordsClear entryAt saysNoId wellFormed lineIn nthFieldPart
 refused-parts = refl
+
+-- the same in the second form
+abbrev pub shownSecond : List (List ℕ × Parts)
+shownSecond =
+    (0x7000015000016000 ∷ 0x00000B0000030000 ∷ [], shows line (ok (32, 35)) (ok (36, 42)))
+    -- no such entry
+    ∷ ([], nothing)
+    ∷ (0x7000015000016000 ∷ [], nothing)
+    -- no such kind
+    ∷ (0x0000015000016000 ∷ 0 ∷ [], nothing)
+    ∷ (0xB000015000016000 ∷ 0 ∷ [], nothing)
+    -- a bit that should be 0, the highest and the lowest of each word
+    ∷ (0x7000015000016800 ∷ 0x00000B0000030000 ∷ [], nothing)
+    ∷ (0x7000015000016001 ∷ 0x00000B0000030000 ∷ [], nothing)
+    ∷ (0x7000015000016000 ∷ 0x00000B0000031000 ∷ [], nothing)
+    ∷ (0x7000015000016000 ∷ 0x00000B0000030001 ∷ [], nothing)
+    -- no such tag, or not of this kind
+    ∷ (0x7000015000016000 ∷ 0x00000B0000036000 ∷ [], nothing)
+    ∷ (0x6000015000016000 ∷ 0x00000B0000032000 ∷ [], nothing)
+    -- a line past the header, an ID past the line
+    ∷ (0x700001500003F000 ∷ 0x00000B0000030000 ∷ [], nothing)
+    ∷ (0x7000015000016000 ∷ 0x0000140000030000 ∷ [], nothing)
+    -- an ID where the kind has none
+    ∷ (0x8000015000016000 ∷ 0x00000B0000030000 ∷ [], nothing)
+    -- well formed, without an ID
+    ∷ (0x8000015000016000 ∷ 0 ∷ [], shows line (refuse 29) (refuse 29))
+    -- well formed, of another kind than its line
+    ∷ (0x6000015000016000 ∷ 0x00000B0000030000 ∷ [], shows line (ok (32, 35)) (refuse 29))
+    ∷ []
+
+pub refused-second : map (λ (c : List ℕ × Parts). parts Second (c .0)) shownSecond ≡ map (λ (c : List ℕ × Parts). c .1) shownSecond
+unfolding opened room unpacked isClear wordsAt entryIn wordsClear entryAt saysNoId wellFormed lineIn nthFieldPart
+refused-second = refl

@@ -1,73 +1,81 @@
--- A lent table: two words for each entry, an odd last word is never used. Assumes nothing.
-use Prim.Native.Nat.{ℕ, _+_, _*_, _/_, _^_, _<_}
+-- A lent table: so many words for each entry, the words left over are never used. Assumes nothing.
+use Prim.Native.Nat.{ℕ, zero, suc, _+_, _*_, _/_, _^_, _<_}
 use mathlib.Core.Path.{_≡_}
 use mathlib.Core.Bool.{Bool, true, false, _&&_}
-use mathlib.Core.List.{List, [], _∷_}
+use mathlib.Core.List.{List, [], _∷_, _++_}
 use mathlib.Core.Option.{Option, none, some}
 use lib.Dec.{ltb}
-use lib.ListN.{length, getD, take}
+use lib.ListN.{length, take, drop}
 use lib.Seq.{sets}
 use Rattle.values.specs.Bytes.{Bytes}
 use Rattle.rules.specs.Version.{Version}
 use Rattle.rules.specs.Entry.{Entry}
 use Rattle.rules.specs.Shown.{Part, wellFormed, entryPart, idPart, entryFieldPart}
-use Rattle.entries.specs.Words.{wordOne, wordTwo, unpacked, isClear}
+use Rattle.entries.specs.declared.form.Form.{Form}
+use Rattle.entries.specs.Words.{wordCount, wordsOf, unpacked, isClear}
 
 -- how many entries a table has room for
-unfoldable pub room : List ℕ → ℕ
-room t = length t / 2
+unfoldable pub room : Form → List ℕ → ℕ
+room form t = length t / wordCount form
 
 -- the words of entries, in order
-unfoldable pub words : List Entry → List ℕ
-words [] = []
-words (e ∷ es) = wordOne e ∷ wordTwo e ∷ words es
+unfoldable pub words : Form → List Entry → List ℕ
+words form [] = []
+words form (e ∷ es) = wordsOf form e ++ words form es
 
 -- the table with these entries from number n on
-unfoldable pub stored : List ℕ → ℕ → List Entry → List ℕ
-stored t n es = sets t (2 * n) (words es)
+unfoldable pub stored : Form → List ℕ → ℕ → List Entry → List ℕ
+stored form t n es = sets t (wordCount form * n) (words form es)
 
 -- with one entry, if there is room for it
-unfoldable pub put : List ℕ → ℕ → Entry → List ℕ
-put t n e = elim (ltb n (room t)) [ true ↦ stored t n (e ∷ []) | false ↦ t ]
+unfoldable pub put : Form → List ℕ → ℕ → Entry → List ℕ
+put form t n e = elim (ltb n (room form t)) [ true ↦ stored form t n (e ∷ []) | false ↦ t ]
 
 -- an entry that was stored has a number below that of any word
 pub record NextFits (n : ℕ) (r : Bool) : Type 0 where
   pub is : r ≡ true → n + 1 < 2 ^ 64
 
 -- with entries one after the other from number n on, as far as there is room
-unfoldable pub putAll : List ℕ → ℕ → List Entry → List ℕ
-putAll t n [] = t
-putAll t n (e ∷ es) = elim (ltb n (room t)) [ true ↦ putAll (stored t n (e ∷ [])) (n + 1) es | false ↦ t ]
+unfoldable pub putAll : Form → List ℕ → ℕ → List Entry → List ℕ
+putAll form t n [] = t
+putAll form t n (e ∷ es) = elim (ltb n (room form t)) [ true ↦ putAll form (stored form t n (e ∷ [])) (n + 1) es | false ↦ t ]
 
 -- the table's first n entries
-unfoldable pub firstEntries : List ℕ → ℕ → List ℕ
-firstEntries t n = take (2 * n) t
+unfoldable pub firstEntries : Form → List ℕ → ℕ → List ℕ
+firstEntries form t n = take (wordCount form * n) t
 
--- the entries of a table, well formed or not
-unfoldable pub entriesIn : List ℕ → List Entry
-entriesIn [] = []
-entriesIn (w ∷ []) = []
-entriesIn (w ∷ x ∷ ws) = unpacked w x ∷ entriesIn ws
+-- the words of entry n; none past the table
+unfoldable pub wordsAt : Form → List ℕ → ℕ → List ℕ
+wordsAt form t n = elim (ltb n (room form t)) [ true ↦ take (wordCount form) (drop (wordCount form * n) t) | false ↦ [] ]
 
--- entry n; past the table one of zeros
-unfoldable pub entryIn : List ℕ → ℕ → Entry
-entryIn t n = elim (ltb n (room t)) [ true ↦ unpacked (getD t (2 * n) 0) (getD t (2 * n + 1) 0) | false ↦ unpacked 0 0 ]
+-- entry n, well formed or not; past the table one of zeros
+unfoldable pub entryIn : Form → List ℕ → ℕ → Entry
+entryIn form t n = unpacked form (wordsAt form t n)
+
+-- so many entries of a table, from number n on
+unfoldable pub entriesFrom : Form → List ℕ → ℕ → ℕ → List Entry
+entriesFrom form t n zero = []
+entriesFrom form t n (suc k) = entryIn form t n ∷ entriesFrom form t (n + 1) k
+
+-- all of them
+unfoldable pub entriesIn : Form → List ℕ → List Entry
+entriesIn form t = entriesFrom form t 0 (room form t)
 
 -- entry n lies in the table, and the bits of its words that no number has are 0
-unfoldable pub wordsClear : List ℕ → ℕ → Bool
-wordsClear t n = ltb n (room t) && isClear (getD t (2 * n) 0) (getD t (2 * n + 1) 0)
+unfoldable pub wordsClear : Form → List ℕ → ℕ → Bool
+wordsClear form t n = ltb n (room form t) && isClear form (wordsAt form t n)
 
 -- entry n, if that holds and it is well formed in this header
-unfoldable pub entryAt : Bytes → List ℕ → ℕ → Option Entry
-entryAt h t n = elim (wordsClear t n && wellFormed (length h) (entryIn t n)) [ true ↦ some (entryIn t n) | false ↦ none ]
+unfoldable pub entryAt : Form → Bytes → List ℕ → ℕ → Option Entry
+entryAt form h t n = elim (wordsClear form t n && wellFormed (length h) (entryIn form t n)) [ true ↦ some (entryIn form t n) | false ↦ none ]
 
 -- The calls on an entry number
 
-abbrev pub shownEntry : Bytes → List ℕ → ℕ → Option Part
-shownEntry h t n = entryPart (entryAt h t n)
+abbrev pub shownEntry : Form → Bytes → List ℕ → ℕ → Option Part
+shownEntry form h t n = entryPart (entryAt form h t n)
 
-abbrev pub shownId : Bytes → List ℕ → ℕ → Option Part
-shownId h t n = idPart (entryAt h t n)
+abbrev pub shownId : Form → Bytes → List ℕ → ℕ → Option Part
+shownId form h t n = idPart (entryAt form h t n)
 
-abbrev pub shownField : Bytes → List ℕ → ℕ → Version → ℕ → Option Part
-shownField h t n v i = entryFieldPart h v i (entryAt h t n)
+abbrev pub shownField : Form → Bytes → List ℕ → ℕ → Version → ℕ → Option Part
+shownField form h t n v i = entryFieldPart h v i (entryAt form h t n)

@@ -1,8 +1,10 @@
 -- The code's entry and limits, as the rules have them. Assumes nothing.
-use Rattle.rules.specs.Sizes.{Limits as RuleLimits}
+use Rattle.rules.specs.Sizes.{Limits as RuleLimits, limits, raisedLimits}
 use Rattle.rules.specs.Entry.{Entry as RuleEntry}
 use Rattle.entries.specs.declared.entry.Entry.{Entry}
 use Rattle.entries.specs.declared.limits.Limits.{Limits}
+use Rattle.entries.specs.declared.form.Form.{Form}
+use Rattle.entries.specs.declared.form.Form.the-variants.{First, Second}
 
 abbrev pub entryOf : Entry → RuleEntry
 entryOf e = record {
@@ -17,3 +19,8 @@ entryOf e = record {
 
 abbrev pub limitsOf : Limits → RuleLimits
 limitsOf l = record { header = l .header; line = l .line }
+
+-- the limits of a header whose entries are stored in this form
+abbrev pub limitsBy : Form → RuleLimits
+limitsBy First = limits
+limitsBy Second = raisedLimits

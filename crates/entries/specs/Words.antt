@@ -1,61 +1,81 @@
--- Document 01, "Entries, most significant bit first": how an entry is stored, in two words. Assumes nothing.
-use Prim.Native.Nat.{ℕ, _+_, _*_, _/_, _%_, _^_, _<_}
+-- Document 01, "Entries, most significant bit first", and document 02, §5: how an entry is stored, in two words. Assumes nothing.
+use Prim.Native.Nat.{ℕ, _+_, _*_, _/_, _%_, _^_}
 use mathlib.Core.Bool.{Bool, true, false, _&&_}
 use mathlib.Core.List.{List, [], _∷_}
 use lib.Dec.{eqb}
+use lib.ListN.{getD}
 use Rattle.rules.specs.Entry.{Entry}
-use Rattle.rules.specs.Sizes.{Limits}
+use Rattle.entries.specs.declared.form.Form.{Form}
+use Rattle.entries.specs.declared.form.Form.the-variants.{First, Second}
 
--- numbers side by side in a word, most significant first: how many bits each has, and the number
-abbrev pub Slots : Type 0
-Slots = List (ℕ × ℕ)
+-- Numbers side by side in a word, most significant first, each with so many bits
 
-abbrev pub width : Slots → ℕ
+abbrev pub width : List ℕ → ℕ
 width [] = 0
-width (s ∷ ss) = s .0 + width ss
+width (n ∷ ns) = n + width ns
 
 -- a number too large for its bits loses its upper ones
-abbrev pub packed : Slots → ℕ
-packed [] = 0
-packed (s ∷ ss) = s .1 % 2 ^ s .0 * 2 ^ width ss + packed ss
+abbrev pub packed : List ℕ → List ℕ → ℕ
+packed [] xs = 0
+packed (n ∷ ns) [] = 0
+packed (n ∷ ns) (x ∷ xs) = x % 2 ^ n * 2 ^ width ns + packed ns xs
 
--- n bits of a word, above the k lowest
-abbrev pub bits : ℕ → ℕ → ℕ → ℕ
-bits k n w = w / 2 ^ k % 2 ^ n
+-- the numbers that a word holds
+abbrev pub numbersIn : List ℕ → ℕ → List ℕ
+numbersIn [] w = []
+numbersIn (n ∷ ns) w = w / 2 ^ width ns % 2 ^ n ∷ numbersIn ns w
+
+-- The words of an entry
+
+abbrev pub wordCount : Form → ℕ
+wordCount First = 2
+wordCount Second = 2
+
+-- kind, start, length, zero
+abbrev pub bitsOne : Form → List ℕ
+bitsOne First = 4 ∷ 20 ∷ 16 ∷ 24 ∷ []
+bitsOne Second = 4 ∷ 24 ∷ 24 ∷ 12 ∷ []
+
+abbrev pub numbersOne : Entry → List ℕ
+numbersOne e = e .kind ∷ e .start ∷ e .length ∷ 0 ∷ []
 
 abbrev pub bit : Bool → ℕ
 bit true = 1
 bit false = 0
 
-abbrev pub slotsOne : Entry → Slots
-slotsOne e = (4, e .kind) ∷ (20, e .start) ∷ (16, e .length) ∷ (24, 0) ∷ []
+-- ID offset in the line, ID length, quoted, ID tag, zero
+abbrev pub bitsTwo : Form → List ℕ
+bitsTwo First = 16 ∷ 16 ∷ 1 ∷ 2 ∷ 29 ∷ []
+bitsTwo Second = 24 ∷ 24 ∷ 1 ∷ 2 ∷ 13 ∷ []
 
-abbrev pub slotsTwo : Entry → Slots
-slotsTwo e = (16, e .offset) ∷ (16, e .idLength) ∷ (1, bit (e .quoted)) ∷ (2, e .tag) ∷ (29, 0) ∷ []
+abbrev pub numbersTwo : Entry → List ℕ
+numbersTwo e = e .offset ∷ e .idLength ∷ bit (e .quoted) ∷ e .tag ∷ 0 ∷ []
 
-unfoldable pub wordOne : Entry → ℕ
-wordOne e = packed (slotsOne e)
+unfoldable pub wordOne : Form → Entry → ℕ
+wordOne form e = packed (bitsOne form) (numbersOne e)
 
-unfoldable pub wordTwo : Entry → ℕ
-wordTwo e = packed (slotsTwo e)
+unfoldable pub wordTwo : Form → Entry → ℕ
+wordTwo form e = packed (bitsTwo form) (numbersTwo e)
 
--- the entry that two words hold
-unfoldable pub unpacked : ℕ → ℕ → Entry
-unpacked w x = record {
-  kind = bits 60 4 w;
-  start = bits 40 20 w;
-  length = bits 24 16 w;
-  offset = bits 48 16 x;
-  idLength = bits 32 16 x;
-  quoted = eqb (bits 31 1 x) 1;
-  tag = bits 29 2 x;
+abbrev pub wordsOf : Form → Entry → List ℕ
+wordsOf form e = wordOne form e ∷ wordTwo form e ∷ []
+
+-- the entry that the numbers of both words tell
+abbrev pub told : List ℕ → List ℕ → Entry
+told ns ms = record {
+  kind = getD ns 0 0;
+  start = getD ns 1 0;
+  length = getD ns 2 0;
+  offset = getD ms 0 0;
+  idLength = getD ms 1 0;
+  quoted = eqb (getD ms 2 0) 1;
+  tag = getD ms 3 0;
 }
 
--- the bits that no number has are 0
-unfoldable pub isClear : ℕ → ℕ → Bool
-isClear w x = eqb (bits 0 24 w) 0 && eqb (bits 0 29 x) 0
+-- the entry that these words hold
+unfoldable pub unpacked : Form → List ℕ → Entry
+unpacked form ws = told (numbersIn (bitsOne form) (getD ws 0 0)) (numbersIn (bitsTwo form) (getD ws 1 0))
 
--- a well-formed entry of a header and a line within limits that its bits can hold
-pub record Packed (lim : Limits) : Type 0 where
-  pub header : lim .header < 2 ^ 20
-  pub line : lim .line < 2 ^ 16
+-- the bits that no number has are 0
+unfoldable pub isClear : Form → List ℕ → Bool
+isClear form ws = eqb (getD (numbersIn (bitsOne form) (getD ws 0 0)) 3 0) 0 && eqb (getD (numbersIn (bitsTwo form) (getD ws 1 0)) 4 0) 0

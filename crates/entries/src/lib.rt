@@ -1,5 +1,6 @@
 // Entries of a table: what they say, how they are stored, and what they show of the header.
 pub mod entry;
+pub mod form;
 pub mod kind;
 pub mod limits;
 pub mod part;

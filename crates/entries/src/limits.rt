@@ -7,9 +7,15 @@ pub struct Limits {
 }
 
 impl Limits {
-    // An entry's start has 20 bits, a length 16.
+    // A start of the first form has 20 bits, a length 16.
     pub const FIRST: Limits = Limits {
         header: 0xF_FFFF,
         line: 0xFFFF,
+    };
+
+    // Both have 24 in the second.
+    pub const SECOND: Limits = Limits {
+        header: 0xFF_FFFF,
+        line: 0xFF_FFFF,
     };
 }

@@ -1,5 +1,6 @@
 // What the calls on an entry number show: parts of the header. The table may be any words, so each entry is tested first.
 use crate::entry::Entry;
+use crate::form::Form;
 use crate::kind;
 use crate::table;
 use values::bytes;
@@ -106,13 +107,13 @@ fn is_well_formed(size: usize, e: Entry) -> bool
 }
 
 // Entry n, from 0, if it lies in the table and is well formed.
-pub fn entry_at(h: &[u8], table: &[u64], n: usize) -> EntryRead
-    ensures { λ r. ⌜ entryMeant r ≡ entryAt (now (h .entry)) (now (table .entry)) n ⌝ }
+pub fn entry_at(h: &[u8], table: &[u64], form: Form, n: usize) -> EntryRead
+    ensures { λ r. ⌜ entryMeant r ≡ entryAt form (now (h .entry)) (now (table .entry)) n ⌝ }
 {
-    if !table::is_clear(table, n) {
+    if !table::is_clear(table, form, n) {
         return EntryRead::Missing;
     }
-    let e = table::get(table, n);
+    let e = table::get(table, form, n);
     if is_well_formed(h.len(), e) {
         return EntryRead::Entry(e);
     }
@@ -120,11 +121,11 @@ pub fn entry_at(h: &[u8], table: &[u64], n: usize) -> EntryRead
 }
 
 // The line of entry n, or the sample name.
-pub fn entry(h: &[u8], table: &[u64], n: usize) -> Shown
-    ensures shown { λ r. ⌜ answered r ≡ orRefused (shownEntry (now (h .entry)) (now (table .entry)) n) ⌝ }
+pub fn entry(h: &[u8], table: &[u64], form: Form, n: usize) -> Shown
+    ensures shown { λ r. ⌜ answered r ≡ orRefused (shownEntry form (now (h .entry)) (now (table .entry)) n) ⌝ }
     ensures inside { λ r. ⌜ Inside (length (now (h .entry))) r ⌝ }
 {
-    let EntryRead::Entry(e) = entry_at(h, table, n) else {
+    let EntryRead::Entry(e) = entry_at(h, table, form, n) else {
         return Shown::Refused;
     };
     let start = e.start;
@@ -133,11 +134,11 @@ pub fn entry(h: &[u8], table: &[u64], n: usize) -> Shown
 }
 
 // The ID's text of entry n, without quotes.
-pub fn id(h: &[u8], table: &[u64], n: usize) -> Shown
-    ensures shown { λ r. ⌜ answered r ≡ orRefused (shownId (now (h .entry)) (now (table .entry)) n) ⌝ }
+pub fn id(h: &[u8], table: &[u64], form: Form, n: usize) -> Shown
+    ensures shown { λ r. ⌜ answered r ≡ orRefused (shownId form (now (h .entry)) (now (table .entry)) n) ⌝ }
     ensures inside { λ r. ⌜ Inside (length (now (h .entry))) r ⌝ }
 {
-    let EntryRead::Entry(e) = entry_at(h, table, n) else {
+    let EntryRead::Entry(e) = entry_at(h, table, form, n) else {
         return Shown::Refused;
     };
     if !kind::has_id(e.kind) {

@@ -1,52 +1,98 @@
 // The two words of an entry, most significant bit first: numbers too large for their bits lose their upper ones.
 use crate::entry::Entry;
+use crate::form::Form;
 ghost use mathlib.Core.Path.{_≡_};
+ghost use mathlib.Core.List.{[], _∷_};
+ghost use Prim.Native.Nat.{_≤_};
 ghost use Rattle.entries.specs.Values.{entryOf};
-ghost use Rattle.entries.specs.Words.{wordOne, wordTwo, unpacked, isClear};
+ghost use Rattle.entries.specs.Words.{bit, wordOne, wordTwo, unpacked, isClear};
 
-// Kind 4, start 20, length 16, zero 24.
-pub fn word_one(e: Entry) -> u64
-    ensures { λ r. ⌜ r ≡ wordOne (entryOf e) ⌝ }
+// Kind 4, start 20, length 16, zero 24; in the second form start 24, length 24, zero 12.
+pub fn word_one(form: Form, e: Entry) -> u64
+    ensures { λ r. ⌜ r ≡ wordOne form (entryOf e) ⌝ }
 {
-    (e.kind as u64) % 0x10 * 0x1000_0000_0000_0000
-        + (e.start as u64) % 0x10_0000 * 0x100_0000_0000
-        + (e.length as u64) % 0x1_0000 * 0x100_0000
-}
-
-// ID offset in the line 16, ID length 16, quoted 1, ID tag 2, zero 29.
-pub fn word_two(e: Entry) -> u64
-    ensures { λ r. ⌜ r ≡ wordTwo (entryOf e) ⌝ }
-{
-    let upper = (e.offset as u64) % 0x1_0000 * 0x1_0000_0000_0000
-        + (e.id_length as u64) % 0x1_0000 * 0x1_0000_0000;
-    let lower = (e.tag as u64) % 4 * 0x2000_0000;
-    let quoted = e.quoted;
-    if quoted {
-        return upper + 0x8000_0000 + lower;
+    let kind = (e.kind as u64) % 0x10 * 0x1000_0000_0000_0000;
+    let start = e.start as u64;
+    let length = e.length as u64;
+    match form {
+        Form::First => kind + start % 0x10_0000 * 0x100_0000_0000 + length % 0x1_0000 * 0x100_0000,
+        Form::Second => kind + start % 0x100_0000 * 0x10_0000_0000 + length % 0x100_0000 * 0x1000,
     }
-    upper + lower
 }
 
-pub fn unpack(w: u64, x: u64) -> Entry
-    ensures { λ r. ⌜ entryOf r ≡ unpacked w x ⌝ }
+fn bit_of(is: bool) -> u64
+    ensures bit { λ r. ⌜ r ≡ bit is ⌝ }
+    ensures small { λ r. ⌜ r ≤ 1 ⌝ }
 {
-    Entry {
-        kind: (w / 0x1000_0000_0000_0000 % 0x10) as u8,
-        start: (w / 0x100_0000_0000 % 0x10_0000) as usize,
-        length: (w / 0x100_0000 % 0x1_0000) as usize,
-        offset: (x / 0x1_0000_0000_0000 % 0x1_0000) as usize,
-        id_length: (x / 0x1_0000_0000 % 0x1_0000) as usize,
-        quoted: x / 0x8000_0000 % 2 == 1,
-        tag: (x / 0x2000_0000 % 4) as u8,
+    if is { 1 } else { 0 }
+}
+
+// ID offset in the line 16, ID length 16, quoted 1, ID tag 2, zero 29; in the second form offset 24, length 24, 1, 2, zero 13.
+pub fn word_two(form: Form, e: Entry) -> u64
+    ensures { λ r. ⌜ r ≡ wordTwo form (entryOf e) ⌝ }
+{
+    let offset = e.offset as u64;
+    let length = e.id_length as u64;
+    let quoted = bit_of(e.quoted);
+    let tag = (e.tag as u64) % 4;
+    match form {
+        Form::First => {
+            offset % 0x1_0000 * 0x1_0000_0000_0000
+                + length % 0x1_0000 * 0x1_0000_0000
+                + quoted * 0x8000_0000
+                + tag * 0x2000_0000
+        }
+        Form::Second => {
+            offset % 0x100_0000 * 0x100_0000_0000
+                + length % 0x100_0000 * 0x1_0000
+                + quoted * 0x8000
+                + tag * 0x2000
+        }
+    }
+}
+
+pub fn unpack(form: Form, w: u64, x: u64) -> Entry
+    ensures { λ r. ⌜ entryOf r ≡ unpacked form (w ∷ x ∷ []) ⌝ }
+{
+    let kind = (w / 0x1000_0000_0000_0000 % 0x10) as u8;
+    match form {
+        Form::First => Entry {
+            kind,
+            start: (w / 0x100_0000_0000 % 0x10_0000) as usize,
+            length: (w / 0x100_0000 % 0x1_0000) as usize,
+            offset: (x / 0x1_0000_0000_0000 % 0x1_0000) as usize,
+            id_length: (x / 0x1_0000_0000 % 0x1_0000) as usize,
+            quoted: x / 0x8000_0000 % 2 == 1,
+            tag: (x / 0x2000_0000 % 4) as u8,
+        },
+        Form::Second => Entry {
+            kind,
+            start: (w / 0x10_0000_0000 % 0x100_0000) as usize,
+            length: (w / 0x1000 % 0x100_0000) as usize,
+            offset: (x / 0x100_0000_0000 % 0x100_0000) as usize,
+            id_length: (x / 0x1_0000 % 0x100_0000) as usize,
+            quoted: x / 0x8000 % 2 == 1,
+            tag: (x / 0x2000 % 4) as u8,
+        },
     }
 }
 
 // Whether the bits that no number has are 0.
-pub fn is_clear(w: u64, x: u64) -> bool
-    ensures { λ r. ⌜ r ≡ isClear w x ⌝ }
+pub fn is_clear(form: Form, w: u64, x: u64) -> bool
+    ensures { λ r. ⌜ r ≡ isClear form (w ∷ x ∷ []) ⌝ }
 {
-    if w % 0x100_0000 != 0 {
-        return false;
+    match form {
+        Form::First => {
+            if w % 0x100_0000 != 0 {
+                return false;
+            }
+            x % 0x2000_0000 == 0
+        }
+        Form::Second => {
+            if w % 0x1000 != 0 {
+                return false;
+            }
+            x % 0x2000 == 0
+        }
     }
-    x % 0x2000_0000 == 0
 }

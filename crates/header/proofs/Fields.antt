@@ -40,6 +40,7 @@ use Rattle.entries.specs.declared.shown.EntryRead.{EntryRead}
 use Rattle.entries.specs.declared.shown.EntryRead.the-variants.{Entry, Missing}
 use Rattle.entries.specs.declared.entry.Entry.{Entry as CodeEntry}
 use Rattle.entries.specs.Values.{entryOf}
+use Rattle.entries.specs.declared.form.Form.{Form}
 use Rattle.entries.specs.Tables.{entryAt, shownField}
 use Rattle.entries.specs.Shown.{answered, orRefused, shownAs, entryMeant, Inside, movedBy}
 use Rattle.entries.proofs.Calls.{found-inside, refused-inside, answer-says}
@@ -171,25 +172,25 @@ module _ (h : Bytes) (v : Version) (i : ℕ) (e : RuleEntry) where
       by-text true = fields-moved (e .start) (e .kind) (readRecord v l) i
       by-text false = refl
 
-module _ (h : Bytes) (table : List ℕ) (n : ℕ) (v : Version) (i : ℕ) {r : EntryRead} (a : entryMeant r ≡ entryAt h table n) where
-  pub field-unshown : r ≡ Missing → answered Refused ≡ orRefused (shownField h table n v i)
+module _ (form : Form) (h : Bytes) (table : List ℕ) (n : ℕ) (v : Version) (i : ℕ) {r : EntryRead} (a : entryMeant r ≡ entryAt form h table n) where
+  pub field-unshown : r ≡ Missing → answered Refused ≡ orRefused (shownField form h table n v i)
   field-unshown e = ap (λ (x : Option RuleEntry). orRefused (entryFieldPart h v i x)) (sym (ap entryMeant e) ∙ a)
 
   module _ {x : CodeEntry} (b : r ≡ Entry x) {q : Bool} (d : q ≡ hasId (x .kind)) where
-    shown-is : shownAs (entryFieldPart h v i (some (entryOf x))) ≡ shownAs (shownField h table n v i)
+    shown-is : shownAs (entryFieldPart h v i (some (entryOf x))) ≡ shownAs (shownField form h table n v i)
     shown-is = ap (λ (y : Option RuleEntry). shownAs (entryFieldPart h v i y)) (sym (ap entryMeant b) ∙ a)
 
-    pub field-not-due : not q ≡ true → answered Refused ≡ orRefused (shownField h table n v i)
-    field-not-due e = answer-says (shownField h table n v i) (line-unfit h v i (entryOf x) (sym d ∙ not-true q e) ∙ shown-is)
+    pub field-not-due : not q ≡ true → answered Refused ≡ orRefused (shownField form h table n v i)
+    field-not-due e = answer-says (shownField form h table n v i) (line-unfit h v i (entryOf x) (sym d ∙ not-true q e) ∙ shown-is)
 
     module _ (on : not q ≡ false) {y : Shown} (o : FieldAt v h (x .start) (x .start + x .length) (x .kind) i y) where
-      pub field-shown : answered y ≡ orRefused (shownField h table n v i)
+      pub field-shown : answered y ≡ orRefused (shownField form h table n v i)
       unfolding lineIn
       field-shown =
           let z : x .start + x .length - x .start ≡ x .length = omega arith in
-          answer-says (shownField h table n v i) (o .shown ∙ rw z (sym (line-moved h v i (entryOf x) (sym d ∙ not-false q on)) ∙ shown-is))
+          answer-says (shownField form h table n v i) (o .shown ∙ rw z (sym (line-moved h v i (entryOf x) (sym d ∙ not-false q on)) ∙ shown-is))
 
       pub field-inside : Inside (length h) y
-      field-inside = let z = found-inside h table n a b in o .inside (omega arith)
+      field-inside = let z = found-inside form h table n a b in o .inside (omega arith)
 
 pub ruleset all-fields = (field-unshown, field-not-due, field-shown, field-inside, found-inside, refused-inside)

@@ -3,3 +3,4 @@ pub mod Parsers
 pub mod Fields
 pub mod Answers
 pub mod Demands
+pub mod Callers

@@ -48,7 +48,8 @@ use Rattle.columns.specs.declared.header_line.ColumnsRead.{ColumnsRead}
 use Rattle.columns.specs.declared.header_line.ColumnsRead.the-variants as columns
 use Rattle.columns.proofs.Answers.{columns-read, column-wrong, sample-twice}
 use Rattle.entries.specs.declared.entry.Entry.{Entry as CodeEntry}
-use Rattle.entries.specs.Values.{entryOf}
+use Rattle.entries.specs.Values.{entryOf, limitsOf}
+use Rattle.entries.specs.declared.limits.Limits.{Limits as CodeLimits}
 use Rattle.ids.specs.Clashes.{clashNumber, prefixOf}
 use Rattle.ids.specs.Marks.{markEntry, Marked, clashFound}
 use Rattle.ids.specs.declared.scan.Clash.{Clash}
@@ -411,15 +412,18 @@ module _ (lim : Limits) (h : Bytes) (es : List Entry) (ms : Bytes) (plain : Bool
   unfolding step
   line-done e = record { marks = marks-same h ms; is = λ l el s x u. rw (step, phase-done p s x ∙ sym a ∙ e) }
 
-  module _ (e : d ≡ false) {l : Bytes} (el : l ≡ part h start end) where
-    pub line-long : lim .line < length l → LineJudged lim h es ms plain start end p imposed (verdict.Refused LineTooLong) ms
-    unfolding step
-    line-long n = record { marks = marks-same h ms; is = λ l′ el′ s x u. rw (step, phase-done p s x ∙ sym a ∙ e, lt-leb (length l′) (lim .line) (subst (λ (y : Bytes). lim .line < length y) (el ∙ sym el′) n)) }
+  module _ (e : d ≡ false) {given : CodeLimits} (g : limitsOf given ≡ lim) {l : Bytes} (el : l ≡ part h start end) where
+    most : given .line ≡ lim .line
+    most = ap (λ (x : Limits). x .line) g
 
-    module _ (n : length l ≤ lim .line) {q : Bool} (b : Utf8Told plain l q) where
+    pub line-long : given .line < length l → LineJudged lim h es ms plain start end p imposed (verdict.Refused LineTooLong) ms
+    unfolding step
+    line-long n = record { marks = marks-same h ms; is = λ l′ el′ s x u. rw (step, phase-done p s x ∙ sym a ∙ e, lt-leb (length l′) (lim .line) (subst (λ (y : Bytes). lim .line < length y) (el ∙ sym el′) (rw (← most) n))) }
+
+    module _ (n : length l ≤ given .line) {q : Bool} (b : Utf8Told plain l q) where
       stepped : (s : State) → PhaseIs p s → step lim imposed start s l ≡ elim (isUtf8 l) [ true ↦ stepText imposed start s l | false ↦ refuse 3 ]
       unfolding step
-      stepped s x = rw (step, phase-done p s x ∙ sym a ∙ e, le-leb (length l) (lim .line) n)
+      stepped s x = rw (step, phase-done p s x ∙ sym a ∙ e, le-leb (length l) (lim .line) (rw (← most) n))
 
       pub line-bytes : not q ≡ true → LineJudged lim h es ms plain start end p imposed (verdict.Refused InvalidUtf8) ms
       line-bytes f = record {
@@ -439,7 +443,7 @@ module _ (lim : Limits) (h : Bytes) (es : List Entry) (ms : Bytes) (plain : Bool
             let c : step lim imposed start s l ≡ stepText imposed start s l = stepped s x ∙ rw z in
             subst (λ (y : Bytes). Says h ms′ (step lim imposed start s y) start s y r) (el ∙ sym el′)
             (subst (λ (y : Answer (State × List Entry)). Says h ms′ y start s l r) (sym c)
-            (j .is lim l el s x (record { there = record { here = w .here; inside = w .inside; short = n; utf8 = z }; line = w .line; tabled = w .tabled })));
+            (j .is lim l el s x (record { there = record { here = w .here; inside = w .inside; short = rw (← most) n; utf8 = z }; line = w .line; tabled = w .tabled })));
       }
 
 pub ruleset all-lines = (line-done, line-long, line-bytes, line-text)

@@ -8,19 +8,20 @@ use Rattle.rules.specs.Answer.{ok}
 use Rattle.rules.specs.Version.{Version}
 use Rattle.rules.specs.Record.{Record, readRecord}
 use Rattle.rules.specs.Entry.{Entry}
+use Rattle.entries.specs.declared.form.Form.{Form}
 use Rattle.entries.specs.Tables.{entryAt}
 use Rattle.rules.specs.Claims.{Shows, ShowsPlain}
 
 -- what the calls find under n in the table is the entry of the record r, and shows it
-pub record CallsShow (h : Bytes) (v : Version) (t : List ℕ) (n : ℕ) (r : Record) : Type 0 where
+pub record CallsShow (form : Form) (h : Bytes) (v : Version) (t : List ℕ) (n : ℕ) (r : Record) : Type 0 where
   pub entry : Entry
-  pub found : entryAt h t n ≡ some entry
+  pub found : entryAt form h t n ≡ some entry
   pub line : Bytes
   pub read : readRecord v line ≡ ok r
   pub shows : Shows h v line entry r
 
 -- the same for an entry of a kind without an ID, which shows these bytes
-pub record CallsShowPlain (h : Bytes) (v : Version) (t : List ℕ) (n kind : ℕ) (x : Bytes) : Type 0 where
+pub record CallsShowPlain (form : Form) (h : Bytes) (v : Version) (t : List ℕ) (n kind : ℕ) (x : Bytes) : Type 0 where
   pub entry : Entry
-  pub found : entryAt h t n ≡ some entry
+  pub found : entryAt form h t n ≡ some entry
   pub shows : ShowsPlain h kind x entry

@@ -7,7 +7,6 @@ use mathlib.Core.Option.{Option, none, some}
 use lib.ListN.{length, drop}
 use Rattle.values.specs.Bytes.{Bytes, part}
 use Rattle.values.specs.Utf8.{isAscii}
-use Rattle.rules.specs.Sizes.{Limits}
 use Rattle.rules.specs.Version.{Version}
 use Rattle.rules.specs.Lines.{pieces, lineOf}
 use Rattle.rules.specs.Entry.{Entry}
@@ -24,7 +23,8 @@ use Rattle.header.specs.declared.parser.ReadAnswer.{ReadAnswer}
 use Rattle.header.specs.declared.parser.Parser.{Parser}
 use Rattle.header.specs.declared.parser.Partial.{Partial}
 use Rattle.header.specs.declared.parser.Partial.the-variants as partial
-use Rattle.entries.specs.Words.{Packed}
+use Rattle.entries.specs.Values.{limitsBy}
+use Rattle.entries.specs.declared.form.Form.{Form}
 
 -- What an answer says: document 01's number, the place, the number of entries, and of an accepted header the version in force and the number of samples
 
@@ -59,27 +59,27 @@ abbrev pub refusedAs : Refusal → ℕ → ℕ → ℕ → ReadAnswer
 refusedAs x line start entries = record { outcome = outcome.Refused x; line = line; start = start; entries = entries }
 
 -- a header read into a table
-abbrev pub readInto : Limits → Option Version → List ℕ → Bytes → Reading
-readInto lim imposed t h = reading lim imposed (room t) h
+abbrev pub readInto : Form → Option Version → List ℕ → Bytes → Reading
+readInto form imposed t h = reading (limitsBy form) imposed (room form t) h
 
 -- what `read` promises of a call: the version imposed, the header and the table; the answer, and the table after it
-pub record ReadCall (lim : Limits) (imposed : Option Version) (h t : List ℕ) (r : ReadAnswer) (t′ : List ℕ) : Type 0 where
-  pub answer : answerMeans r ≡ readingMeans (readInto lim imposed t h)
-  pub table : t′ ≡ stored t 0 (readInto lim imposed t h .entries)
+pub record ReadCall (form : Form) (imposed : Option Version) (h t : List ℕ) (r : ReadAnswer) (t′ : List ℕ) : Type 0 where
+  pub answer : answerMeans r ≡ readingMeans (readInto form imposed t h)
+  pub table : t′ ≡ stored form t 0 (readInto form imposed t h .entries)
 
 -- the rest of the header, read from here, gives the whole reading; the table holds the entries kept so far, and they are marked
-pub record Kept (lim : Limits) (imposed : Option Version) (h t₀ ms t : List ℕ) (p : Parser) : Type 0 where
+pub record Kept (form : Form) (imposed : Option Version) (h t₀ ms t : List ℕ) (p : Parser) : Type 0 where
   pub state : State
   pub es : List Entry
   pub phase-is : PhaseIs (p .phase) state
-  pub tabled : Tabled lim h ms state es
-  pub stored-are : t ≡ stored t₀ 0 es
+  pub tabled : Tabled (limitsBy form) h ms state es
+  pub stored-are : t ≡ stored form t₀ 0 es
   pub counted : length es ≡ p .count
-  pub roomy : p .count ≤ room t₀
+  pub roomy : p .count ≤ room form t₀
   pub lines : p .line ≤ p .at
   pub inside : p .at ≤ length h
-  pub small : length h ≤ lim .header
-  pub rest : readInto lim imposed t₀ h ≡ following es (run lim imposed (room t₀) (p .line) (p .at) (p .count) state (pieces (drop (p .at) h)))
+  pub small : length h ≤ limitsBy form .header
+  pub rest : readInto form imposed t₀ h ≡ following es (run (limitsBy form) imposed (room form t₀) (p .line) (p .at) (p .count) state (pieces (drop (p .at) h)))
 
 -- a line that stands at a place of the header, and where the next one begins
 pub record LineHere (h : Bytes) (at : ℕ) (l : Bytes) (next : ℕ) : Type 0 where
@@ -93,32 +93,32 @@ pub record LineHere (h : Bytes) (at : ℕ) (l : Bytes) (next : ℕ) : Type 0 whe
   pub inside : next ≤ length h
 
 -- nothing is stored, and the reading ends here
-pub record Stops (lim : Limits) (imposed : Option Version) (h t₀ t : List ℕ) (p : Parser) (x : Refusal) : Type 0 where
+pub record Stops (form : Form) (imposed : Option Version) (h t₀ t : List ℕ) (p : Parser) (x : Refusal) : Type 0 where
   pub state : State
   pub es : List Entry
-  pub stored-are : t ≡ stored t₀ 0 es
+  pub stored-are : t ≡ stored form t₀ 0 es
   pub counted : length es ≡ p .count
-  pub whole : readInto lim imposed t₀ h ≡ following es (stop (number x) (suc (p .line)) (p .at) state)
+  pub whole : readInto form imposed t₀ h ≡ following es (stop (number x) (suc (p .line)) (p .at) state)
 
 -- a line further, or refused; ms and t are the marks and the table after it
-abbrev pub PartialIs : Limits → Option Version → Bytes → List ℕ → Parser → Partial → Bytes → List ℕ → Type 0
-PartialIs lim imposed h t₀ p (partial.Next q) ms t = Kept lim imposed h t₀ ms t q × (p .at < q .at)
-PartialIs lim imposed h t₀ p (partial.Refused x) ms t = Stops lim imposed h t₀ t p x
+abbrev pub PartialIs : Form → Option Version → Bytes → List ℕ → Parser → Partial → Bytes → List ℕ → Type 0
+PartialIs form imposed h t₀ p (partial.Next q) ms t = Kept form imposed h t₀ ms t q × (p .at < q .at)
+PartialIs form imposed h t₀ p (partial.Refused x) ms t = Stops form imposed h t₀ t p x
 
-pub record Bounds (h t : List ℕ) (p : Parser) : Type 0 where
-  pub count : p .count ≤ room t
+pub record Bounds (form : Form) (h t : List ℕ) (p : Parser) : Type 0 where
+  pub count : p .count ≤ room form t
   pub line : p .line < length h
 
-pub record KeepsLine (p : Parser) (h : Bytes) (end next : ℕ) (v : Verdict) (t : List ℕ) (r : Partial) (t′ : List ℕ) : Type 0 where
-  pub is : (lim : Limits) → Packed lim → (imposed : Option Version) (t₀ ms ms′ : List ℕ) (k : Kept lim imposed h t₀ ms t p)
+pub record KeepsLine (form : Form) (p : Parser) (h : Bytes) (end next : ℕ) (v : Verdict) (t : List ℕ) (r : Partial) (t′ : List ℕ) : Type 0 where
+  pub is : (imposed : Option Version) (t₀ ms ms′ : List ℕ) (k : Kept form imposed h t₀ ms t p)
       → LineHere h (p .at) (part h (p .at) end) next → MarksKept h ms ms′
-      → Says h ms′ (step lim imposed (p .at) (k .state) (part h (p .at) end)) (p .at) (k .state) (part h (p .at) end) v → PartialIs lim imposed h t₀ p r ms′ t′
+      → Says h ms′ (step (limitsBy form) imposed (p .at) (k .state) (part h (p .at) end)) (p .at) (k .state) (part h (p .at) end) v → PartialIs form imposed h t₀ p r ms′ t′
 
 -- plain: the header is known to be ASCII
-pub record Parses (lim : Limits) (imposed : Option Version) (plain : Bool) (p : Parser) (h ms t : List ℕ) (r : Partial) (ms′ t′ : List ℕ) : Type 0 where
-  pub is : Packed lim → (t₀ : List ℕ) → Kept lim imposed h t₀ ms t p → (plain ≡ true → isAscii h ≡ true) → p .at < length h
-      → PartialIs lim imposed h t₀ p r ms′ t′
+pub record Parses (form : Form) (imposed : Option Version) (plain : Bool) (p : Parser) (h ms t : List ℕ) (r : Partial) (ms′ t′ : List ℕ) : Type 0 where
+  pub is : (t₀ : List ℕ) → Kept form imposed h t₀ ms t p → (plain ≡ true → isAscii h ≡ true) → p .at < length h
+      → PartialIs form imposed h t₀ p r ms′ t′
 
 pub record Finishes (p : Parser) (r : ReadAnswer) : Type 0 where
-  pub is : (lim : Limits) (imposed : Option Version) (h t₀ ms t : List ℕ) → Kept lim imposed h t₀ ms t p → length h ≤ p .at → answerMeans r
-      ≡ readingMeans (readInto lim imposed t₀ h)
+  pub is : (form : Form) (imposed : Option Version) (h t₀ ms t : List ℕ) → Kept form imposed h t₀ ms t p → length h ≤ p .at → answerMeans r
+      ≡ readingMeans (readInto form imposed t₀ h)

@@ -7,8 +7,8 @@ use crate::verdict::Place;
 use crate::verdict::Verdict;
 use columns::header_line;
 use entries::entry::Entry;
+use entries::form::Form;
 use entries::kind;
-use entries::limits::Limits;
 use entries::table;
 use lines::line;
 use records::file_format::FileFormat;
@@ -16,11 +16,8 @@ use records::refusal::Refusal;
 use values::bytes;
 use values::utf8;
 ghost use mathlib.Core.Path.{_≡_};
-ghost use Rattle.rules.specs.Sizes.{limits};
-ghost use Rattle.entries.specs.Values.{limitsOf};
 ghost use Rattle.header.specs.Verdicts.{imposedOf};
 ghost use Rattle.header.specs.Parsers.{refusedAs, Bounds, KeepsLine, Parses, Finishes, ReadCall};
-ghost use Rattle.entries.specs.Words.{Packed};
 
 // What a header is found to be: accepted, with the version in force and the number of samples, or refused.
 pub enum Outcome {
@@ -44,10 +41,10 @@ struct Parser {
     count: usize,
 }
 
-// The version imposed, the limits, and whether the header is known to be ASCII.
+// The version imposed, the form of the entries, and whether the header is known to be ASCII.
 struct Options {
     imposed: FileFormatOption,
-    limits: Limits,
+    form: Form,
     ascii: bool,
 }
 
@@ -59,9 +56,17 @@ enum Partial {
 impl Parser {
     // The state after the line that stands from `at` to `end` and whose successor begins at `next`; its entries are stored if there is
     // room for all of them.
-    fn keep(self, h: &[u8], end: usize, next: usize, verdict: Verdict, table: &mut [u64]) -> Partial
-        requires { ⌜ Bounds (now h) (now table) self ⌝ }
-        ensures { λ r. ⌜ KeepsLine self (now (h .entry)) end next verdict (now (table .entry)) r (now (table .exit)) ⌝ }
+    fn keep(
+        self,
+        h: &[u8],
+        end: usize,
+        next: usize,
+        verdict: Verdict,
+        table: &mut [u64],
+        form: Form,
+    ) -> Partial
+        requires { ⌜ Bounds form (now h) (now table) self ⌝ }
+        ensures { λ r. ⌜ KeepsLine form self (now (h .entry)) end next verdict (now (table .entry)) r (now (table .exit)) ⌝ }
     {
         let start = self.at;
         let count = self.count;
@@ -73,6 +78,7 @@ impl Parser {
                 let l = bytes::part(h, start, end);
                 if !table::put(
                     table,
+                    form,
                     count,
                     Entry::plain(kind::FILE_FORMAT, start, l.len()),
                 ) {
@@ -86,7 +92,7 @@ impl Parser {
                 })
             }
             Verdict::Entry(e) => {
-                if !table::put(table, count, e) {
+                if !table::put(table, form, count, e) {
                     return Partial::Refused(Refusal::TableFull);
                 }
                 Partial::Next(Parser {
@@ -97,10 +103,10 @@ impl Parser {
                 })
             }
             Verdict::Columns(v, samples) => {
-                if table::count(table) - count <= samples {
+                if table::count(table, form) - count <= samples {
                     return Partial::Refused(Refusal::TableFull);
                 }
-                header_line::write_columns(h, start, end, count, table);
+                header_line::write_columns(h, start, end, count, table, form);
                 Partial::Next(Parser {
                     phase: Phase::Done(v, samples),
                     line,
@@ -119,16 +125,16 @@ impl Parser {
         marks: &mut [u8],
         table: &mut [u64],
     ) -> Partial
-        requires { ⌜ Bounds (now h) (now table) self ⌝ }
+        requires { ⌜ Bounds (options .form) (now h) (now table) self ⌝ }
         ensures { λ r.
-            ⌜ Parses (limitsOf (options .limits)) (imposedOf (options .imposed)) (options .ascii) self (now (h .entry)) (now (marks .entry))
+            ⌜ Parses (options .form) (imposedOf (options .imposed)) (options .ascii) self (now (h .entry)) (now (marks .entry))
             (now (table .entry)) r (now (marks .exit)) (now (table .exit)) ⌝ }
     {
         let start = self.at;
         let count = self.count;
         let phase = self.phase;
         let imposed = options.imposed;
-        let limits = options.limits;
+        let form = options.form;
         let found = line::next_line(h, start);
         let at = Place {
             start,
@@ -137,11 +143,11 @@ impl Parser {
         let given = Given {
             phase,
             imposed,
-            limits,
+            form,
             ascii: options.ascii,
         };
-        let verdict = verdict::judge_line(h, table::kept(table, count), marks, at, given);
-        self.keep(h, found.end, found.next, verdict, table)
+        let verdict = verdict::judge_line(h, table::kept(table, form, count), marks, at, given);
+        self.keep(h, found.end, found.next, verdict, table, form)
     }
 
     fn finish(self) -> ReadAnswer
@@ -186,19 +192,19 @@ fn refuse(x: Refusal, line: usize, start: usize, entries: usize) -> ReadAnswer
 fn read_lines(
     header: &[u8],
     imposed: FileFormatOption,
-    limits: Limits,
+    form: Form,
     table: &mut [u64],
     marks: &mut [u8],
 ) -> ReadAnswer
-    requires { ⌜ Packed (limitsOf limits) ⌝ }
-    ensures { λ r. ⌜ ReadCall (limitsOf limits) (imposedOf imposed) (now (header .entry)) (now (table .entry)) r (now (table .exit)) ⌝ }
+    ensures { λ r. ⌜ ReadCall form (imposedOf imposed) (now (header .entry)) (now (table .entry)) r (now (table .exit)) ⌝ }
 {
+    let limits = form.limits();
     if limits.header < header.len() {
         return refuse(Refusal::HeaderTooLong, 0, 0, 0);
     }
     let options = Options {
         imposed,
-        limits,
+        form,
         ascii: utf8::is_ascii(header),
     };
     let mut parser = Parser {
@@ -217,14 +223,14 @@ fn read_lines(
 }
 
 // Reads a header into the table, from its first entry on.
-pub fn read(header: &[u8], imposed: FileFormatOption, table: &mut [u64]) -> ReadAnswer
-    ensures { λ r. ⌜ ReadCall limits (imposedOf imposed) (now (header .entry)) (now (table .entry)) r (now (table .exit)) ⌝ }
+pub fn read(header: &[u8], imposed: FileFormatOption, form: Form, table: &mut [u64]) -> ReadAnswer
+    ensures { λ r. ⌜ ReadCall form (imposedOf imposed) (now (header .entry)) (now (table .entry)) r (now (table .exit)) ⌝ }
 {
     // A short header has few entries, and clearing more marks than they need costs more than it spares.
     if header.len() < 65536 {
         let mut marks = [0u8; 4096];
-        return read_lines(header, imposed, Limits::FIRST, table, &mut marks);
+        return read_lines(header, imposed, form, table, &mut marks);
     }
     let mut marks = [0u8; 65536];
-    read_lines(header, imposed, Limits::FIRST, table, &mut marks)
+    read_lines(header, imposed, form, table, &mut marks)
 }

@@ -1,4 +1,5 @@
 // The calls on an entry number: parts of the header, for any table words and any numbers. Refused is refusal 29.
+use entries::form::Form;
 use entries::kind;
 use entries::shown;
 use entries::shown::EntryRead;
@@ -55,11 +56,11 @@ fn field_at(h: &[u8], at: usize, end: usize, kind: u8, version: FileFormat, i: u
 }
 
 // Field i, from 0, of entry n, key through value, quotes too; the entry's line is read again, under this version.
-pub fn field(h: &[u8], table: &[u64], n: usize, version: FileFormat, i: usize) -> Shown
-    ensures shown { λ r. ⌜ answered r ≡ orRefused (shownField (now (h .entry)) (now (table .entry)) n (versionOf version) i) ⌝ }
+pub fn field(h: &[u8], table: &[u64], form: Form, n: usize, version: FileFormat, i: usize) -> Shown
+    ensures shown { λ r. ⌜ answered r ≡ orRefused (shownField form (now (h .entry)) (now (table .entry)) n (versionOf version) i) ⌝ }
     ensures inside { λ r. ⌜ Inside (length (now (h .entry))) r ⌝ }
 {
-    let EntryRead::Entry(e) = shown::entry_at(h, table, n) else {
+    let EntryRead::Entry(e) = shown::entry_at(h, table, form, n) else {
         return Shown::Refused;
     };
     if !kind::has_id(e.kind) {

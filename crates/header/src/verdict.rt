@@ -3,8 +3,8 @@ use crate::file_format_option::FileFormatOption;
 use columns::header_line;
 use columns::header_line::ColumnsRead;
 use entries::entry::Entry;
+use entries::form::Form;
 use entries::kind;
-use entries::limits::Limits;
 use ids::scan;
 use ids::scan::Clash;
 use records::file_format::FileFormat;
@@ -17,7 +17,7 @@ use values::utf8;
 ghost use mathlib.Core.Path.{_≡_};
 ghost use Rattle.rules.specs.Version.{inForce};
 ghost use Rattle.records.specs.Formats.{versionOf};
-ghost use Rattle.entries.specs.Values.{entryOf, limitsOf};
+ghost use Rattle.entries.specs.Values.{entryOf, limitsBy};
 ghost use Rattle.entries.specs.Tables.{entriesIn};
 ghost use Rattle.header.specs.Verdicts.{imposedOf, isDonePhase, IdJudged, FirstJudged, MapJudged, RecordJudged, ColumnsJudged, TextJudged, Utf8Told, LineJudged};
 ghost use Rattle.rules.specs.Claims.{Sized};
@@ -35,11 +35,11 @@ pub struct Place {
     pub end: usize,
 }
 
-// What a line is judged by: the phase, the version imposed, the limits, and whether the header is known to be ASCII.
+// What a line is judged by: the phase, the version imposed, the form of the entries, and whether the header is known to be ASCII.
 pub struct Given {
     pub phase: Phase,
     pub imposed: FileFormatOption,
-    pub limits: Limits,
+    pub form: Form,
     pub ascii: bool,
 }
 
@@ -74,11 +74,18 @@ fn judge_first(l: &[u8], imposed: FileFormatOption) -> Verdict
 }
 
 // A record whose key and ID go with those before it; `new` is its entry, `prefix` its `##key=`.
-fn judge_id(h: &[u8], kept: &[u64], marks: &mut [u8], prefix: &[u8], new: Entry) -> Verdict
-    ensures { λ r. ⌜ IdJudged (now (h .entry)) (entriesIn (now (kept .entry))) (now (marks .entry)) (now (prefix .entry)) (entryOf new) r
+fn judge_id(
+    h: &[u8],
+    kept: &[u64],
+    form: Form,
+    marks: &mut [u8],
+    prefix: &[u8],
+    new: Entry,
+) -> Verdict
+    ensures { λ r. ⌜ IdJudged (now (h .entry)) (entriesIn form (now (kept .entry))) (now (marks .entry)) (now (prefix .entry)) (entryOf new) r
         (now (marks .exit)) ⌝ }
 {
-    match scan::find_clash(h, kept, marks, prefix, new) {
+    match scan::find_clash(h, kept, form, marks, prefix, new) {
         Clash::Free => Verdict::Entry(new),
         Clash::TypedId => Verdict::Refused(Refusal::DuplicateId),
         Clash::Mixed => Verdict::Refused(Refusal::MixedValues),
@@ -86,8 +93,15 @@ fn judge_id(h: &[u8], kept: &[u64], marks: &mut [u8], prefix: &[u8], new: Entry)
     }
 }
 
-fn judge_map(h: &[u8], kept: &[u64], marks: &mut [u8], at: Place, map: MapRecord) -> Verdict
-    ensures { λ r. ⌜ MapJudged (now (h .entry)) (entriesIn (now (kept .entry))) (now (marks .entry)) (at .start) (at .end) map r (now (marks .exit)) ⌝ }
+fn judge_map(
+    h: &[u8],
+    kept: &[u64],
+    form: Form,
+    marks: &mut [u8],
+    at: Place,
+    map: MapRecord,
+) -> Verdict
+    ensures { λ r. ⌜ MapJudged (now (h .entry)) (entriesIn form (now (kept .entry))) (now (marks .entry)) (at .start) (at .end) map r (now (marks .exit)) ⌝ }
 {
     let l = bytes::part(h, at.start, at.end);
     let key = map.key;
@@ -103,20 +117,27 @@ fn judge_map(h: &[u8], kept: &[u64], marks: &mut [u8], at: Place, map: MapRecord
         quoted: id.quoted,
         tag: map.tag,
     };
-    judge_id(h, kept, marks, prefix, new)
+    judge_id(h, kept, form, marks, prefix, new)
 }
 
-fn judge_record(h: &[u8], kept: &[u64], marks: &mut [u8], at: Place, version: FileFormat) -> Verdict
-    ensures { λ r. ⌜ RecordJudged (now (h .entry)) (entriesIn (now (kept .entry))) (now (marks .entry)) (versionOf version) (at .start) (at .end) r
+fn judge_record(
+    h: &[u8],
+    kept: &[u64],
+    form: Form,
+    marks: &mut [u8],
+    at: Place,
+    version: FileFormat,
+) -> Verdict
+    ensures { λ r. ⌜ RecordJudged (now (h .entry)) (entriesIn form (now (kept .entry))) (now (marks .entry)) (versionOf version) (at .start) (at .end) r
         (now (marks .exit)) ⌝ }
 {
     let l = bytes::part(h, at.start, at.end);
     match record::parse_record(l, version) {
         RecordRead::FileFormat(_) => Verdict::Refused(Refusal::UnexpectedFileFormat),
-        RecordRead::Map(map) => judge_map(h, kept, marks, at, map),
+        RecordRead::Map(map) => judge_map(h, kept, form, marks, at, map),
         RecordRead::Text(value) => {
             let new = Entry::plain(kind::OTHER_TEXT, at.start, l.len());
-            judge_id(h, kept, marks, bytes::part(l, 0, value), new)
+            judge_id(h, kept, form, marks, bytes::part(l, 0, value), new)
         }
         RecordRead::Refused(x) => Verdict::Refused(x),
     }
@@ -141,12 +162,13 @@ fn judge_columns(l: &[u8], version: FileFormat) -> Verdict
 fn judge_text(
     h: &[u8],
     kept: &[u64],
+    form: Form,
     marks: &mut [u8],
     at: Place,
     phase: Phase,
     imposed: FileFormatOption,
 ) -> Verdict
-    ensures { λ r. ⌜ TextJudged (now (h .entry)) (entriesIn (now (kept .entry))) (now (marks .entry)) (at .start) (at .end) phase (imposedOf imposed)
+    ensures { λ r. ⌜ TextJudged (now (h .entry)) (entriesIn form (now (kept .entry))) (now (marks .entry)) (at .start) (at .end) phase (imposedOf imposed)
         r (now (marks .exit)) ⌝ }
 {
     let l = bytes::part(h, at.start, at.end);
@@ -156,7 +178,7 @@ fn judge_text(
             if bytes::starts_with(l, b"#CHROM") {
                 return judge_columns(l, version);
             }
-            judge_record(h, kept, marks, at, version)
+            judge_record(h, kept, form, marks, at, version)
         }
         Phase::Done(_, _) => Verdict::Refused(Refusal::ExpectedEof),
     }
@@ -186,12 +208,13 @@ fn is_utf8(l: &[u8], ascii: bool) -> bool
 
 // A line, by 1, 2, 3, then its grammar; `kept` are the entries before it, which are marked, and so is it if it is kept.
 pub fn judge_line(h: &[u8], kept: &[u64], marks: &mut [u8], at: Place, given: Given) -> Verdict
-    ensures { λ r. ⌜ LineJudged (limitsOf (given .limits)) (now (h .entry)) (entriesIn (now (kept .entry))) (now (marks .entry))
+    ensures { λ r. ⌜ LineJudged (limitsBy (given .form)) (now (h .entry)) (entriesIn (given .form) (now (kept .entry))) (now (marks .entry))
         (given .ascii) (at .start) (at .end) (given .phase) (imposedOf (given .imposed)) r (now (marks .exit)) ⌝ }
 {
     let phase = given.phase;
     let imposed = given.imposed;
-    let limits = given.limits;
+    let form = given.form;
+    let limits = form.limits();
     if phase.is_done() {
         return Verdict::Refused(Refusal::ExpectedEof);
     }
@@ -202,5 +225,5 @@ pub fn judge_line(h: &[u8], kept: &[u64], marks: &mut [u8], at: Place, given: Gi
     if !is_utf8(l, given.ascii) {
         return Verdict::Refused(Refusal::InvalidUtf8);
     }
-    judge_text(h, kept, marks, at, phase, imposed)
+    judge_text(h, kept, form, marks, at, phase, imposed)
 }

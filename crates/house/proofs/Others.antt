@@ -22,6 +22,7 @@ use Rattle.house.specs.declared.progress.Progress.{Progress}
 use Rattle.house.specs.Writes.{WroteLines}
 use Rattle.house.specs.Keys.{isUnder, picked, AllReadable, PutsKey, prefixIn, seenUnder, isFirst, linesIf, otherLines, PutsOthers}
 use Rattle.house.proofs.Writes.{wrote-no-lines, then-lines}
+use Rattle.entries.specs.declared.form.Form.{Form}
 
 -- what answers the needs of `prefix_part`
 module _ (h : Bytes) (e : CodeEntry) {line : Bytes} (el : line ≡ lineIn h (entryOf e)) {end : ℕ} (f : end ≡ 0 + length (before (is 61) (drop 0 line))) where
@@ -40,26 +41,26 @@ pub ruleset prefixes = (prefix-whole, prefix-cut)
 
 -- The scan for a key: no entry before number k is under it
 
-pub record Seens (h prefix : Bytes) (t : List ℕ) (k : ℕ) : Type 0 where
-  pub still : seenUnder h prefix (entriesIn t) ≡ seenUnder h prefix (drop k (entriesIn t))
+pub record Seens (form : Form) (h prefix : Bytes) (t : List ℕ) (k : ℕ) : Type 0 where
+  pub still : seenUnder h prefix (entriesIn form t) ≡ seenUnder h prefix (drop k (entriesIn form t))
 
-pub seen-start : {h prefix : Bytes} {t : List ℕ} → Seens h prefix t 0
+pub seen-start : {form : Form} {h prefix : Bytes} {t : List ℕ} → Seens form h prefix t 0
 seen-start = record { still = refl }
 
-module _ {h prefix : Bytes} {t : List ℕ} {k : ℕ} (g : Seens h prefix t k) {n : ℕ} (en : n ≡ room t) where
-  pub seen-end : n ≤ k → false ≡ seenUnder h prefix (entriesIn t)
+module _ {form : Form} {h prefix : Bytes} {t : List ℕ} {k : ℕ} (g : Seens form h prefix t k) {n : ℕ} (en : n ≡ room form t) where
+  pub seen-end : n ≤ k → false ≡ seenUnder h prefix (entriesIn form t)
   unfolding seenUnder
-  seen-end l = sym (g .still ∙ rw (entries-past t k (rw (← en) l)))
+  seen-end l = sym (g .still ∙ rw (entries-past form t k (rw (← en) l)))
 
-  module _ (l : k < n) {e : CodeEntry} (ee : entryOf e ≡ entryIn t k) {q : Bool} (u : q ≡ isUnder h prefix (entryOf e)) where
-    seen-turn : seenUnder h prefix (entriesIn t) ≡ (q || seenUnder h prefix (drop (k + 1) (entriesIn t)))
+  module _ (l : k < n) {e : CodeEntry} (ee : entryOf e ≡ entryIn form t k) {q : Bool} (u : q ≡ isUnder h prefix (entryOf e)) where
+    seen-turn : seenUnder h prefix (entriesIn form t) ≡ (q || seenUnder h prefix (drop (k + 1) (entriesIn form t)))
     unfolding seenUnder
-    seen-turn = g .still ∙ rw (entries-here t k (rw (← en) l), ← ee, ← u)
+    seen-turn = g .still ∙ rw (entries-here form t k (rw (← en) l), ← ee, ← u)
 
-    pub seen-here : q ≡ true → true ≡ seenUnder h prefix (entriesIn t)
+    pub seen-here : q ≡ true → true ≡ seenUnder h prefix (entriesIn form t)
     seen-here f = sym (seen-turn ∙ rw f)
 
-    pub seen-not : q ≡ false → Seens h prefix t (k + 1)
+    pub seen-not : q ≡ false → Seens form h prefix t (k + 1)
     seen-not f = record { still = seen-turn ∙ rw f }
 
 pub ruleset seens = (seen-start, seen-end, seen-here, seen-not)
@@ -82,37 +83,37 @@ pub ruleset firsts = (first-low, first-high, first-seen)
 
 -- The loop over the keys: the lines of those that appear before number k are written
 
-pub record Others (v : Version) (h : Bytes) (t : List ℕ) (old : Bytes) (s₀ : Progress) (new : Bytes) (s : Progress) (k : ℕ) : Type 0 where
+pub record Others (form : Form) (v : Version) (h : Bytes) (t : List ℕ) (old : Bytes) (s₀ : Progress) (new : Bytes) (s : Progress) (k : ℕ) : Type 0 where
   pub lines : List Bytes
-  pub whole : otherLines v h (entriesIn t) [] (entriesIn t) ≡ lines ++ otherLines v h (entriesIn t) (take k (entriesIn t)) (drop k (entriesIn t))
+  pub whole : otherLines v h (entriesIn form t) [] (entriesIn form t) ≡ lines ++ otherLines v h (entriesIn form t) (take k (entriesIn form t)) (drop k (entriesIn form t))
   pub wrote : WroteLines old s₀ lines s new
 
-pub record Othering (v : Version) (h : Bytes) (t : List ℕ) (old : Bytes) (s₀ : Progress) (new : Bytes) (s : Progress) (k : ℕ) : Type 0 where
+pub record Othering (form : Form) (v : Version) (h : Bytes) (t : List ℕ) (old : Bytes) (s₀ : Progress) (new : Bytes) (s : Progress) (k : ℕ) : Type 0 where
   pub size : length new ≡ length old
-  pub is : AllReadable v h (entriesIn t) → Others v h t old s₀ new s k
+  pub is : AllReadable v h (entriesIn form t) → Others form v h t old s₀ new s k
 
-pub other-start : (v : Version) (h : Bytes) (t : List ℕ) (old : Bytes) (s : Progress) → s .next ≤ last → s .lines ≤ last → length old ≤ last → Othering v h t old s old s 0
-other-start v h t old s a b d = record {
+pub other-start : (form : Form) (v : Version) (h : Bytes) (t : List ℕ) (old : Bytes) (s : Progress) → s .next ≤ last → s .lines ≤ last → length old ≤ last → Othering form v h t old s old s 0
+other-start form v h t old s a b d = record {
   size = refl;
   is = λ g. record { lines = []; whole = refl; wrote = wrote-no-lines old s a b d };
 }
 
-module _ {v : Version} {h : Bytes} {t : List ℕ} {old : Bytes} {s₀ : Progress} {new : Bytes} {s : Progress} {k : ℕ} (g : Othering v h t old s₀ new s k) {n : ℕ} (en : n ≡ room t) where
+module _ {form : Form} {v : Version} {h : Bytes} {t : List ℕ} {old : Bytes} {s₀ : Progress} {new : Bytes} {s : Progress} {k : ℕ} (g : Othering form v h t old s₀ new s k) {n : ℕ} (en : n ≡ room form t) where
   abbrev es : List Entry
-  es = entriesIn t
+  es = entriesIn form t
 
-  module _ (l : k < n) {e : CodeEntry} (ee : entryOf e ≡ entryIn t k) {ahead : List ℕ} (ea : ahead ≡ firstEntries t k) {q : Bool} (u : q ≡ isFirst h (entriesIn ahead) (entryOf e)) where
+  module _ (l : k < n) {e : CodeEntry} (ee : entryOf e ≡ entryIn form t k) {ahead : List ℕ} (ea : ahead ≡ firstEntries form t k) {q : Bool} (u : q ≡ isFirst h (entriesIn form ahead) (entryOf e)) where
     here : drop k es ≡ entryOf e ∷ drop (k + 1) es
-    here = entries-here t k (rw (← en) l) ∙ ap (_∷ drop (k + 1) es) (sym ee)
+    here = entries-here form t k (rw (← en) l) ∙ ap (_∷ drop (k + 1) es) (sym ee)
 
     first : q ≡ isFirst h (take k es) (entryOf e)
-    first = u ∙ rw (ea, first-entries t k)
+    first = u ∙ rw (ea, first-entries form t k)
 
     turn : otherLines v h es (take k es) (drop k es) ≡ linesIf q (picked v h (prefixIn h (entryOf e)) es) ++ otherLines v h es (take (k + 1) es) (drop (k + 1) es)
     unfolding otherLines
     turn = let more : take (k + 1) es ≡ take k es ++ entryOf e ∷ [] = take-add k 1 es ∙ rw here in rw (here, ← first, more)
 
-    pub other-first : q ≡ true → {p : Bytes} → p ≡ prefixIn h (entryOf e) → {r : Progress} {o : Bytes} → PutsKey v h es p new s r o → length o ≡ length new → Othering v h t old s₀ o r (k + 1)
+    pub other-first : q ≡ true → {p : Bytes} → p ≡ prefixIn h (entryOf e) → {r : Progress} {o : Bytes} → PutsKey v h es p new s r o → length o ≡ length new → Othering form v h t old s₀ o r (k + 1)
     other-first f {p} i {r} {o} a m = record {
       size = m ∙ g .size;
       is = λ x.
@@ -125,7 +126,7 @@ module _ {v : Version} {h : Bytes} {t : List ℕ} {old : Bytes} {s₀ : Progress
           };
     }
 
-    pub other-later : q ≡ false → Othering v h t old s₀ new s (k + 1)
+    pub other-later : q ≡ false → Othering form v h t old s₀ new s (k + 1)
     other-later f = record {
       size = g .size;
       is = λ x. let d = g .is x in record { lines = d .lines; whole = d .whole ∙ ap (d .lines ++_) (turn ∙ rw f); wrote = d .wrote };
@@ -136,7 +137,7 @@ module _ {v : Version} {h : Bytes} {t : List ℕ} {old : Bytes} {s₀ : Progress
   other-end l = record {
     is = λ x.
         let d = g .is x in
-        subst (λ (ls : List Bytes). WroteLines old s₀ ls s new) (sym (d .whole ∙ ap (d .lines ++_) (rw (entries-past t k (rw (← en) l))) ∙ append-nil (d .lines))) (d .wrote);
+        subst (λ (ls : List Bytes). WroteLines old s₀ ls s new) (sym (d .whole ∙ ap (d .lines ++_) (rw (entries-past form t k (rw (← en) l))) ∙ append-nil (d .lines))) (d .wrote);
   }
 
 pub ruleset others = (other-first, other-later, other-end)

@@ -24,6 +24,7 @@ use Rattle.forms.specs.Lines.{houseLine}
 use Rattle.house.specs.Writes.{WroteLines, Readable, PutsEntry}
 use Rattle.house.specs.Keys.{isRecord, isUnder, picked, AllReadable, PutsKey, linesUnder, laterKeys, PutsKeys}
 use Rattle.house.proofs.Writes.{wrote-no-lines, then-lines}
+use Rattle.entries.specs.declared.form.Form.{Form}
 
 -- what answers the needs of `is_under`
 module _ (h prefix : Bytes) (e : CodeEntry) where
@@ -52,35 +53,35 @@ module _ (v : Version) (h prefix : Bytes) (e : Entry) (es : List Entry) where
 
 -- The loop over the entries of a key: the lines of those before number k are written
 
-pub record Picks (v : Version) (h : Bytes) (t : List ℕ) (prefix old : Bytes) (s₀ : Progress) (new : Bytes) (s : Progress) (k : ℕ) : Type 0 where
+pub record Picks (form : Form) (v : Version) (h : Bytes) (t : List ℕ) (prefix old : Bytes) (s₀ : Progress) (new : Bytes) (s : Progress) (k : ℕ) : Type 0 where
   pub before : List Bytes
-  pub whole : picked v h prefix (entriesIn t) ≡ before ++ picked v h prefix (drop k (entriesIn t))
-  pub ready : AllReadable v h (drop k (entriesIn t))
+  pub whole : picked v h prefix (entriesIn form t) ≡ before ++ picked v h prefix (drop k (entriesIn form t))
+  pub ready : AllReadable v h (drop k (entriesIn form t))
   pub wrote : WroteLines old s₀ before s new
 
-pub record Picking (v : Version) (h : Bytes) (t : List ℕ) (prefix old : Bytes) (s₀ : Progress) (new : Bytes) (s : Progress) (k : ℕ) : Type 0 where
+pub record Picking (form : Form) (v : Version) (h : Bytes) (t : List ℕ) (prefix old : Bytes) (s₀ : Progress) (new : Bytes) (s : Progress) (k : ℕ) : Type 0 where
   pub size : length new ≡ length old
-  pub is : AllReadable v h (entriesIn t) → Picks v h t prefix old s₀ new s k
+  pub is : AllReadable v h (entriesIn form t) → Picks form v h t prefix old s₀ new s k
 
-pub pick-start : (v : Version) (h : Bytes) (t : List ℕ) (prefix old : Bytes) (s : Progress) → s .next ≤ last → s .lines ≤ last → length old ≤ last → Picking v h t prefix old s old s 0
-pick-start v h t prefix old s a b d = record {
+pub pick-start : (form : Form) (v : Version) (h : Bytes) (t : List ℕ) (prefix old : Bytes) (s : Progress) → s .next ≤ last → s .lines ≤ last → length old ≤ last → Picking form v h t prefix old s old s 0
+pick-start form v h t prefix old s a b d = record {
   size = refl;
   is = λ g. record { before = []; whole = refl; ready = g; wrote = wrote-no-lines old s a b d };
 }
 
-module _ {v : Version} {h : Bytes} {t : List ℕ} {prefix old : Bytes} {s₀ : Progress} {new : Bytes} {s : Progress} {k : ℕ} (g : Picking v h t prefix old s₀ new s k) {n : ℕ} (en : n ≡ room t) where
+module _ {form : Form} {v : Version} {h : Bytes} {t : List ℕ} {prefix old : Bytes} {s₀ : Progress} {new : Bytes} {s : Progress} {k : ℕ} (g : Picking form v h t prefix old s₀ new s k) {n : ℕ} (en : n ≡ room form t) where
   -- e is the entry that the code got
-  module _ (l : k < n) {e : CodeEntry} (ee : entryOf e ≡ entryIn t k) {q : Bool} (u : q ≡ isUnder h prefix (entryOf e)) where
+  module _ (l : k < n) {e : CodeEntry} (ee : entryOf e ≡ entryIn form t k) {q : Bool} (u : q ≡ isUnder h prefix (entryOf e)) where
     abbrev rest : List Entry
-    rest = drop (k + 1) (entriesIn t)
+    rest = drop (k + 1) (entriesIn form t)
 
-    here : drop k (entriesIn t) ≡ entryOf e ∷ rest
-    here = entries-here t k (rw (← en) l) ∙ ap (_∷ rest) (sym ee)
+    here : drop k (entriesIn form t) ≡ entryOf e ∷ rest
+    here = entries-here form t k (rw (← en) l) ∙ ap (_∷ rest) (sym ee)
 
-    ready-here : AllReadable v h (drop k (entriesIn t)) → (isRecord (entryOf e) ≡ true → Readable v (lineIn h (entryOf e))) × AllReadable v h rest
+    ready-here : AllReadable v h (drop k (entriesIn form t)) → (isRecord (entryOf e) ≡ true → Readable v (lineIn h (entryOf e))) × AllReadable v h rest
     ready-here a = subst (AllReadable v h) here a
 
-    pub pick-more : q ≡ true → {r : Progress} {o : Bytes} → PutsEntry v (lineIn h (entryOf e)) new s r o → length o ≡ length new → Picking v h t prefix old s₀ o r (k + 1)
+    pub pick-more : q ≡ true → {r : Progress} {o : Bytes} → PutsEntry v (lineIn h (entryOf e)) new s r o → length o ≡ length new → Picking form v h t prefix old s₀ o r (k + 1)
     unfolding isUnder
     pick-more f {r} {o} p m = record {
       size = m ∙ g .size;
@@ -97,7 +98,7 @@ module _ {v : Version} {h : Bytes} {t : List ℕ} {prefix old : Bytes} {s₀ : P
           };
     }
 
-    pub pick-other : q ≡ false → Picking v h t prefix old s₀ new s (k + 1)
+    pub pick-other : q ≡ false → Picking form v h t prefix old s₀ new s (k + 1)
     pick-other f = record {
       size = g .size;
       is = λ a.
@@ -110,12 +111,12 @@ module _ {v : Version} {h : Bytes} {t : List ℕ} {prefix old : Bytes} {s₀ : P
           };
     }
 
-  pub pick-end : n ≤ k → PutsKey v h (entriesIn t) prefix old s₀ s new
+  pub pick-end : n ≤ k → PutsKey v h (entriesIn form t) prefix old s₀ s new
   unfolding picked
   pick-end l = record {
     is = λ a.
         let d = g .is a in
-        subst (λ (ls : List Bytes). WroteLines old s₀ ls s new) (sym (d .whole ∙ ap (d .before ++_) (rw (entries-past t k (rw (← en) l))) ∙ append-nil (d .before))) (d .wrote);
+        subst (λ (ls : List Bytes). WroteLines old s₀ ls s new) (sym (d .whole ∙ ap (d .before ++_) (rw (entries-past form t k (rw (← en) l))) ∙ append-nil (d .before))) (d .wrote);
   }
 
 pub ruleset picks = (pick-more, pick-other, pick-end)

@@ -6,7 +6,7 @@ use mathlib.Core.Option.{Option, none, some}
 use lib.ListN.{length, take}
 use lib.Seq.{sets}
 use Rattle.values.specs.Bytes.{Bytes}
-use Rattle.rules.specs.Sizes.{Limits, limits}
+use Rattle.rules.specs.Sizes.{Limits}
 use Rattle.rules.specs.Version.{Version}
 use Rattle.rules.specs.Entry.{Entry}
 use Rattle.rules.specs.Reading.{Reading, State, empty, ready, done, reading}
@@ -15,6 +15,8 @@ use Rattle.records.specs.Formats.{versionOf}
 use Rattle.records.specs.declared.file_format.FileFormat.{FileFormat}
 use Rattle.records.specs.declared.refusal.Refusal.{Refusal}
 use Rattle.records.specs.declared.refusal.Refusal.the-variants as refusal
+use Rattle.entries.specs.declared.form.Form.{Form}
+use Rattle.entries.specs.Values.{limitsBy}
 use Rattle.entries.specs.Tables.{room, stored}
 use Rattle.header.specs.declared.parser.Outcome.the-variants as outcome
 use Rattle.header.specs.declared.parser.ReadAnswer.{ReadAnswer}
@@ -69,17 +71,17 @@ formAnswered a NoRoom = refusedAnswer refusal.FormTooLong 0 0 (a .entries)
 -- the form was written, or not, and answered for
 pub record AnswersForm (lim : Limits) (a : ReadAnswer) (f : FileFormat) (h : Bytes) (es : List Entry) (old : Bytes) (r : HouseAnswer) (new : Bytes) :
     Type 0 where
-  pub form : FormOutcome
-  pub writes : WritesForm lim (versionOf f) h es old form new
-  pub answers : r ≡ formAnswered a form
+  pub written : FormOutcome
+  pub writes : WritesForm lim (versionOf f) h es old written new
+  pub answers : r ≡ formAnswered a written
   pub sized : Sized (versionOf f)
 
 -- what `house_form` promises of a call: the version imposed, the header, the table and the output; the answer, and the table and the output after it
-pub record HouseCall (lim : Limits) (imposed : Option Version) (h : Bytes) (t : List ℕ) (out : Bytes) (r : HouseAnswer) (t′ : List ℕ) (out′ : Bytes) :
+pub record HouseCall (form : Form) (imposed : Option Version) (h : Bytes) (t : List ℕ) (out : Bytes) (r : HouseAnswer) (t′ : List ℕ) (out′ : Bytes) :
     Type 0 where
-  pub answer : formAnswerMeans r ≡ houseMeans (readInto lim imposed t h) (house lim imposed (room t) (length out) h)
-  pub table : t′ ≡ stored t 0 (readInto lim imposed t h .entries)
-  pub output : out′ ≡ sets out 0 (house lim imposed (room t) (length out) h .form)
+  pub answer : formAnswerMeans r ≡ houseMeans (readInto form imposed t h) (house (limitsBy form) imposed (room form t) (length out) h)
+  pub table : t′ ≡ stored form t 0 (readInto form imposed t h .entries)
+  pub output : out′ ≡ sets out 0 (house (limitsBy form) imposed (room form t) (length out) h .form)
 
 -- the call was accepted
 abbrev pub IsAccepted : HouseAnswer → Type 0
@@ -96,5 +98,5 @@ meant zero (done v rs c) = some (headerMeaning v rs c)
 meant (suc n) s = none
 
 -- the meaning of a header, if it is accepted
-abbrev pub means : Option Version → ℕ → Bytes → Option Meaning
-means imposed room h = meant (reading limits imposed room h .number) (reading limits imposed room h .state)
+abbrev pub means : Limits → Option Version → ℕ → Bytes → Option Meaning
+means lim imposed room h = meant (reading lim imposed room h .number) (reading lim imposed room h .state)

@@ -2,8 +2,8 @@
 use crate::keys;
 use crate::progress;
 use crate::progress::Progress;
+use entries::form::Form;
 use entries::kind;
-use entries::limits::Limits;
 use entries::part;
 use entries::table;
 use header::file_format_option::FileFormatOption;
@@ -14,15 +14,13 @@ use records::file_format::FileFormat;
 use records::refusal::Refusal;
 ghost use mathlib.Core.Path.{_≡_};
 ghost use lib.ListN.{length};
-ghost use Rattle.rules.specs.Sizes.{limits};
 ghost use Rattle.rules.specs.House.{house};
 ghost use Rattle.records.specs.Formats.{versionOf};
-ghost use Rattle.entries.specs.Values.{limitsOf};
+ghost use Rattle.entries.specs.Values.{limitsBy};
 ghost use Rattle.entries.specs.Tables.{entriesIn};
 ghost use Rattle.house.specs.Forms.{columnLine, PutsRecords, PutsForm, WritesForm};
 ghost use Rattle.header.specs.Verdicts.{imposedOf};
 ghost use Rattle.house.specs.Answers.{refusedAnswer, formAnswered, AnswersForm, HouseCall};
-ghost use Rattle.entries.specs.Words.{Packed};
 
 // The outcome, the line and its start, how many entries the table keeps, and the form's length, 0 if none was written.
 pub struct HouseAnswer {
@@ -42,12 +40,12 @@ enum FormOutcome {
 }
 
 // The column line, no bytes if there is none.
-fn column_line<'a>(h: &'a [u8], kept: &[u64]) -> &'a [u8]
-    ensures { λ r. ⌜ now r ≡ columnLine (now (h .entry)) (entriesIn (now (kept .entry))) ⌝ }
+fn column_line<'a>(h: &'a [u8], kept: &[u64], form: Form) -> &'a [u8]
+    ensures { λ r. ⌜ now r ≡ columnLine (now (h .entry)) (entriesIn form (now (kept .entry))) ⌝ }
 {
     let mut k = 0;
-    while k < table::count(kept) {
-        let e = table::get(kept, k);
+    while k < table::count(kept, form) {
+        let e = table::get(kept, form, k);
         k += 1;
         if e.kind == kind::COLUMNS {
             return part::line_part(h, e);
@@ -57,16 +55,30 @@ fn column_line<'a>(h: &'a [u8], kept: &[u64]) -> &'a [u8]
 }
 
 // The typed keys, then the others.
-fn put_records(h: &[u8], kept: &[u64], version: FileFormat, out: &mut [u8], s: Progress) -> Progress
-    ensures { λ r. ⌜ PutsRecords (versionOf version) (now (h .entry)) (entriesIn (now (kept .entry))) (now (out .entry)) s r (now (out .exit)) ⌝ }
+fn put_records(
+    h: &[u8],
+    kept: &[u64],
+    form: Form,
+    version: FileFormat,
+    out: &mut [u8],
+    s: Progress,
+) -> Progress
+    ensures { λ r. ⌜ PutsRecords (versionOf version) (now (h .entry)) (entriesIn form (now (kept .entry))) (now (out .entry)) s r (now (out .exit)) ⌝ }
 {
-    let typed = keys::put_typed(h, kept, version, out, s);
-    keys::put_others(h, kept, version, out, typed)
+    let typed = keys::put_typed(h, kept, form, version, out, s);
+    keys::put_others(h, kept, form, version, out, typed)
 }
 
 // All lines; `kept` are the header's entries.
-fn put_form(h: &[u8], kept: &[u64], version: FileFormat, limit: usize, out: &mut [u8]) -> Progress
-    ensures { λ r. ⌜ PutsForm limit (versionOf version) (now (h .entry)) (entriesIn (now (kept .entry))) (now (out .entry)) r (now (out .exit)) ⌝ }
+fn put_form(
+    h: &[u8],
+    kept: &[u64],
+    form: Form,
+    version: FileFormat,
+    limit: usize,
+    out: &mut [u8],
+) -> Progress
+    ensures { λ r. ⌜ PutsForm limit (versionOf version) (now (h .entry)) (entriesIn form (now (kept .entry))) (now (out .entry)) r (now (out .exit)) ⌝ }
 {
     let begun = Progress {
         limit,
@@ -76,24 +88,24 @@ fn put_form(h: &[u8], kept: &[u64], version: FileFormat, limit: usize, out: &mut
         start: 0,
     };
     let formatted = progress::put_version(version, out, begun);
-    let recorded = put_records(h, kept, version, out, formatted);
-    progress::put_plain(column_line(h, kept), out, recorded)
+    let recorded = put_records(h, kept, form, version, out, formatted);
+    progress::put_plain(column_line(h, kept, form), out, recorded)
 }
 
 // Nothing is written unless the whole form may stand and fits.
 fn write_form(
     h: &[u8],
     kept: &[u64],
+    form: Form,
     version: FileFormat,
-    limits: Limits,
     out: &mut [u8],
 ) -> FormOutcome
-    requires { ⌜ Packed (limitsOf limits) ⌝ }
-    ensures { λ r. ⌜ WritesForm (limitsOf limits) (versionOf version) (now (h .entry)) (entriesIn (now (kept .entry))) (now (out .entry)) r
+    ensures { λ r. ⌜ WritesForm (limitsBy form) (versionOf version) (now (h .entry)) (entriesIn form (now (kept .entry))) (now (out .entry)) r
         (now (out .exit)) ⌝ }
 {
+    let limits = form.limits();
     let mut nothing = [0u8; 0];
-    let measured = put_form(h, kept, version, limits.line, &mut nothing);
+    let measured = put_form(h, kept, form, version, limits.line, &mut nothing);
     let size = measured.next;
     let long = measured.long;
     if limits.header < size {
@@ -105,7 +117,7 @@ fn write_form(
     if out.len() < size {
         return FormOutcome::NoRoom;
     }
-    put_form(h, kept, version, limits.line, out);
+    put_form(h, kept, form, version, limits.line, out);
     FormOutcome::Whole(size)
 }
 
@@ -122,12 +134,12 @@ fn refuse(x: Refusal, line: usize, start: usize, entries: usize) -> HouseAnswer
 }
 
 // The answer after an accepted reading.
-fn answer(read: ReadAnswer, form: FormOutcome) -> HouseAnswer
-    ensures { λ r. ⌜ r ≡ formAnswered read form ⌝ }
+fn answer(read: ReadAnswer, written: FormOutcome) -> HouseAnswer
+    ensures { λ r. ⌜ r ≡ formAnswered read written ⌝ }
 {
     let entries = read.entries;
     let outcome = read.outcome;
-    match form {
+    match written {
         FormOutcome::Whole(length) => HouseAnswer {
             outcome,
             line: read.line,
@@ -145,33 +157,42 @@ fn answer(read: ReadAnswer, form: FormOutcome) -> HouseAnswer
 fn answer_accepted(
     h: &[u8],
     kept: &[u64],
+    form: Form,
     read: ReadAnswer,
     version: FileFormat,
     out: &mut [u8],
 ) -> HouseAnswer
-    ensures { λ r. ⌜ AnswersForm limits read version (now (h .entry)) (entriesIn (now (kept .entry))) (now (out .entry)) r (now (out .exit)) ⌝ }
+    ensures { λ r. ⌜ AnswersForm (limitsBy form) read version (now (h .entry)) (entriesIn form (now (kept .entry))) (now (out .entry)) r (now (out .exit)) ⌝ }
 {
-    let form = write_form(h, kept, version, Limits::FIRST, out);
-    answer(read, form)
+    let written = write_form(h, kept, form, version, out);
+    answer(read, written)
 }
 
 // Reads a header into the table and writes its house form, from the output's first byte on; nothing is written if it is refused.
 pub fn house_form(
     header: &[u8],
     imposed: FileFormatOption,
+    form: Form,
     table: &mut [u64],
     out: &mut [u8],
 ) -> HouseAnswer
     ensures { λ r.
-        ⌜ HouseCall limits (imposedOf imposed) (now (header .entry)) (now (table .entry)) (now (out .entry)) r (now (table .exit)) (now (out .exit)) ⌝ }
+        ⌜ HouseCall form (imposedOf imposed) (now (header .entry)) (now (table .entry)) (now (out .entry)) r (now (table .exit)) (now (out .exit)) ⌝ }
 {
-    let read = parser::read(header, imposed, table);
+    let read = parser::read(header, imposed, form, table);
     let entries = read.entries;
     let outcome = read.outcome;
     match outcome {
         Outcome::Refused(x) => refuse(x, read.line, read.start, entries),
         Outcome::Accepted(version, _) => {
-            answer_accepted(header, table::kept(table, entries), read, version, out)
+            answer_accepted(
+                header,
+                table::kept(table, form, entries),
+                form,
+                read,
+                version,
+                out,
+            )
         }
     }
 }

@@ -2,6 +2,7 @@
 use crate::progress;
 use crate::progress::Progress;
 use entries::entry::Entry;
+use entries::form::Form;
 use entries::kind;
 use entries::part;
 use entries::table;
@@ -31,18 +32,19 @@ fn is_under(h: &[u8], e: Entry, prefix: &[u8]) -> bool
 pub fn put_key(
     h: &[u8],
     kept: &[u64],
+    form: Form,
     prefix: &[u8],
     version: FileFormat,
     out: &mut [u8],
     s: Progress,
 ) -> Progress
-    ensures { λ r. ⌜ PutsKey (versionOf version) (now (h .entry)) (entriesIn (now (kept .entry))) (now (prefix .entry)) (now (out .entry)) s r
+    ensures { λ r. ⌜ PutsKey (versionOf version) (now (h .entry)) (entriesIn form (now (kept .entry))) (now (prefix .entry)) (now (out .entry)) s r
         (now (out .exit)) ⌝ }
 {
     let mut progress = s;
     let mut k = 0;
-    while k < table::count(kept) {
-        let e = table::get(kept, k);
+    while k < table::count(kept, form) {
+        let e = table::get(kept, form, k);
         k += 1;
         if is_under(h, e, prefix) {
             progress = progress::put_entry(h, e, version, out, progress);
@@ -55,30 +57,32 @@ pub fn put_key(
 fn put_later_typed(
     h: &[u8],
     kept: &[u64],
+    form: Form,
     version: FileFormat,
     out: &mut [u8],
     s: Progress,
 ) -> Progress
-    ensures { λ r. ⌜ PutsKeys (versionOf version) (now (h .entry)) (entriesIn (now (kept .entry))) laterKeys (now (out .entry)) s r (now (out .exit)) ⌝ }
+    ensures { λ r. ⌜ PutsKeys (versionOf version) (now (h .entry)) (entriesIn form (now (kept .entry))) laterKeys (now (out .entry)) s r (now (out .exit)) ⌝ }
 {
-    let format = put_key(h, kept, b"##FORMAT=", version, out, s);
-    let alt = put_key(h, kept, b"##ALT=", version, out, format);
-    put_key(h, kept, b"##contig=", version, out, alt)
+    let format = put_key(h, kept, form, b"##FORMAT=", version, out, s);
+    let alt = put_key(h, kept, form, b"##ALT=", version, out, format);
+    put_key(h, kept, form, b"##contig=", version, out, alt)
 }
 
 // The typed keys, in the form's order.
 pub fn put_typed(
     h: &[u8],
     kept: &[u64],
+    form: Form,
     version: FileFormat,
     out: &mut [u8],
     s: Progress,
 ) -> Progress
-    ensures { λ r. ⌜ PutsKeys (versionOf version) (now (h .entry)) (entriesIn (now (kept .entry))) typedKeys (now (out .entry)) s r (now (out .exit)) ⌝ }
+    ensures { λ r. ⌜ PutsKeys (versionOf version) (now (h .entry)) (entriesIn form (now (kept .entry))) typedKeys (now (out .entry)) s r (now (out .exit)) ⌝ }
 {
-    let info = put_key(h, kept, b"##INFO=", version, out, s);
-    let filter = put_key(h, kept, b"##FILTER=", version, out, info);
-    put_later_typed(h, kept, version, out, filter)
+    let info = put_key(h, kept, form, b"##INFO=", version, out, s);
+    let filter = put_key(h, kept, form, b"##FILTER=", version, out, info);
+    put_later_typed(h, kept, form, version, out, filter)
 }
 
 // The line through its first `=`.
@@ -93,12 +97,12 @@ fn prefix_part(h: &[u8], e: Entry) -> &[u8]
     bytes::part(line, 0, end + 1)
 }
 
-fn is_seen(h: &[u8], kept: &[u64], prefix: &[u8]) -> bool
-    ensures { λ r. ⌜ r ≡ seenUnder (now (h .entry)) (now (prefix .entry)) (entriesIn (now (kept .entry))) ⌝ }
+fn is_seen(h: &[u8], kept: &[u64], form: Form, prefix: &[u8]) -> bool
+    ensures { λ r. ⌜ r ≡ seenUnder (now (h .entry)) (now (prefix .entry)) (entriesIn form (now (kept .entry))) ⌝ }
 {
     let mut k = 0;
-    while k < table::count(kept) {
-        let e = table::get(kept, k);
+    while k < table::count(kept, form) {
+        let e = table::get(kept, form, k);
         k += 1;
         if is_under(h, e, prefix) {
             return true;
@@ -108,8 +112,8 @@ fn is_seen(h: &[u8], kept: &[u64], prefix: &[u8]) -> bool
 }
 
 // Whether an entry is the first one of a key that is not typed; `ahead` are the entries before it.
-fn is_first(h: &[u8], ahead: &[u64], e: Entry) -> bool
-    ensures { λ r. ⌜ r ≡ isFirst (now (h .entry)) (entriesIn (now (ahead .entry))) (entryOf e) ⌝ }
+fn is_first(h: &[u8], ahead: &[u64], form: Form, e: Entry) -> bool
+    ensures { λ r. ⌜ r ≡ isFirst (now (h .entry)) (entriesIn form (now (ahead .entry))) (entryOf e) ⌝ }
 {
     if e.kind < kind::OTHER_MAP {
         return false;
@@ -118,28 +122,29 @@ fn is_first(h: &[u8], ahead: &[u64], e: Entry) -> bool
         return false;
     }
     let prefix = prefix_part(h, e);
-    !is_seen(h, ahead, prefix)
+    !is_seen(h, ahead, form, prefix)
 }
 
 // The other keys, by first appearance.
 pub fn put_others(
     h: &[u8],
     kept: &[u64],
+    form: Form,
     version: FileFormat,
     out: &mut [u8],
     s: Progress,
 ) -> Progress
-    ensures { λ r. ⌜ PutsOthers (versionOf version) (now (h .entry)) (entriesIn (now (kept .entry))) (now (out .entry)) s r (now (out .exit)) ⌝ }
+    ensures { λ r. ⌜ PutsOthers (versionOf version) (now (h .entry)) (entriesIn form (now (kept .entry))) (now (out .entry)) s r (now (out .exit)) ⌝ }
 {
     let mut progress = s;
     let mut k = 0;
-    while k < table::count(kept) {
-        let e = table::get(kept, k);
-        let ahead = table::kept(kept, k);
+    while k < table::count(kept, form) {
+        let e = table::get(kept, form, k);
+        let ahead = table::kept(kept, form, k);
         k += 1;
-        if is_first(h, ahead, e) {
+        if is_first(h, ahead, form, e) {
             let prefix = prefix_part(h, e);
-            progress = put_key(h, kept, prefix, version, out, progress);
+            progress = put_key(h, kept, form, prefix, version, out, progress);
         }
     }
     progress

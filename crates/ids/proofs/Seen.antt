@@ -22,6 +22,7 @@ use Rattle.rules.specs.Entry.{Entry, mapKind}
 use Rattle.rules.specs.Shown.{lineIn, idIn, idMeaning}
 use Rattle.entries.specs.declared.entry.Entry.{Entry as CodeEntry}
 use Rattle.entries.specs.Values.{entryOf}
+use Rattle.entries.specs.declared.form.Form.{Form}
 use Rattle.entries.specs.Tables.{room, entriesIn, entryIn}
 use Rattle.entries.proofs.Stored.{entries-here, entries-past}
 use Rattle.ids.specs.Clashes.{hasKey, keySeen, isOfKey, isOfId, idSeen, mapClash, clashBy, lastOf, MayEqual, Candidate}
@@ -94,27 +95,27 @@ pub ruleset candidates = (other-kind, unequal, candidate)
 
 -- The scan for a key: no entry before number k has it
 
-pub record Keys (h prefix : Bytes) (kind : ℕ) (t : List ℕ) (k : ℕ) : Type 0 where
-  pub still : keySeen h prefix kind (entriesIn t) ≡ keySeen h prefix kind (drop k (entriesIn t))
+pub record Keys (h prefix : Bytes) (kind : ℕ) (form : Form) (t : List ℕ) (k : ℕ) : Type 0 where
+  pub still : keySeen h prefix kind (entriesIn form t) ≡ keySeen h prefix kind (drop k (entriesIn form t))
 
-pub keys-start : {h prefix : Bytes} {kind : ℕ} {t : List ℕ} → Keys h prefix kind t 0
+pub keys-start : {h prefix : Bytes} {kind : ℕ} {form : Form} {t : List ℕ} → Keys h prefix kind form t 0
 keys-start = record { still = refl }
 
-module _ {h prefix : Bytes} {kind : ℕ} {t : List ℕ} {k : ℕ} (g : Keys h prefix kind t k) {n : ℕ} (en : n ≡ room t) where
-  pub keys-end : n ≤ k → false ≡ keySeen h prefix kind (entriesIn t)
+module _ {h prefix : Bytes} {kind : ℕ} {form : Form} {t : List ℕ} {k : ℕ} (g : Keys h prefix kind form t k) {n : ℕ} (en : n ≡ room form t) where
+  pub keys-end : n ≤ k → false ≡ keySeen h prefix kind (entriesIn form t)
   unfolding keySeen
-  keys-end l = sym (g .still ∙ rw (entries-past t k (rw (← en) l)))
+  keys-end l = sym (g .still ∙ rw (entries-past form t k (rw (← en) l)))
 
   -- e is the entry that the code got
-  module _ (l : k < n) {e : CodeEntry} (ee : entryOf e ≡ entryIn t k) where
-    keys-turn : keySeen h prefix kind (entriesIn t) ≡ (hasKey h prefix kind (entryOf e) || keySeen h prefix kind (drop (k + 1) (entriesIn t)))
+  module _ (l : k < n) {e : CodeEntry} (ee : entryOf e ≡ entryIn form t k) where
+    keys-turn : keySeen h prefix kind (entriesIn form t) ≡ (hasKey h prefix kind (entryOf e) || keySeen h prefix kind (drop (k + 1) (entriesIn form t)))
     unfolding keySeen
-    keys-turn = g .still ∙ rw (entries-here t k (rw (← en) l), ← ee)
+    keys-turn = g .still ∙ rw (entries-here form t k (rw (← en) l), ← ee)
 
-    keys-next : hasKey h prefix kind (entryOf e) ≡ false → Keys h prefix kind t (k + 1)
+    keys-next : hasKey h prefix kind (entryOf e) ≡ false → Keys h prefix kind form t (k + 1)
     keys-next f = record { still = keys-turn ∙ rw f }
 
-    pub keys-other : (e .kind ≡ kind → ⊥) → Keys h prefix kind t (k + 1)
+    pub keys-other : (e .kind ≡ kind → ⊥) → Keys h prefix kind form t (k + 1)
     unfolding hasKey
     keys-other ne = keys-next (rw (ne-eqb (e .kind) kind ne))
 
@@ -124,49 +125,49 @@ module _ {h prefix : Bytes} {kind : ℕ} {t : List ℕ} {k : ℕ} (g : Keys h pr
       unfolding hasKey
       has-key = rw (eq-eqb (e .kind) kind ek, ← ep) (sym eq)
 
-      pub keys-miss : q ≡ false → Keys h prefix kind t (k + 1)
+      pub keys-miss : q ≡ false → Keys h prefix kind form t (k + 1)
       keys-miss f = keys-next (has-key ∙ f)
 
-      pub keys-hit : q ≡ true → true ≡ keySeen h prefix kind (entriesIn t)
+      pub keys-hit : q ≡ true → true ≡ keySeen h prefix kind (entriesIn form t)
       keys-hit f = sym (keys-turn ∙ rw (has-key, f))
 
 pub ruleset keys = (keys-start, keys-end, keys-other, keys-miss, keys-hit)
 
 -- The scan for an ID: no entry before number k has it
 
-pub record Ids (h prefix : Bytes) (kind : ℕ) (id : Bytes) (quoted : Bool) (t : List ℕ) (found : Bool) (k : ℕ) : Type 0 where
+pub record Ids (h prefix : Bytes) (kind : ℕ) (id : Bytes) (quoted : Bool) (form : Form) (t : List ℕ) (found : Bool) (k : ℕ) : Type 0 where
   pub none : found ≡ false
-  pub still : idSeen h prefix kind (meaning quoted id) (entriesIn t) ≡ idSeen h prefix kind (meaning quoted id) (drop k (entriesIn t))
+  pub still : idSeen h prefix kind (meaning quoted id) (entriesIn form t) ≡ idSeen h prefix kind (meaning quoted id) (drop k (entriesIn form t))
 
-pub ids-start : {h prefix : Bytes} {kind : ℕ} {id : Bytes} {quoted : Bool} {t : List ℕ} → Ids h prefix kind id quoted t false 0
+pub ids-start : {h prefix : Bytes} {kind : ℕ} {id : Bytes} {quoted : Bool} {form : Form} {t : List ℕ} → Ids h prefix kind id quoted form t false 0
 ids-start = record { none = refl; still = refl }
 
 -- the entry's ID, in p and q, is the same before i as the new one before j; the next entry has the number k
-pub record Within (h prefix : Bytes) (kind : ℕ) (id : Bytes) (quoted : Bool) (t : List ℕ) (found : Bool) (k : ℕ) (p : Bytes) (q : Bool) (i j : ℕ) : Type 0 where
+pub record Within (h prefix : Bytes) (kind : ℕ) (id : Bytes) (quoted : Bool) (form : Form) (t : List ℕ) (found : Bool) (k : ℕ) (p : Bytes) (q : Bool) (i j : ℕ) : Type 0 where
   pub comparing : Comparing p q id quoted i j
-  pub other : false ≡ same (meaning q p) (meaning quoted id) → Ids h prefix kind id quoted t found k
-  pub equal : true ≡ same (meaning q p) (meaning quoted id) → true ≡ idSeen h prefix kind (meaning quoted id) (entriesIn t)
+  pub other : false ≡ same (meaning q p) (meaning quoted id) → Ids h prefix kind id quoted form t found k
+  pub equal : true ≡ same (meaning q p) (meaning quoted id) → true ≡ idSeen h prefix kind (meaning quoted id) (entriesIn form t)
 
-module _ {h prefix : Bytes} {kind : ℕ} {id : Bytes} {quoted : Bool} {t : List ℕ} {found : Bool} {k : ℕ} (g : Ids h prefix kind id quoted t found k) {n : ℕ} (en : n ≡ room t) where
-  pub ids-end : n ≤ k → found ≡ idSeen h prefix kind (meaning quoted id) (entriesIn t)
+module _ {h prefix : Bytes} {kind : ℕ} {id : Bytes} {quoted : Bool} {form : Form} {t : List ℕ} {found : Bool} {k : ℕ} (g : Ids h prefix kind id quoted form t found k) {n : ℕ} (en : n ≡ room form t) where
+  pub ids-end : n ≤ k → found ≡ idSeen h prefix kind (meaning quoted id) (entriesIn form t)
   unfolding idSeen
-  ids-end l = g .none ∙ sym (g .still ∙ rw (entries-past t k (rw (← en) l)))
+  ids-end l = g .none ∙ sym (g .still ∙ rw (entries-past form t k (rw (← en) l)))
 
-  module _ (l : k < n) {e : CodeEntry} (ee : entryOf e ≡ entryIn t k) where
-    ids-turn : idSeen h prefix kind (meaning quoted id) (entriesIn t)
-        ≡ (isOfId h prefix kind (meaning quoted id) (entryOf e) || idSeen h prefix kind (meaning quoted id) (drop (k + 1) (entriesIn t)))
+  module _ (l : k < n) {e : CodeEntry} (ee : entryOf e ≡ entryIn form t k) where
+    ids-turn : idSeen h prefix kind (meaning quoted id) (entriesIn form t)
+        ≡ (isOfId h prefix kind (meaning quoted id) (entryOf e) || idSeen h prefix kind (meaning quoted id) (drop (k + 1) (entriesIn form t)))
     unfolding idSeen
-    ids-turn = g .still ∙ rw (entries-here t k (rw (← en) l), ← ee)
+    ids-turn = g .still ∙ rw (entries-here form t k (rw (← en) l), ← ee)
 
-    ids-next : isOfId h prefix kind (meaning quoted id) (entryOf e) ≡ false → Ids h prefix kind id quoted t found (k + 1)
+    ids-next : isOfId h prefix kind (meaning quoted id) (entryOf e) ≡ false → Ids h prefix kind id quoted form t found (k + 1)
     ids-next f = record { none = g .none; still = ids-turn ∙ rw f }
 
     module _ {last : ℕ} {q : Bool} (m : Candidate h (entryOf e) prefix kind id last quoted q) where
-      pub no-candidate : last ≡ lastOf id → not q ≡ true → Ids h prefix kind id quoted t found (k + 1)
+      pub no-candidate : last ≡ lastOf id → not q ≡ true → Ids h prefix kind id quoted form t found (k + 1)
       no-candidate el f = ids-next (m .failed el (not-true q f))
 
       -- the code holds the entry's ID in p
-      pub within-start : not q ≡ false → {p : Bytes} → p ≡ idIn h (entryOf e) → Within h prefix kind id quoted t found (k + 1) p (e .quoted) 0 0
+      pub within-start : not q ≡ false → {p : Bytes} → p ≡ idIn h (entryOf e) → Within h prefix kind id quoted form t found (k + 1) p (e .quoted) 0 0
       within-start f {p} ep =
           let i : isOfId h prefix kind (meaning quoted id) (entryOf e) ≡ same (meaning (e .quoted) p) (meaning quoted id) = m .passed (not-false q f) ∙ rw ep in
           record {
@@ -175,23 +176,23 @@ module _ {h prefix : Bytes} {kind : ℕ} {id : Bytes} {quoted : Bool} {t : List 
             equal = λ a. sym (ids-turn ∙ rw (i, ← a));
           }
 
-module _ {h prefix : Bytes} {kind : ℕ} {id : Bytes} {quoted : Bool} {t : List ℕ} {found : Bool} {k : ℕ} {p : Bytes} {q : Bool} {i j : ℕ}
-    (g : Within h prefix kind id quoted t found k p q i j) {r : ByteRead} (ea : r ≡ unescapedAt q p i) {s : ByteRead} (eb : s ≡ unescapedAt quoted id j) where
-  pub both-ended : r ≡ End → s ≡ End → true ≡ idSeen h prefix kind (meaning quoted id) (entriesIn t)
+module _ {h prefix : Bytes} {kind : ℕ} {id : Bytes} {quoted : Bool} {form : Form} {t : List ℕ} {found : Bool} {k : ℕ} {p : Bytes} {q : Bool} {i j : ℕ}
+    (g : Within h prefix kind id quoted form t found k p q i j) {r : ByteRead} (ea : r ≡ unescapedAt q p i) {s : ByteRead} (eb : s ≡ unescapedAt quoted id j) where
+  pub both-ended : r ≡ End → s ≡ End → true ≡ idSeen h prefix kind (meaning quoted id) (entriesIn form t)
   both-ended er et = g .equal (both-end (g .comparing) ea eb er et)
 
-  pub entry-ended : r ≡ End → {b : ℕ} {d : Cursor} → s ≡ Byte b d → Ids h prefix kind id quoted t found k
+  pub entry-ended : r ≡ End → {b : ℕ} {d : Cursor} → s ≡ Byte b d → Ids h prefix kind id quoted form t found k
   entry-ended er et = g .other (right-longer (g .comparing) ea eb er et)
 
   module _ {a : ℕ} {c : Cursor} (er : r ≡ Byte a c) where
-    pub new-ended : s ≡ End → Ids h prefix kind id quoted t found k
+    pub new-ended : s ≡ End → Ids h prefix kind id quoted form t found k
     new-ended et = g .other (left-longer (g .comparing) ea eb er et)
 
     module _ {b : ℕ} {d : Cursor} (et : s ≡ Byte b d) where
-      pub bytes-differ : (a ≡ b → ⊥) → Ids h prefix kind id quoted t found k
+      pub bytes-differ : (a ≡ b → ⊥) → Ids h prefix kind id quoted form t found k
       bytes-differ ne = g .other (byte-differs (g .comparing) ea eb er et ne)
 
-      pub bytes-agree : a ≡ b → Within h prefix kind id quoted t found k p q (c .at) (d .at)
+      pub bytes-agree : a ≡ b → Within h prefix kind id quoted form t found k p q (c .at) (d .at)
       bytes-agree e = record { comparing = agree (g .comparing) ea eb er et e; other = g .other; equal = g .equal }
 
 pub ruleset ids = (ids-start, ids-end, no-candidate, within-start)

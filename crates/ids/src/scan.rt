@@ -1,5 +1,6 @@
 // What a new line clashes with among the entries kept so far.
 use entries::entry::Entry;
+use entries::form::Form;
 use entries::kind;
 use entries::part;
 use entries::table;
@@ -90,12 +91,12 @@ fn is_candidate(h: &[u8], e: Entry, prefix: &[u8], id: &[u8], wanted: Wanted) ->
 }
 
 // Whether an entry of this kind stands under the key that the prefix names.
-fn key_seen(h: &[u8], kept: &[u64], prefix: &[u8], kind: u8) -> bool
-    ensures { λ r. ⌜ r ≡ keySeen (now (h .entry)) (now (prefix .entry)) kind (entriesIn (now (kept .entry))) ⌝ }
+fn key_seen(h: &[u8], kept: &[u64], form: Form, prefix: &[u8], kind: u8) -> bool
+    ensures { λ r. ⌜ r ≡ keySeen (now (h .entry)) (now (prefix .entry)) kind (entriesIn form (now (kept .entry))) ⌝ }
 {
     let mut k = 0;
-    while k < table::count(kept) {
-        let e = table::get(kept, k);
+    while k < table::count(kept, form) {
+        let e = table::get(kept, form, k);
         k += 1;
         if e.kind == kind {
             let line = part::line_part(h, e);
@@ -108,16 +109,24 @@ fn key_seen(h: &[u8], kept: &[u64], prefix: &[u8], kind: u8) -> bool
 }
 
 // Whether an entry of this kind under this key has an ID of the same meaning.
-fn id_seen(h: &[u8], kept: &[u64], prefix: &[u8], kind: u8, id: &[u8], quoted: bool) -> bool
+fn id_seen(
+    h: &[u8],
+    kept: &[u64],
+    form: Form,
+    prefix: &[u8],
+    kind: u8,
+    id: &[u8],
+    quoted: bool,
+) -> bool
     ensures { λ r.
-        ⌜ r ≡ idSeen (now (h .entry)) (now (prefix .entry)) kind (meaning quoted (now (id .entry))) (entriesIn (now (kept .entry))) ⌝ }
+        ⌜ r ≡ idSeen (now (h .entry)) (now (prefix .entry)) kind (meaning quoted (now (id .entry))) (entriesIn form (now (kept .entry))) ⌝ }
 {
     let last = last_byte(id);
     let wanted = Wanted { kind, last, quoted };
     let mut found = false;
     let mut k = 0;
-    'entries: while k < table::count(kept) {
-        let e = table::get(kept, k);
+    'entries: while k < table::count(kept, form) {
+        let e = table::get(kept, form, k);
         k += 1;
         if !is_candidate(h, e, prefix, id, wanted) {
             continue 'entries;
@@ -148,35 +157,42 @@ fn id_seen(h: &[u8], kept: &[u64], prefix: &[u8], kind: u8, id: &[u8], quoted: b
 }
 
 // The same two, where the marks don't tell it already.
-fn has_key(h: &[u8], kept: &[u64], marks: &[u8], prefix: &[u8], kind: u8) -> bool
-    ensures { λ r. ⌜ r ≡ keyFound (now (h .entry)) (entriesIn (now (kept .entry))) (now (marks .entry)) (now (prefix .entry)) kind ⌝ }
+fn has_key(h: &[u8], kept: &[u64], form: Form, marks: &[u8], prefix: &[u8], kind: u8) -> bool
+    ensures { λ r. ⌜ r ≡ keyFound (now (h .entry)) (entriesIn form (now (kept .entry))) (now (marks .entry)) (now (prefix .entry)) kind ⌝ }
 {
     if !marks::is_marked(marks, kind, b"", false) {
         return false;
     }
-    key_seen(h, kept, prefix, kind)
+    key_seen(h, kept, form, prefix, kind)
 }
 
 // The new entry's ID is marked by that.
-fn has_id(h: &[u8], kept: &[u64], marks: &mut [u8], prefix: &[u8], new: Entry) -> bool
-    ensures found { λ r. ⌜ r ≡ idFound (now (h .entry)) (entriesIn (now (kept .entry))) (now (marks .entry)) (now (prefix .entry)) (entryOf new) ⌝ }
+fn has_id(h: &[u8], kept: &[u64], form: Form, marks: &mut [u8], prefix: &[u8], new: Entry) -> bool
+    ensures found { λ r. ⌜ r ≡ idFound (now (h .entry)) (entriesIn form (now (kept .entry))) (now (marks .entry)) (now (prefix .entry)) (entryOf new) ⌝ }
     ensures marks { λ _. ⌜ now (marks .exit) ≡ mark (now (marks .entry)) (new .kind) (idMeaning (now (h .entry)) (entryOf new)) ⌝ }
 {
     let id = part::id_part(h, new);
     if !marks::meet(marks, new.kind, id, new.quoted) {
         return false;
     }
-    id_seen(h, kept, prefix, new.kind, id, new.quoted)
+    id_seen(h, kept, form, prefix, new.kind, id, new.quoted)
 }
 
-fn find_map_clash(h: &[u8], kept: &[u64], marks: &mut [u8], prefix: &[u8], new: Entry) -> Clash
+fn find_map_clash(
+    h: &[u8],
+    kept: &[u64],
+    form: Form,
+    marks: &mut [u8],
+    prefix: &[u8],
+    new: Entry,
+) -> Clash
     ensures clash { λ r.
-        ⌜ r ≡ mapClash (keyFound (now (h .entry)) (entriesIn (now (kept .entry))) (now (marks .entry)) (now (prefix .entry)) textKind)
-        (idFound (now (h .entry)) (entriesIn (now (kept .entry))) (now (marks .entry)) (now (prefix .entry)) (entryOf new)) ⌝ }
+        ⌜ r ≡ mapClash (keyFound (now (h .entry)) (entriesIn form (now (kept .entry))) (now (marks .entry)) (now (prefix .entry)) textKind)
+        (idFound (now (h .entry)) (entriesIn form (now (kept .entry))) (now (marks .entry)) (now (prefix .entry)) (entryOf new)) ⌝ }
     ensures marks { λ _. ⌜ now (marks .exit) ≡ mark (mark (now (marks .entry)) (new .kind) (idMeaning (now (h .entry)) (entryOf new))) (mapKind other) [] ⌝ }
 {
-    let mixed = has_key(h, kept, marks, prefix, kind::OTHER_TEXT);
-    let found = has_id(h, kept, marks, prefix, new);
+    let mixed = has_key(h, kept, form, marks, prefix, kind::OTHER_TEXT);
+    let found = has_id(h, kept, form, marks, prefix, new);
     marks::meet(marks, kind::OTHER_MAP, b"", false);
     if mixed {
         return Clash::Mixed;
@@ -189,20 +205,27 @@ fn find_map_clash(h: &[u8], kept: &[u64], marks: &mut [u8], prefix: &[u8], new: 
 
 // What is wrong with a new line beside the entries kept so far, which are marked; it is marked too. `new` is its entry,
 // `prefix` its `##key=`.
-pub fn find_clash(h: &[u8], kept: &[u64], marks: &mut [u8], prefix: &[u8], new: Entry) -> Clash
-    ensures clash { λ r. ⌜ r ≡ clashFound (now (h .entry)) (entriesIn (now (kept .entry))) (now (marks .entry)) (now (prefix .entry)) (entryOf new) ⌝ }
+pub fn find_clash(
+    h: &[u8],
+    kept: &[u64],
+    form: Form,
+    marks: &mut [u8],
+    prefix: &[u8],
+    new: Entry,
+) -> Clash
+    ensures clash { λ r. ⌜ r ≡ clashFound (now (h .entry)) (entriesIn form (now (kept .entry))) (now (marks .entry)) (now (prefix .entry)) (entryOf new) ⌝ }
     ensures marks { λ _. ⌜ now (marks .exit) ≡ markEntry (now (h .entry)) (entryOf new) (now (marks .entry)) ⌝ }
 {
     if new.kind < kind::OTHER_MAP {
-        if has_id(h, kept, marks, prefix, new) {
+        if has_id(h, kept, form, marks, prefix, new) {
             return Clash::TypedId;
         }
         return Clash::Free;
     }
     if new.kind == kind::OTHER_MAP {
-        return find_map_clash(h, kept, marks, prefix, new);
+        return find_map_clash(h, kept, form, marks, prefix, new);
     }
-    let mixed = has_key(h, kept, marks, prefix, kind::OTHER_MAP);
+    let mixed = has_key(h, kept, form, marks, prefix, kind::OTHER_MAP);
     marks::meet(marks, new.kind, b"", false);
     if mixed {
         return Clash::Mixed;

@@ -1,7 +1,7 @@
 -- What a register call answers is what the definitions say, and it is one answer. Assumes nothing.
 use Prim.Native.Nat.{ℕ, _-_, _≤_, _<_}
 use native.Mathlib.Omega.{arith}
-use mathlib.Core.Path.{_≡_, refl, sym, ap, ap₂, subst, _∙_}
+use mathlib.Core.Path.{_≡_, refl, sym, ap, ap₂, _∙_}
 use mathlib.Core.Bool.{Bool, true, false}
 use mathlib.Core.List.{List, [], _∷_, tail}
 use mathlib.Core.Option.{Option, none, some}
@@ -9,25 +9,22 @@ use lib.Dec.{eqb}
 use lib.ListN.{length, getD}
 use Rattle.values.specs.Bytes.{Bytes}
 use Rattle.values.proofs.Lists.{some-is, none-not}
-use Rattle.rules.specs.Sizes.{limits}
-use Rattle.rules.specs.Version.{Version, v4-3, earlier, inForce}
-use Rattle.rules.specs.Record.{Record}
-use Rattle.rules.specs.Columns.{Columns}
-use Rattle.rules.specs.Reading.{State, empty, ready, done, Reading}
-use Rattle.rules.proofs.House.{accepted-good}
+use Rattle.rules.specs.Version.{Version, v4-3, earlier}
+use Rattle.rules.specs.Reading.{Reading}
 use Rattle.rules.proofs.Trace.{header-traced}
-use Rattle.rules.proofs.Stands.{reading-stands, reading-fits, accepted-short}
 use Rattle.records.specs.Formats.{versionOf}
 use Rattle.records.specs.Refusals.{number}
 use Rattle.records.specs.declared.refusal.Refusal.{Refusal}
 use Rattle.records.specs.declared.refusal.Refusal.the-variants as refusal
 use Rattle.records.proofs.Refusals.{number-suc, number-injective}
 use Rattle.records.specs.declared.file_format.FileFormat.{FileFormat}
-use Rattle.entries.specs.Tables.{room, firstEntries, entriesIn, entryIn}
-use Rattle.entries.proofs.Stored.{entries-stored, first-packed}
+use Rattle.entries.specs.declared.form.Form.{Form}
+use Rattle.entries.specs.Values.{limitsBy}
+use Rattle.entries.specs.Tables.{room, firstEntries, entryIn}
+use Rattle.header.proofs.Callers.{Read, read-refused, read-accepted, read-records, read-kept, read-good}
 use Rattle.header.specs.declared.parser.Outcome.the-variants as outcome
 use Rattle.header.specs.declared.parser.ReadAnswer.{ReadAnswer}
-use Rattle.header.specs.Parsers.{AnswerMeaning, outcomeNumber as readNumber, outcomeSays, answerMeans, acceptedIn, readingMeans, readInto, ReadCall}
+use Rattle.header.specs.Parsers.{AnswerMeaning, answerMeans, readingMeans, readInto, ReadCall}
 use Rattle.register.specs.declared.probe.RegisterOutcome.{RegisterOutcome}
 use Rattle.register.specs.declared.probe.RegisterOutcome.the-variants.{Accepted as Whole, Unread, EarlyVersion, UnknownCell, MissingWell, InvalidConstant}
 use Rattle.register.specs.declared.probe.RegisterRead.{RegisterRead}
@@ -39,7 +36,7 @@ use Rattle.register.specs.Answers.{registerNumber, RegisterMeaning, regi
 use Rattle.register.proofs.Listed.{Seen, there, gone, see, faulty-here, faulty-later}
 use Rattle.register.proofs.Walk.{from-entry}
 use Rattle.register.proofs.Bridge.{header-cells}
-use Rattle.rules.specs.Claims.{Sized, SizedOption, Accepted}
+use Rattle.rules.specs.Claims.{Sized, Accepted}
 
 -- what answers the needs of `number`
 pub number-told : (o : RegisterOutcome) {x : Refusal} → o ≡ Unread x → {r : ℕ} → r ≡ number x → r ≡ registerNumber o
@@ -88,21 +85,21 @@ module _ (a : ReadAnswer) (g : Reading) (e : answerMeans a ≡ readingMeans g) w
   refusal-told x line start q = ap registerAnswerMeans q ∙ ap (λ (n : ℕ). record { number = registerNumber x; line = line; start = start; entries = n; constants = filled [] }) entries-are
 
 -- what answers the needs of `answer_known`
-module _ (a : ReadAnswer) (h : Bytes) (t : List ℕ) {ls : List ℕ} {q : Bool} (m : MissingTold ls q) where
-  pub known-missing : q ≡ true → {r : RegisterRead} → r ≡ registerRefusedAs MissingWell 0 0 (a .entries) → AnswersKnown a h t ls r
-  known-missing f i = record { is = λ l g e. refusal-told a g e MissingWell 0 0 i ∙ ap registerMeans (sym (counted-absent g (tableCells h t) (sym (m .is h t l) ∙ f))) }
+module _ (form : Form) (a : ReadAnswer) (h : Bytes) (t : List ℕ) {ls : List ℕ} {q : Bool} (m : MissingTold ls q) where
+  pub known-missing : q ≡ true → {r : RegisterRead} → r ≡ registerRefusedAs MissingWell 0 0 (a .entries) → AnswersKnown form a h t ls r
+  known-missing f i = record { is = λ l g e. refusal-told a g e MissingWell 0 0 i ∙ ap registerMeans (sym (counted-absent g (tableCells form h t) (sym (m .is form h t l) ∙ f))) }
 
-  module _ (f : q ≡ false) {p : Plate} (k : ConstantsTold h t ls p) where
+  module _ (f : q ≡ false) {p : Plate} (k : ConstantsTold form h t ls p) where
     abbrev cs : List Cell
-    cs = tableCells h t
+    cs = tableCells form h t
 
     settles : Lines cs ls → (g : Reading) → counted g cs ≡ settled g cs (faulty wells cs)
-    settles l g = counted-there g cs (sym (m .is h t l) ∙ f)
+    settles l g = counted-there g cs (sym (m .is form h t l) ∙ f)
 
     plate-is : Lines cs ls → p ≡ plateOf cs (faulty wells cs)
-    plate-is l = k .is l (sym (m .is h t l) ∙ f)
+    plate-is l = k .is l (sym (m .is form h t l) ∙ f)
 
-    pub known-fault : 0 < p .fault → {s : ℕ} → StartTold t (p .fault) s → {r : RegisterRead} → r ≡ registerRefusedAs InvalidConstant (p .fault) s (a .entries) → AnswersKnown a h t ls r
+    pub known-fault : 0 < p .fault → {s : ℕ} → StartTold form t (p .fault) s → {r : RegisterRead} → r ≡ registerRefusedAs InvalidConstant (p .fault) s (a .entries) → AnswersKnown form a h t ls r
     known-fault z {s} y {r} i = record {
       is = λ l g e. go g e (plate-is l) (settles l g) (see (faulty wells cs));
     }
@@ -112,11 +109,11 @@ module _ (a : ReadAnswer) (h : Bytes) (t : List ℕ) {ls : List ℕ} {q : Bool} 
         go g e u w (there c n) =
             let b : p .fault ≡ c .line = ap (λ (x : Plate). x .fault) (u ∙ ap (plateOf cs) n) in
             let d = fault-cell wells cs n in
-            let o = from-entry h t (d .0) (d .1) in
-            let s-is : s ≡ c .start = y .is z ∙ ap (λ (x : ℕ). entryIn t (x - 1) .start) b ∙ sym (o .start) in
+            let o = from-entry form h t (d .0) (d .1) in
+            let s-is : s ≡ c .start = y .is z ∙ ap (λ (x : ℕ). entryIn form t (x - 1) .start) b ∙ sym (o .start) in
             refusal-told a g e InvalidConstant (p .fault) s i ∙ ap₂ (λ (x y : ℕ). registerMeans (registerRefused 40 x y (g .entries))) b s-is ∙ ap registerMeans (sym (w ∙ ap (settled g cs) n))
 
-    pub known-whole : p .fault ≤ 0 → AnswersKnown a h t ls (record { outcome = Whole; line = a .line; start = a .start; entries = a .entries; constants = p .constants })
+    pub known-whole : p .fault ≤ 0 → AnswersKnown form a h t ls (record { outcome = Whole; line = a .line; start = a .start; entries = a .entries; constants = p .constants })
     known-whole z = record {
       is = λ l g e. go g e l (plate-is l) (settles l g) (see (faulty wells cs));
     }
@@ -126,7 +123,7 @@ module _ (a : ReadAnswer) (h : Bytes) (t : List ℕ) {ls : List ℕ} {q : Bool} 
         go g e l u w (there c n) =
             let b : p .fault ≡ c .line = ap (λ (x : Plate). x .fault) (u ∙ ap (plateOf cs) n) in
             let d = fault-cell wells cs n in
-            absurd (omega (arith, from-entry h t (d .0) (d .1) .above, b))
+            absurd (omega (arith, from-entry form h t (d .0) (d .1) .above, b))
         go g e l u w (gone n) =
             let b : p .constants ≡ filled (constants wells cs) = ap (λ (x : Plate). x .constants) (u ∙ ap (plateOf cs) n) in
             rw (line-is a g e, start-is a g e, entries-are a g e, b) (ap registerMeans (sym (w ∙ ap (settled g cs) n)))
@@ -142,111 +139,75 @@ accepted-recent : (g : Reading) (v : Version) (cs : List Cell) → earlier v v4-
 unfolding registerAccepted
 accepted-recent g v cs e = rw (e, registerAccepted)
 
-module _ (a : ReadAnswer) (f : FileFormat) (i : f .major < 4294967296) (j : f .minor < 4294967296) (h : Bytes) (t : List ℕ) {q : Bool} (u : q ≡ earlier (versionOf f) v4-3) where
+module _ (a : ReadAnswer) (f : FileFormat) (i : f .major < 4294967296) (j : f .minor < 4294967296) (form : Form) (h : Bytes) (t : List ℕ) {q : Bool} (u : q ≡ earlier (versionOf f) v4-3) where
   sized-is : Sized (versionOf f)
   sized-is = record { major = omega arith; minor = omega arith }
 
-  pub early-version : q ≡ true → {r : RegisterRead} → r ≡ registerRefusedAs EarlyVersion 0 0 (a .entries) → AnswersRegister a f (tableCells h t) r
+  pub early-version : q ≡ true → {r : RegisterRead} → r ≡ registerRefusedAs EarlyVersion 0 0 (a .entries) → AnswersRegister a f (tableCells form h t) r
   early-version y k = record {
-    is = λ g e. refusal-told a g e EarlyVersion 0 0 k ∙ ap registerMeans (sym (accepted-early g (versionOf f) (tableCells h t) (sym u ∙ y)));
+    is = λ g e. refusal-told a g e EarlyVersion 0 0 k ∙ ap registerMeans (sym (accepted-early g (versionOf f) (tableCells form h t) (sym u ∙ y)));
     sized = sized-is;
   }
 
-  module _ (y : q ≡ false) {ls : List ℕ} (l : Lines (tableCells h t) ls) where
+  module _ (y : q ≡ false) {ls : List ℕ} (l : Lines (tableCells form h t) ls) where
     abbrev those : List Cell
-    those = tableCells h t
+    those = tableCells form h t
 
     recent : (g : Reading) {o : Option Cell} → firstOf 0 those ≡ o → registerAccepted g (versionOf f) those ≡ wellsKnown g those o
     recent g n = accepted-recent g (versionOf f) those (sym u ∙ y) ∙ ap (wellsKnown g those) n
 
-    pub unknown-cell : 0 < getD ls 0 0 → {s : ℕ} → StartTold t (getD ls 0 0) s → {r : RegisterRead} → r ≡ registerRefusedAs UnknownCell (getD ls 0 0) s (a .entries) → AnswersRegister a f those r
+    pub unknown-cell : 0 < getD ls 0 0 → {s : ℕ} → StartTold form t (getD ls 0 0) s → {r : RegisterRead} → r ≡ registerRefusedAs UnknownCell (getD ls 0 0) s (a .entries) → AnswersRegister a f those r
     unknown-cell z {s} x {r} k = record { is = λ g e. go g e (see (firstOf 0 those)); sized = sized-is }
       where
         go : (g : Reading) → answerMeans a ≡ readingMeans g → Seen (firstOf 0 those) → registerAnswerMeans r ≡ registerMeans (registerAccepted g (versionOf f) those)
         go g e (gone n) = let b : getD ls 0 0 ≡ 0 = l .each 0 (omega arith) ∙ ap cellLine n in absurd (omega arith)
         go g e (there c n) =
             let b : getD ls 0 0 ≡ c .line = l .each 0 (omega arith) ∙ ap cellLine n in
-            let s-is : s ≡ c .start = x .is z ∙ ap (λ (m : ℕ). entryIn t (m - 1) .start) b ∙ sym (from-entry h t 0 n .start) in
+            let s-is : s ≡ c .start = x .is z ∙ ap (λ (m : ℕ). entryIn form t (m - 1) .start) b ∙ sym (from-entry form h t 0 n .start) in
             refusal-told a g e UnknownCell (getD ls 0 0) s k ∙ ap₂ (λ (x y : ℕ). registerMeans (registerRefused 38 x y (g .entries))) b s-is ∙ ap registerMeans (sym (recent g n))
 
-    pub known-cells : getD ls 0 0 ≤ 0 → {r : RegisterRead} → AnswersKnown a h t ls r → AnswersRegister a f those r
+    pub known-cells : getD ls 0 0 ≤ 0 → {r : RegisterRead} → AnswersKnown form a h t ls r → AnswersRegister a f those r
     known-cells z {r} k = record { is = λ g e. go g e (see (firstOf 0 those)); sized = sized-is }
       where
         go : (g : Reading) → answerMeans a ≡ readingMeans g → Seen (firstOf 0 those) → registerAnswerMeans r ≡ registerMeans (registerAccepted g (versionOf f) those)
         go g e (gone n) = k .is l g e ∙ ap registerMeans (sym (recent g n))
         go g e (there c n) =
             let b : getD ls 0 0 ≡ c .line = l .each 0 (omega arith) ∙ ap cellLine n in
-            absurd (omega (arith, from-entry h t 0 n .above, b))
+            absurd (omega (arith, from-entry form h t 0 n .above, b))
 
 pub ruleset accepteds = (early-version, unknown-cell, known-cells)
 
 -- what answers the needs of `register`
 
--- an accepted reading: the version in force is that of the answer
-record Read (r : Reading) (v : Version) : Type 0 where
-  records : List Record
-  columns : Columns
-  accepted-is : Accepted v records columns r
-
-was-accepted : (r : Reading) (v : Version) {n : ℕ} → r .number ≡ 0 → acceptedIn (r .number) (r .state) ≡ some (v, n) → Read r v
-was-accepted r v {n} z e = go (r .state) refl (rw z at e)
-  where
-    go : (s : State) → r .state ≡ s → acceptedIn 0 s ≡ some (v, n) → Read r v
-    go empty q a = none-not a
-    go (ready w rs) q a = none-not a
-    go (done w rs c) q a = record {
-      records = rs;
-      columns = c;
-      accepted-is = record { number = z; state = q ∙ ap (λ (u : Version). done u rs c) (ap (λ (x : Version × ℕ). x .0) (some-is a)) };
-    }
-
--- the version in force is of 32-bit parts, so the imposed one is
-sized-imposed : (imposed : Option Version) (own : Version) {v : Version} → v ≡ inForce imposed own → Sized v → SizedOption imposed
-sized-imposed none own e s = tt
-sized-imposed (some w) own e s = rw e at s
-
-module _ (imposed : Option Version) (h : Bytes) (t₀ : List ℕ) (a : ReadAnswer) {t : List ℕ} (call : ReadCall limits imposed h t₀ a t) where
+module _ (form : Form) (imposed : Option Version) (h : Bytes) (t₀ : List ℕ) (a : ReadAnswer) {t : List ℕ} (call : ReadCall form imposed h t₀ a t) where
   abbrev read : Reading
-  read = readInto limits imposed t₀ h
+  read = readInto form imposed t₀ h
 
   module _ {x : Refusal} (o : a .outcome ≡ outcome.Refused x) where
-    number-is : read .number ≡ number x
-    number-is = sym (ap (λ (y : AnswerMeaning). y .number) (call .answer)) ∙ ap readNumber o
-
-    refused-is : registerOf limits imposed (room t₀) h ≡ unread read
+    refused-is : registerOf (limitsBy form) imposed (room form t₀) h ≡ unread read
     unfolding registerOf
-    refused-is = let n = number-suc x in ap (byNumber read) (number-is ∙ n .1)
+    refused-is = let n = number-suc x in ap (byNumber read) (read-refused call o ∙ n .1)
 
-    pub refused-call : {r : RegisterRead} → r ≡ registerRefusedAs (Unread x) (a .line) (a .start) (a .entries) → RegisterCall limits imposed h t₀ r t
+    pub refused-call : {r : RegisterRead} → r ≡ registerRefusedAs (Unread x) (a .line) (a .start) (a .entries) → RegisterCall form imposed h t₀ r t
     refused-call q = record {
-      answer = ap registerAnswerMeans q ∙ rw (line-is a read (call .answer), start-is a read (call .answer), entries-are a read (call .answer), ← number-is) (ap registerMeans (sym refused-is));
+      answer = ap registerAnswerMeans q ∙ rw (line-is a read (call .answer), start-is a read (call .answer), entries-are a read (call .answer), ← read-refused call o) (ap registerMeans (sym refused-is));
       table = call .table;
     }
 
-  module _ {f : FileFormat} {n : ℕ} (o : a .outcome ≡ outcome.Accepted f n) {kept : List ℕ} (ek : kept ≡ firstEntries t (a .entries)) where
-    number-zero : read .number ≡ 0
-    number-zero = sym (ap (λ (y : AnswerMeaning). y .number) (call .answer)) ∙ ap readNumber o
+  module _ {f : FileFormat} {n : ℕ} (o : a .outcome ≡ outcome.Accepted f n) {kept : List ℕ} (ek : kept ≡ firstEntries form t (a .entries)) where
+    abbrev was-read : Read read (versionOf f) n
+    was-read = read-records call o
 
-    was-read : Read read (versionOf f)
-    was-read = was-accepted read (versionOf f) number-zero (sym (ap (λ (y : AnswerMeaning). y .accepted) (call .answer)) ∙ ap outcomeSays o)
-
-    the-entries : entriesIn kept ≡ read .entries
-    the-entries =
-        let n : length (read .entries) ≡ a .entries = sym (entries-are a read (call .answer)) in
-        ap entriesIn (ek ∙ ap (λ (x : List ℕ). firstEntries x (a .entries)) (call .table))
-        ∙ entries-stored limits first-packed (accepted-short limits imposed (room t₀) h number-zero) t₀ (read .entries) n (subst (λ (k : ℕ). k ≤ room t₀) n (reading-fits limits imposed (room t₀) h)) (reading-stands limits h imposed (room t₀))
-
-    the-cells : Sized (versionOf f) → tableCells h kept ≡ cells (versionOf f) 2 (tail (read .entries)) (was-read .records)
+    the-cells : Sized (versionOf f) → tableCells form h kept ≡ cells (versionOf f) 2 (tail (read .entries)) (was-read .records)
     the-cells s =
-        let d = header-traced limits imposed (room t₀) h (was-read .accepted-is) in
-        let g = accepted-good limits imposed (room t₀) h (sized-imposed imposed (d .own) (d .force) s) (was-read .accepted-is) in
-        ap (cellsIn h 1) the-entries ∙ header-cells limits imposed h (versionOf f) (was-read .records) (was-read .columns) (read .entries) d (g .0 .0 .good)
+        let d = header-traced (limitsBy form) imposed (room form t₀) h (was-read .accepted) in
+        ap (cellsIn h 1) (read-kept call o ek) ∙ header-cells (limitsBy form) imposed h (versionOf f) (was-read .records) (was-read .columns) (read .entries) d (read-good call o s)
 
-    pub accepted-call : {r : RegisterRead} → AnswersRegister a f (tableCells h kept) r → RegisterCall limits imposed h t₀ r t
+    pub accepted-call : {r : RegisterRead} → AnswersRegister a f (tableCells form h kept) r → RegisterCall form imposed h t₀ r t
     unfolding registerOf
     accepted-call w = record {
       answer = w .is read (call .answer) ∙ ap (λ (cs : List Cell). registerMeans (registerAccepted read (versionOf f) cs)) (the-cells (w .sized))
-          ∙ ap registerMeans (sym (ap (byNumber read) number-zero ∙ ap (inState read) (was-read .accepted-is .state)));
+          ∙ ap registerMeans (sym (ap (byNumber read) (read-accepted call o) ∙ ap (inState read) (was-read .accepted .state)));
       table = call .table;
     }
 

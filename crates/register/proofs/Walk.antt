@@ -19,6 +19,7 @@ use Rattle.rules.specs.Entry.{Entry}
 use Rattle.rules.specs.Shown.{lineIn, idIn}
 use Rattle.entries.specs.declared.entry.Entry.{Entry as CodeEntry}
 use Rattle.entries.specs.Values.{entryOf}
+use Rattle.entries.specs.declared.form.Form.{Form}
 use Rattle.entries.specs.Tables.{room, entriesIn, entryIn}
 use Rattle.entries.proofs.Stored.{entries-here, entries-past}
 use Rattle.ids.specs.Clashes.{hasKey}
@@ -47,18 +48,18 @@ module _ (h : Bytes) (e : CodeEntry) where
 pub ruleset is-cells = (cell-other, cell-line)
 
 -- what answers the needs of `start_of` and `constant_on`
-pub start-none : (t : List ℕ) {line : ℕ} → line ≡ 0 → StartTold t line 0
-start-none t e = record { is = λ l. absurd (omega arith) }
+pub start-none : (form : Form) (t : List ℕ) {line : ℕ} → line ≡ 0 → StartTold form t line 0
+start-none form t e = record { is = λ l. absurd (omega arith) }
 
-pub start-is : {t : List ℕ} {line : ℕ} {e : CodeEntry} → entryOf e ≡ entryIn t (line - 1) → StartTold t line (e .start)
+pub start-is : {form : Form} {t : List ℕ} {line : ℕ} {e : CodeEntry} → entryOf e ≡ entryIn form t (line - 1) → StartTold form t line (e .start)
 start-is q = record { is = λ l. ap (λ (x : Entry). x .start) q }
 
 pub ruleset start-tolds = (start-none, start-is)
 
-pub on-none : (h : Bytes) (t : List ℕ) {line : ℕ} → line ≡ 0 → ConstantTold h t line Invalid
-on-none h t e = record { is = λ l. absurd (omega arith) }
+pub on-none : (form : Form) (h : Bytes) (t : List ℕ) {line : ℕ} → line ≡ 0 → ConstantTold form h t line Invalid
+on-none form h t e = record { is = λ l. absurd (omega arith) }
 
-pub on-is : (h : Bytes) {t : List ℕ} {line : ℕ} {e : CodeEntry} → entryOf e ≡ entryIn t (line - 1) → {r : Constant} → r ≡ constantRead (constantAt h (entryOf e)) → ConstantTold h t line r
+pub on-is : (h : Bytes) {form : Form} {t : List ℕ} {line : ℕ} {e : CodeEntry} → entryOf e ≡ entryIn form t (line - 1) → {r : Constant} → r ≡ constantRead (constantAt h (entryOf e)) → ConstantTold form h t line r
 on-is h q r = record { is = λ l. r ∙ ap (λ (x : Entry). constantRead (constantAt h x)) q }
 
 pub ruleset constants-on = (on-none, on-is)
@@ -105,22 +106,22 @@ more-lines {cs} {ls} c s g = record {
 }
 
 -- the lines of the entries from number k on are found
-pub record Walked (h : Bytes) (t ls : List ℕ) (k : ℕ) : Type 0 where
-  pub within : k ≤ room t
-  pub lines : Lines (cellsIn h (k + 1) (drop k (entriesIn t))) ls
+pub record Walked (form : Form) (h : Bytes) (t ls : List ℕ) (k : ℕ) : Type 0 where
+  pub within : k ≤ room form t
+  pub lines : Lines (cellsIn h (k + 1) (drop k (entriesIn form t))) ls
 
-pub walk-start : (h : Bytes) {t : List ℕ} {n : ℕ} → n ≡ room t → Walked h t (replicate 41 0) n
+pub walk-start : (h : Bytes) {form : Form} {t : List ℕ} {n : ℕ} → n ≡ room form t → Walked form h t (replicate 41 0) n
 unfolding cellsIn
-walk-start h {t} {n} e = record { within = omega arith; lines = rw (entries-past t n (omega arith)) no-lines }
+walk-start h {form} {t} {n} e = record { within = omega arith; lines = rw (entries-past form t n (omega arith)) no-lines }
 
-module _ {h : Bytes} {t ls : List ℕ} {k : ℕ} (g : Walked h t ls k) (l : 0 < k) {e : CodeEntry} (ee : entryOf e ≡ entryIn t (k - 1)) {q : Bool} (u : q ≡ isCell h (entryOf e)) where
-  step : cellsIn h (k - 1 + 1) (drop (k - 1) (entriesIn t)) ≡ cellsBy q (cellIn h k (entryOf e)) (cellsIn h (k + 1) (drop k (entriesIn t)))
+module _ {form : Form} {h : Bytes} {t ls : List ℕ} {k : ℕ} (g : Walked form h t ls k) (l : 0 < k) {e : CodeEntry} (ee : entryOf e ≡ entryIn form t (k - 1)) {q : Bool} (u : q ≡ isCell h (entryOf e)) where
+  step : cellsIn h (k - 1 + 1) (drop (k - 1) (entriesIn form t)) ≡ cellsBy q (cellIn h k (entryOf e)) (cellsIn h (k + 1) (drop k (entriesIn form t)))
   unfolding cellsIn
   step =
       let i : k - 1 + 1 ≡ k = omega arith in
-      rw (entries-here t (k - 1) (omega (arith, g .within)), ← ee, ← u, i)
+      rw (entries-here form t (k - 1) (omega (arith, g .within)), ← ee, ← u, i)
 
-  pub walk-more : q ≡ true → {p : Bytes} → p ≡ idIn h (entryOf e) → {w : ℕ} → WellTold p w → Walked h t (set ls w k) (k - 1)
+  pub walk-more : q ≡ true → {p : Bytes} → p ≡ idIn h (entryOf e) → {w : ℕ} → WellTold p w → Walked form h t (set ls w k) (k - 1)
   walk-more f {p} i {w} a =
       let j : w ≡ wellOf (idIn h (entryOf e)) = a .is ∙ ap wellOf i in
       record {
@@ -128,10 +129,10 @@ module _ {h : Bytes} {t ls : List ℕ} {k : ℕ} (g : Walked h t ls k) (l : 0 < 
         lines = rw (step, f, j) (more-lines (cellIn h k (entryOf e)) (rw j at (a .small)) (g .lines));
       }
 
-  pub walk-other : q ≡ false → Walked h t ls (k - 1)
+  pub walk-other : q ≡ false → Walked form h t ls (k - 1)
   walk-other f = record { within = omega (arith, g .within); lines = rw (step, f) (g .lines) }
 
-pub walk-end : {h : Bytes} {t ls : List ℕ} {k : ℕ} → Walked h t ls k → k ≤ 0 → Lines (tableCells h t) ls
+pub walk-end : {form : Form} {h : Bytes} {t ls : List ℕ} {k : ℕ} → Walked form h t ls k → k ≤ 0 → Lines (tableCells form h t) ls
 walk-end {h} {t} {ls} {k} g l = let z : k ≡ 0 = omega arith in rw z at (g .lines)
 
 pub ruleset walks = (walk-start, walk-more, walk-other, walk-end)
@@ -139,42 +140,42 @@ pub ruleset walks = (walk-start, walk-more, walk-other, walk-end)
 -- Where a cell comes from
 
 -- the entry of a cell: its number is one less than the line's
-pub record From (h : Bytes) (t : List ℕ) (c : Cell) : Type 0 where
+pub record From (form : Form) (h : Bytes) (t : List ℕ) (c : Cell) : Type 0 where
   pub above : 1 ≤ c .line
-  pub start : c .start ≡ entryIn t (c .line - 1) .start
-  pub constant : c .constant ≡ constantAt h (entryIn t (c .line - 1))
+  pub start : c .start ≡ entryIn form t (c .line - 1) .start
+  pub constant : c .constant ≡ constantAt h (entryIn form t (c .line - 1))
 
-from-table : (h : Bytes) (t : List ℕ) (n k w : ℕ) → room t ≤ n + k → {c : Cell} → firstOf w (cellsIn h (k + 1) (drop k (entriesIn t))) ≡ some c → From h t c
+from-table : (form : Form) (h : Bytes) (t : List ℕ) (n k w : ℕ) → room form t ≤ n + k → {c : Cell} → firstOf w (cellsIn h (k + 1) (drop k (entriesIn form t))) ≡ some c → From form h t c
 unfolding cellsIn firstOf
-from-table h t zero k w l e = none-not (rw (entries-past t k (omega arith)) at e)
-from-table h t (suc n) k w l {c} e = elim (decLe (room t) k) [
-  | yes p ↦ none-not (rw (entries-past t k p) at e)
+from-table form h t zero k w l e = none-not (rw (entries-past form t k (omega arith)) at e)
+from-table form h t (suc n) k w l {c} e = elim (decLe (room form t) k) [
+  | yes p ↦ none-not (rw (entries-past form t k p) at e)
   | no p ↦
-      let i : k < room t = omega arith in
-      let x = entryIn t k in
-      let rest = cellsIn h (k + 1 + 1) (drop (k + 1) (entriesIn t)) in
-      let d : firstOf w (cellsBy (isCell h x) (cellIn h (k + 1) x) rest) ≡ some c = rw (entries-here t k i) at e in
+      let i : k < room form t = omega arith in
+      let x = entryIn form t k in
+      let rest = cellsIn h (k + 1 + 1) (drop (k + 1) (entriesIn form t)) in
+      let d : firstOf w (cellsBy (isCell h x) (cellIn h (k + 1) x) rest) ≡ some c = rw (entries-here form t k i) at e in
       elim (test (isCell h x)) [
-        | fail f ↦ from-table h t n (k + 1) w (omega arith) (rw f at d)
+        | fail f ↦ from-table form h t n (k + 1) w (omega arith) (rw f at d)
         | pass f ↦ let s : firstOf w (cellIn h (k + 1) x ∷ rest) ≡ some c = rw f at d in
             elim (test (eqb (wellOf (idIn h x)) w)) [
-              | fail o ↦ from-table h t n (k + 1) w (omega arith) (sym (first-later w (cellIn h (k + 1) x) rest o) ∙ s)
+              | fail o ↦ from-table form h t n (k + 1) w (omega arith) (sym (first-later w (cellIn h (k + 1) x) rest o) ∙ s)
               | pass o ↦ here k (some-is (sym (first-here w (cellIn h (k + 1) x) rest o) ∙ s))
             ]
       ]
 ]
   where
-    here : (k : ℕ) → cellIn h (k + 1) (entryIn t k) ≡ c → From h t c
+    here : (k : ℕ) → cellIn h (k + 1) (entryIn form t k) ≡ c → From form h t c
     here k y = rw (← y) (let i : k + 1 - 1 ≡ k = omega arith in record { above = omega arith; start = rw i; constant = rw i })
 
-pub from-entry : (h : Bytes) (t : List ℕ) (w : ℕ) {c : Cell} → firstOf w (tableCells h t) ≡ some c → From h t c
-from-entry h t w e = from-table h t (room t) 0 w (omega arith) e
+pub from-entry : (form : Form) (h : Bytes) (t : List ℕ) (w : ℕ) {c : Cell} → firstOf w (tableCells form h t) ≡ some c → From form h t c
+from-entry form h t w e = from-table form h t (room form t) 0 w (omega arith) e
 
 -- a well's line is 0 only where it has none
-line-none : (h : Bytes) (t : List ℕ) (w : ℕ) → cellLine (firstOf w (tableCells h t)) ≡ 0 → firstOf w (tableCells h t) ≡ none
-line-none h t w z = elim (see (firstOf w (tableCells h t))) [
+line-none : (form : Form) (h : Bytes) (t : List ℕ) (w : ℕ) → cellLine (firstOf w (tableCells form h t)) ≡ 0 → firstOf w (tableCells form h t) ≡ none
+line-none form h t w z = elim (see (firstOf w (tableCells form h t))) [
   | gone e ↦ e
-  | there c e ↦ let k : c .line ≡ 0 = sym (ap cellLine e) ∙ z in absurd (omega (arith, from-entry h t w e .above))
+  | there c e ↦ let k : c .line ≡ 0 = sym (ap cellLine e) ∙ z in absurd (omega (arith, from-entry form h t w e .above))
 ]
 
 -- The loop that looks for a missing well: those before w have their lines
@@ -182,10 +183,10 @@ line-none h t w z = elim (see (firstOf w (tableCells h t))) [
 pub record Missing (ls : List ℕ) (w : ℕ) : Type 0 where
   pub low : 1 ≤ w
   pub high : w ≤ 41
-  pub still : (h : Bytes) (t : List ℕ) → Lines (tableCells h t) ls → absent (wellsFrom w (41 - w)) (tableCells h t) ≡ absent wells (tableCells h t)
+  pub still : (form : Form) (h : Bytes) (t : List ℕ) → Lines (tableCells form h t) ls → absent (wellsFrom w (41 - w)) (tableCells form h t) ≡ absent wells (tableCells form h t)
 
 pub missing-start : (ls : List ℕ) → Missing ls 1
-missing-start ls = record { low = omega arith; high = omega arith; still = λ h t g. refl }
+missing-start ls = record { low = omega arith; high = omega arith; still = λ form h t g. refl }
 
 -- the wells from w on, one by one
 wells-step : (w n : ℕ) → wellsFrom w (suc n) ≡ w ∷ wellsFrom (w + 1) n
@@ -207,23 +208,23 @@ module _ {ls : List ℕ} {w : ℕ} (g : Missing ls w) where
 
     pub missing-here : getD ls w 0 ≡ 0 → MissingTold ls true
     missing-here z = record {
-      is = λ h t a. let cs = tableCells h t in
-          sym (absent-first w (wellsFrom (w + 1) (41 - (w + 1))) cs (line-none h t w (sym (a .each w l) ∙ z))) ∙ ap (λ (ws : List ℕ). absent ws cs) (sym step-wells) ∙ g .still h t a;
+      is = λ form h t a. let cs = tableCells form h t in
+          sym (absent-first w (wellsFrom (w + 1) (41 - (w + 1))) cs (line-none form h t w (sym (a .each w l) ∙ z))) ∙ ap (λ (ws : List ℕ). absent ws cs) (sym step-wells) ∙ g .still form h t a;
     }
 
     pub missing-next : (getD ls w 0 ≡ 0 → ⊥) → Missing ls (w + 1)
     missing-next n = record {
       low = omega arith;
       high = omega arith;
-      still = λ h t a. let cs = tableCells h t in elim (see (firstOf w cs)) [
+      still = λ form h t a. let cs = tableCells form h t in elim (see (firstOf w cs)) [
         | gone e ↦ absurd (n (a .each w l ∙ ap cellLine e))
-        | there c e ↦ sym (ap (λ (ws : List ℕ). absent ws cs) step-wells ∙ absent-rest w (wellsFrom (w + 1) (41 - (w + 1))) cs e) ∙ g .still h t a
+        | there c e ↦ sym (ap (λ (ws : List ℕ). absent ws cs) step-wells ∙ absent-rest w (wellsFrom (w + 1) (41 - (w + 1))) cs e) ∙ g .still form h t a
       ];
     }
 
   pub missing-none : 40 < w → MissingTold ls false
   unfolding wellsFrom absent
-  missing-none l = record { is = λ h t a. let i : 41 - w ≡ 0 = omega (arith, g .high) in let z : absent (wellsFrom w (41 - w)) (tableCells h t) ≡ false = rw i in sym z ∙ g .still h t a }
+  missing-none l = record { is = λ form h t a. let i : 41 - w ≡ 0 = omega (arith, g .high) in let z : absent (wellsFrom w (41 - w)) (tableCells form h t) ≡ false = rw i in sym z ∙ g .still form h t a }
 
 pub ruleset missings = (missing-start, missing-here, missing-next, missing-none)
 
@@ -234,13 +235,13 @@ pub record Fills (cs : List Cell) (found : List ℕ) (w : ℕ) : Type 0 where
   pub fault : faulty (wellsFrom (w + 1) (40 - w)) cs ≡ faulty wells cs
   pub list : sets found w (constants (wellsFrom (w + 1) (40 - w)) cs) ≡ filled (constants wells cs)
 
-pub record Filling (h : Bytes) (t ls found : List ℕ) (w : ℕ) : Type 0 where
+pub record Filling (form : Form) (h : Bytes) (t ls found : List ℕ) (w : ℕ) : Type 0 where
   pub within : w ≤ 40
   pub size : length found ≡ 40
-  pub still : Lines (tableCells h t) ls → absent wells (tableCells h t) ≡ false → Fills (tableCells h t) found w
+  pub still : Lines (tableCells form h t) ls → absent wells (tableCells form h t) ≡ false → Fills (tableCells form h t) found w
 
-pub fill-start : (h : Bytes) (t ls : List ℕ) → Filling h t ls (replicate 40 0) 0
-fill-start h t ls = record { within = omega arith; size = length-replicate {0} {A = ℕ} 40 0; still = λ a b. record { there-are = b; fault = refl; list = refl } }
+pub fill-start : (form : Form) (h : Bytes) (t ls : List ℕ) → Filling form h t ls (replicate 40 0) 0
+fill-start form h t ls = record { within = omega arith; size = length-replicate {0} {A = ℕ} 40 0; still = λ a b. record { there-are = b; fault = refl; list = refl } }
 
 constants-step : (w : ℕ) (ws : List ℕ) (cs : List Cell) → constants (w ∷ ws) cs ≡ constantIn (firstOf w cs) ∷ constants ws cs
 unfolding constants
@@ -265,14 +266,14 @@ read-some o {n} e = go o e
     go none e = never cc
     go (some m) e = let q : n ≡ m = cc in ap some (sym q)
 
-module _ {h : Bytes} {t ls found : List ℕ} {w : ℕ} (g : Filling h t ls found w) where
+module _ {form : Form} {h : Bytes} {t ls found : List ℕ} {w : ℕ} (g : Filling form h t ls found w) where
   abbrev cs : List Cell
-  cs = tableCells h t
+  cs = tableCells form h t
 
   abbrev ws : List ℕ
   ws = wellsFrom (w + 1 + 1) (40 - (w + 1))
 
-  module _ (l : w < 40) {line : ℕ} (el : line ≡ getD ls (w + 1) 0) {r : Constant} (told : ConstantTold h t line r) where
+  module _ (l : w < 40) {line : ℕ} (el : line ≡ getD ls (w + 1) 0) {r : Constant} (told : ConstantTold form h t line r) where
     fill-wells : wellsFrom (w + 1) (40 - w) ≡ (w + 1) ∷ ws
     fill-wells = let i : 40 - w ≡ suc (40 - (w + 1)) = omega arith in rw i (wells-step (w + 1) (40 - (w + 1)))
 
@@ -287,17 +288,17 @@ module _ {h : Bytes} {t ls found : List ℕ} {w : ℕ} (g : Filling h t ls found
     here a b = elim (see (firstOf (w + 1) cs)) [
       | gone e ↦ absurd (true≢false (sym (absent-first (w + 1) ws cs e) ∙ ap (λ (x : List ℕ). absent x cs) (sym fill-wells) ∙ b))
       | there c e ↦
-          let f = from-entry h t (w + 1) e in
+          let f = from-entry form h t (w + 1) e in
           let i : line ≡ c .line = el ∙ a .each (w + 1) (omega arith) ∙ ap cellLine e in
           record {
             cell = c;
             first = e;
             on-line = i;
-            read = told .is (omega (arith, f .above, i)) ∙ ap (λ (k : ℕ). constantRead (constantAt h (entryIn t (k - 1)))) i ∙ ap constantRead (sym (f .constant));
+            read = told .is (omega (arith, f .above, i)) ∙ ap (λ (k : ℕ). constantRead (constantAt h (entryIn form t (k - 1)))) i ∙ ap constantRead (sym (f .constant));
           }
     ]
 
-    pub fill-fault : r ≡ Invalid → ConstantsTold h t ls (record { fault = line; constants = replicate 40 0 })
+    pub fill-fault : r ≡ Invalid → ConstantsTold form h t ls (record { fault = line; constants = replicate 40 0 })
     fill-fault e = record {
       is = λ a b.
           let s = g .still a b in
@@ -307,7 +308,7 @@ module _ {h : Bytes} {t ls found : List ℕ} {w : ℕ} (g : Filling h t ls found
           ap (λ (k : ℕ). record { fault = k; constants = filled [] }) (x .on-line) ∙ ap (plateOf cs) (sym f);
     }
 
-    pub fill-more : {n : ℕ} → r ≡ Hundredths n → Filling h t ls (set found w n) (w + 1)
+    pub fill-more : {n : ℕ} → r ≡ Hundredths n → Filling form h t ls (set found w n) (w + 1)
     fill-more {n} e = record {
       within = omega arith;
       size = length-set found w n ∙ g .size;
@@ -332,7 +333,7 @@ module _ {h : Bytes} {t ls found : List ℕ} {w : ℕ} (g : Filling h t ls found
             ap (λ (k : ℕ). sets (set found w n) k (constants ws cs)) i
             ∙ sym (ap (sets found w) (ap (λ (z : List ℕ). constants z cs) fill-wells ∙ constants-step (w + 1) ws cs ∙ ap (_∷ constants ws cs) y))
 
-  pub fill-end : 40 ≤ w → ConstantsTold h t ls (record { fault = 0; constants = found })
+  pub fill-end : 40 ≤ w → ConstantsTold form h t ls (record { fault = 0; constants = found })
   fill-end l = record {
     is = λ a b.
         let s = g .still a b in

@@ -5,12 +5,13 @@ use mathlib.Core.List.{List, []}
 use mathlib.Core.Option.{Option}
 use lib.ListN.{length}
 use Rattle.values.specs.Bytes.{Bytes}
-use Rattle.rules.specs.Sizes.{Limits}
 use Rattle.rules.specs.Version.{Version}
 use Rattle.rules.specs.Reading.{Reading}
 use Rattle.records.specs.Formats.{versionOf}
 use Rattle.records.specs.Refusals.{number}
 use Rattle.records.specs.declared.file_format.FileFormat.{FileFormat}
+use Rattle.entries.specs.declared.form.Form.{Form}
+use Rattle.entries.specs.Values.{limitsBy}
 use Rattle.entries.specs.Tables.{room, stored}
 use Rattle.header.specs.declared.parser.ReadAnswer.{ReadAnswer}
 use Rattle.header.specs.Parsers.{answerMeans, readingMeans, readInto}
@@ -50,8 +51,8 @@ abbrev pub registerRefusedAs : RegisterOutcome → ℕ → ℕ → ℕ → Regis
 registerRefusedAs x line start entries = record { outcome = x; line = line; start = start; entries = entries; constants = filled [] }
 
 -- after an accepted reading, where each cell is a well's and has its line among these
-pub record AnswersKnown (a : ReadAnswer) (h : Bytes) (t ls : List ℕ) (r : RegisterRead) : Type 0 where
-  pub is : Lines (tableCells h t) ls → (g : Reading) → answerMeans a ≡ readingMeans g → registerAnswerMeans r ≡ registerMeans (counted g (tableCells h t))
+pub record AnswersKnown (form : Form) (a : ReadAnswer) (h : Bytes) (t ls : List ℕ) (r : RegisterRead) : Type 0 where
+  pub is : Lines (tableCells form h t) ls → (g : Reading) → answerMeans a ≡ readingMeans g → registerAnswerMeans r ≡ registerMeans (counted g (tableCells form h t))
 
 -- after an accepted reading with these cells
 pub record AnswersRegister (a : ReadAnswer) (f : FileFormat) (cs : List Cell) (r : RegisterRead) : Type 0 where
@@ -59,6 +60,6 @@ pub record AnswersRegister (a : ReadAnswer) (f : FileFormat) (cs : List Cell) (r
   pub sized : Sized (versionOf f)
 
 -- what `register` promises of a call: the version imposed, the header and the table; the answer, and the table after it
-pub record RegisterCall (lim : Limits) (imposed : Option Version) (h : Bytes) (t : List ℕ) (r : RegisterRead) (t′ : List ℕ) : Type 0 where
-  pub answer : registerAnswerMeans r ≡ registerMeans (registerOf lim imposed (room t) h)
-  pub table : t′ ≡ stored t 0 (readInto lim imposed t h .entries)
+pub record RegisterCall (form : Form) (imposed : Option Version) (h : Bytes) (t : List ℕ) (r : RegisterRead) (t′ : List ℕ) : Type 0 where
+  pub answer : registerAnswerMeans r ≡ registerMeans (registerOf (limitsBy form) imposed (room form t) h)
+  pub table : t′ ≡ stored form t 0 (readInto form imposed t h .entries)

@@ -10,6 +10,7 @@ use Rattle.values.specs.Bytes.{Bytes, ascii}
 use Rattle.rules.specs.Known.{other}
 use Rattle.rules.specs.Entry.{Entry, mapKind, fieldsStart}
 use Rattle.rules.specs.Shown.{lineIn, idIn}
+use Rattle.entries.specs.declared.form.Form.{Form}
 use Rattle.entries.specs.Tables.{entriesIn, entryIn}
 use Rattle.ids.specs.Clashes.{prefixOf, hasKey}
 use Rattle.register.specs.declared.well.Constant.{Constant}
@@ -53,8 +54,8 @@ cellsIn h line [] = []
 cellsIn h line (e ∷ es) = cellsBy (isCell h e) (cellIn h line e) (cellsIn h (line + 1) es)
 
 -- the cells of a table's entries
-abbrev pub tableCells : Bytes → List ℕ → List Cell
-tableCells h t = cellsIn h 1 (entriesIn t)
+abbrev pub tableCells : Form → Bytes → List ℕ → List Cell
+tableCells form h t = cellsIn h 1 (entriesIn form t)
 
 abbrev pub cellLine : Option Cell → ℕ
 cellLine none = 0
@@ -65,14 +66,14 @@ pub record Lines (cs : List Cell) (ls : List ℕ) : Type 0 where
   pub long : length ls ≡ 41
   pub each : (w : ℕ) → w ≤ 40 → getD ls w 0 ≡ cellLine (firstOf w cs)
 
-pub record StartTold (t : List ℕ) (line r : ℕ) : Type 0 where
-  pub is : 1 ≤ line → r ≡ entryIn t (line - 1) .start
+pub record StartTold (form : Form) (t : List ℕ) (line r : ℕ) : Type 0 where
+  pub is : 1 ≤ line → r ≡ entryIn form t (line - 1) .start
 
-pub record ConstantTold (h : Bytes) (t : List ℕ) (line : ℕ) (r : Constant) : Type 0 where
-  pub is : 1 ≤ line → r ≡ constantRead (constantAt h (entryIn t (line - 1)))
+pub record ConstantTold (form : Form) (h : Bytes) (t : List ℕ) (line : ℕ) (r : Constant) : Type 0 where
+  pub is : 1 ≤ line → r ≡ constantRead (constantAt h (entryIn form t (line - 1)))
 
 pub record MissingTold (ls : List ℕ) (r : Bool) : Type 0 where
-  pub is : (h : Bytes) (t : List ℕ) → Lines (tableCells h t) ls → r ≡ absent wells (tableCells h t)
+  pub is : (form : Form) (h : Bytes) (t : List ℕ) → Lines (tableCells form h t) ls → r ≡ absent wells (tableCells form h t)
 
 -- forty places, these numbers first and 0 past them
 abbrev pub filled : List ℕ → List ℕ
@@ -83,5 +84,5 @@ abbrev pub plateOf : List Cell → Option Cell → Plate
 plateOf cs none = record { fault = 0; constants = filled (constants wells cs) }
 plateOf cs (some c) = record { fault = c .line; constants = filled [] }
 
-pub record ConstantsTold (h : Bytes) (t ls : List ℕ) (r : Plate) : Type 0 where
-  pub is : Lines (tableCells h t) ls → absent wells (tableCells h t) ≡ false → r ≡ plateOf (tableCells h t) (faulty wells (tableCells h t))
+pub record ConstantsTold (form : Form) (h : Bytes) (t ls : List ℕ) (r : Plate) : Type 0 where
+  pub is : Lines (tableCells form h t) ls → absent wells (tableCells form h t) ≡ false → r ≡ plateOf (tableCells form h t) (faulty wells (tableCells form h t))

@@ -2,6 +2,7 @@
 use crate::well;
 use crate::well::Constant;
 use entries::entry::Entry;
+use entries::form::Form;
 use entries::kind;
 use entries::part;
 use entries::table;
@@ -32,15 +33,15 @@ fn is_cell(h: &[u8], e: Entry) -> bool
 
 // For each well the line of its first cell, in place 0 that of the first cell whose ID is no well's; 0 where there is none. From
 // the last entry to the first, so that the first of a well stays.
-pub fn cell_lines(h: &[u8], kept: &[u64]) -> [usize; 41]
-    ensures { λ r. ⌜ Lines (tableCells (now (h .entry)) (now (kept .entry))) r ⌝ }
+pub fn cell_lines(h: &[u8], kept: &[u64], form: Form) -> [usize; 41]
+    ensures { λ r. ⌜ Lines (tableCells form (now (h .entry)) (now (kept .entry))) r ⌝ }
 {
     let mut lines = [0usize; 41];
-    let mut k = table::count(kept);
+    let mut k = table::count(kept, form);
     while 0 < k {
         let line = k;
         k -= 1;
-        let e = table::get(kept, k);
+        let e = table::get(kept, form, k);
         if is_cell(h, e) {
             let well = well::well_of(part::id_part(h, e));
             lines[well] = line;
@@ -50,13 +51,13 @@ pub fn cell_lines(h: &[u8], kept: &[u64]) -> [usize; 41]
 }
 
 // The start of a line, whose entry's number is one less than its own.
-pub fn start_of(kept: &[u64], line: usize) -> usize
-    ensures { λ r. ⌜ StartTold (now (kept .entry)) line r ⌝ }
+pub fn start_of(kept: &[u64], form: Form, line: usize) -> usize
+    ensures { λ r. ⌜ StartTold form (now (kept .entry)) line r ⌝ }
 {
     if line == 0 {
         return 0;
     }
-    let e = table::get(kept, line - 1);
+    let e = table::get(kept, form, line - 1);
     e.start
 }
 
@@ -71,13 +72,13 @@ fn constant_of(h: &[u8], e: Entry) -> Constant
     well::hundredths(bytes::part(line, text.start, text.end))
 }
 
-fn constant_on(h: &[u8], kept: &[u64], line: usize) -> Constant
-    ensures { λ r. ⌜ ConstantTold (now (h .entry)) (now (kept .entry)) line r ⌝ }
+fn constant_on(h: &[u8], kept: &[u64], form: Form, line: usize) -> Constant
+    ensures { λ r. ⌜ ConstantTold form (now (h .entry)) (now (kept .entry)) line r ⌝ }
 {
     if line == 0 {
         return Constant::Invalid;
     }
-    let e = table::get(kept, line - 1);
+    let e = table::get(kept, form, line - 1);
     constant_of(h, e)
 }
 
@@ -95,14 +96,14 @@ pub fn is_missing(lines: &[usize; 41]) -> bool
     false
 }
 
-pub fn constants(h: &[u8], kept: &[u64], lines: &[usize; 41]) -> Plate
-    ensures { λ r. ⌜ ConstantsTold (now (h .entry)) (now (kept .entry)) (now (lines .entry)) r ⌝ }
+pub fn constants(h: &[u8], kept: &[u64], form: Form, lines: &[usize; 41]) -> Plate
+    ensures { λ r. ⌜ ConstantsTold form (now (h .entry)) (now (kept .entry)) (now (lines .entry)) r ⌝ }
 {
     let mut found = [0u64; 40];
     let mut well = 0;
     while well < 40 {
         let line = lines[well + 1];
-        let Constant::Hundredths(n) = constant_on(h, kept, line) else {
+        let Constant::Hundredths(n) = constant_on(h, kept, form, line) else {
             return Plate {
                 fault: line,
                 constants: [0; 40],

@@ -1,5 +1,6 @@
 // The cell register of a header: forty constants, or why there is none.
 use crate::cells;
+use entries::form::Form;
 use entries::table;
 use header::file_format_option::FileFormatOption;
 use header::parser;
@@ -8,7 +9,6 @@ use header::parser::ReadAnswer;
 use records::file_format::FileFormat;
 use records::refusal::Refusal;
 ghost use mathlib.Core.Path.{_≡_};
-ghost use Rattle.rules.specs.Sizes.{limits};
 ghost use Rattle.header.specs.Verdicts.{imposedOf};
 ghost use Rattle.register.specs.Wells.{tableCells};
 ghost use Rattle.register.specs.Answers.{registerNumber, registerRefusedAs, AnswersKnown, AnswersRegister, RegisterCall};
@@ -61,17 +61,23 @@ fn refuse(outcome: RegisterOutcome, line: usize, start: usize, entries: usize) -
 }
 
 // The register of cells whose IDs are all wells'; `lines` are those of the wells.
-fn answer_known(h: &[u8], kept: &[u64], read: ReadAnswer, lines: &[usize; 41]) -> RegisterRead
-    ensures { λ r. ⌜ AnswersKnown read (now (h .entry)) (now (kept .entry)) (now (lines .entry)) r ⌝ }
+fn answer_known(
+    h: &[u8],
+    kept: &[u64],
+    form: Form,
+    read: ReadAnswer,
+    lines: &[usize; 41],
+) -> RegisterRead
+    ensures { λ r. ⌜ AnswersKnown form read (now (h .entry)) (now (kept .entry)) (now (lines .entry)) r ⌝ }
 {
     let entries = read.entries;
     if cells::is_missing(lines) {
         return refuse(RegisterOutcome::MissingWell, 0, 0, entries);
     }
-    let plate = cells::constants(h, kept, lines);
+    let plate = cells::constants(h, kept, form, lines);
     let fault = plate.fault;
     if 0 < fault {
-        let start = cells::start_of(kept, fault);
+        let start = cells::start_of(kept, form, fault);
         return refuse(RegisterOutcome::InvalidConstant, fault, start, entries);
     }
     let constants = plate.constants;
@@ -85,33 +91,50 @@ fn answer_known(h: &[u8], kept: &[u64], read: ReadAnswer, lines: &[usize; 41]) -
 }
 
 // The register of a header that was read and accepted; `kept` are its entries.
-fn answer_accepted(h: &[u8], kept: &[u64], read: ReadAnswer, version: FileFormat) -> RegisterRead
-    ensures { λ r. ⌜ AnswersRegister read version (tableCells (now (h .entry)) (now (kept .entry))) r ⌝ }
+fn answer_accepted(
+    h: &[u8],
+    kept: &[u64],
+    form: Form,
+    read: ReadAnswer,
+    version: FileFormat,
+) -> RegisterRead
+    ensures { λ r. ⌜ AnswersRegister read version (tableCells form (now (h .entry)) (now (kept .entry))) r ⌝ }
 {
     let entries = read.entries;
     if version.lt(FileFormat::V4_3) {
         return refuse(RegisterOutcome::EarlyVersion, 0, 0, entries);
     }
-    let lines = cells::cell_lines(h, kept);
+    let lines = cells::cell_lines(h, kept, form);
     let unknown = lines[0];
     if 0 < unknown {
-        let start = cells::start_of(kept, unknown);
+        let start = cells::start_of(kept, form, unknown);
         return refuse(RegisterOutcome::UnknownCell, unknown, start, entries);
     }
-    answer_known(h, kept, read, &lines)
+    answer_known(h, kept, form, read, &lines)
 }
 
 // Reads a header into the table, as `read` does, and its register.
-pub fn register(header: &[u8], imposed: FileFormatOption, table: &mut [u64]) -> RegisterRead
-    ensures { λ r. ⌜ RegisterCall limits (imposedOf imposed) (now (header .entry)) (now (table .entry)) r (now (table .exit)) ⌝ }
+pub fn register(
+    header: &[u8],
+    imposed: FileFormatOption,
+    form: Form,
+    table: &mut [u64],
+) -> RegisterRead
+    ensures { λ r. ⌜ RegisterCall form (imposedOf imposed) (now (header .entry)) (now (table .entry)) r (now (table .exit)) ⌝ }
 {
-    let read = parser::read(header, imposed, table);
+    let read = parser::read(header, imposed, form, table);
     let entries = read.entries;
     let outcome = read.outcome;
     match outcome {
         Outcome::Refused(x) => refuse(RegisterOutcome::Unread(x), read.line, read.start, entries),
         Outcome::Accepted(version, _) => {
-            answer_accepted(header, table::kept(table, entries), read, version)
+            answer_accepted(
+                header,
+                table::kept(table, form, entries),
+                form,
+                read,
+                version,
+            )
         }
     }
 }

@@ -21,6 +21,7 @@ use Rattle.records.specs.Formats.{versionOf}
 use Rattle.records.specs.Refusals.{number}
 use Rattle.records.specs.declared.refusal.Refusal.{Refusal}
 use Rattle.records.specs.declared.file_format.FileFormat.{FileFormat}
+use Rattle.entries.specs.declared.form.Form.the-variants.{First}
 use Rattle.entries.specs.Tables.{room}
 use Rattle.header.specs.Parsers.{answerMeans, readingMeans, outcomeNumber, outcomeSays, ReadCall}
 use Rattle.header.specs.declared.parser.Outcome.{Outcome}
@@ -110,12 +111,12 @@ module _ (h : Bytes) {out : Bytes} {r : ℕ} {o : Bytes} where
   pub printed-long : buffer < length h → Wrote out 0 (refusedLine 27 0 0) r o → Wrote out 0 (printed h) r o
   printed-long l w = subst (λ (t : Bytes). Wrote out 0 t r o) (sym (too-long h l)) w
 
-  pub printed-read : (t : List ℕ) {t′ : List ℕ} (a : ReadAnswer) → length h ≤ buffer → tableWords ≡ length t → ReadCall limits none h t a t′
+  pub printed-read : (t : List ℕ) {t′ : List ℕ} (a : ReadAnswer) → length h ≤ buffer → tableWords ≡ length t → ReadCall First none h t a t′
       → Wrote out 0 (answerLine (answerMeans a)) r o → Wrote out 0 (printed h) r o
   unfolding printed room
   printed-read t a l s c w =
       let e : printed h ≡ report (reading limits none (tableWords / 2) h) = rw (printed, le-leb (length h) buffer l) in
-      let f : reading limits none (room t) h ≡ reading limits none (tableWords / 2) h = ap (λ (n : ℕ). reading limits none (n / 2) h) (sym s) in
-      subst (λ (x : Bytes). Wrote out 0 x r o) (ap answerLine (c .answer) ∙ told-report (reading limits none (room t) h) ∙ ap report f ∙ sym e) w
+      let f : reading limits none (room First t) h ≡ reading limits none (tableWords / 2) h = ap (λ (n : ℕ). reading limits none (n / 2) h) (sym s) in
+      subst (λ (x : Bytes). Wrote out 0 x r o) (ap answerLine (c .answer) ∙ told-report (reading limits none (room First t) h) ∙ ap report f ∙ sym e) w
 
 pub ruleset reports = (number-put, version-put, counts-put, accepted-put, refused-put, accepted-line, refused-line, printed-long, printed-read)

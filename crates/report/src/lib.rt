@@ -1,4 +1,5 @@
 // The check program between its input and its output.
+use entries::form::Form;
 use header::file_format_option::FileFormatOption;
 use header::parser;
 use header::parser::Outcome;
@@ -100,6 +101,6 @@ pub fn print(input: &[u8], out: &mut [u8]) -> usize
         return put_refused(out, 0, 27, 0, 0);
     }
     let mut table = empty_table();
-    let answer = parser::read(input, FileFormatOption::None, &mut table);
+    let answer = parser::read(input, FileFormatOption::None, Form::First, &mut table);
     put_answer(out, 0, answer)
 }

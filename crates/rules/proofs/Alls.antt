@@ -1,7 +1,9 @@
 -- Facts of every element of a list, and membership. Assumes nothing.
+use Prim.Native.Nat.{ℕ, zero, suc}
 use mathlib.Core.Path.{_≡_, refl, sym, ap₂}
 use mathlib.Core.Bool.{true, _||_, or-assoc}
 use mathlib.Core.List.{List, [], _∷_, _++_, map}
+use lib.ListN.{take, drop}
 use Rattle.values.specs.Bytes.{Bytes, same}
 use Rattle.values.proofs.Tests.{or-on}
 use Rattle.rules.specs.Known.{isIn}
@@ -11,6 +13,16 @@ use Rattle.rules.specs.Claims.{All}
 pub all-map : {A : Type 0} (P Q : A → Type 0) (xs : List A) → ((x : A) → P x → Q x) → All P xs → All Q xs
 all-map P Q [] f h = tt
 all-map P Q (x ∷ xs) f h = (f x (h .0), all-map P Q xs f (h .1))
+
+pub all-take : {A : Type 0} (P : A → Type 0) (n : ℕ) (xs : List A) → All P xs → All P (take n xs)
+all-take P zero xs h = tt
+all-take P (suc n) [] h = tt
+all-take P (suc n) (x ∷ xs) h = (h .0, all-take P n xs (h .1))
+
+pub all-drop : {A : Type 0} (P : A → Type 0) (n : ℕ) (xs : List A) → All P xs → All P (drop n xs)
+all-drop P zero xs h = h
+all-drop P (suc n) [] h = tt
+all-drop P (suc n) (x ∷ xs) h = all-drop P n xs (h .1)
 
 pub all-append : {A : Type 0} (P : A → Type 0) (xs ys : List A) → All P xs → All P ys → All P (xs ++ ys)
 all-append P [] ys h k = k

@@ -130,7 +130,7 @@ abbrev pub shifted : ℕ → Option Part → Option Part
 shifted s none = none
 shifted s (some p) = some (s + p .0, s + p .1)
 
-drop-take : (a n : ℕ) (x : Bytes) → drop a (take n x) ≡ take (n - a) (drop a x)
+pub drop-take : (a n : ℕ) (x : Bytes) → drop a (take n x) ≡ take (n - a) (drop a x)
 drop-take zero n x = let e : n - 0 ≡ n = omega arith in rw e
 drop-take (suc a) zero x = let e : 0 - suc a ≡ 0 = omega arith in rw e
 drop-take (suc a) (suc n) [] = let e : suc n - suc a ≡ n - a = omega arith in rw e (sym (take-nil (n - a)))

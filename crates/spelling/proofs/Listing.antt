@@ -1,11 +1,11 @@
 -- The list of entries that carry an oddly spelled number: one line, one entry, one turn of the walk. Assumes nothing.
-use Prim.Native.Nat.{ℕ, zero, suc, _+_, _-_, _*_, _^_, _≤_, _<_}
+use Prim.Native.Nat.{ℕ, suc, _+_, _-_, _≤_, _<_}
 use native.Mathlib.Omega.{arith}
 use mathlib.Core.Path.{_≡_, refl, sym, ap, subst, _∙_}
 use mathlib.Core.Bool.{Bool, true, false, not}
 use mathlib.Core.List.{List, [], _∷_, _++_, append-assoc, append-nil}
 use mathlib.Core.Option.{Option, none, some}
-use lib.Dec.{eqb, leb}
+use lib.Dec.{eqb}
 use lib.ListN.{length, drop, take, length-append}
 use lib.Seq.{sets, length-sets, set-out}
 use borrow.Author.Tests.{eq-eqb, ne-eqb, le-leb, lt-leb}
@@ -35,6 +35,7 @@ use Rattle.entries.specs.declared.shown.EntryRead.{EntryRead}
 use Rattle.entries.specs.declared.shown.EntryRead.the-variants as entries
 use Rattle.entries.specs.declared.entry.Entry.{Entry as CodeEntry}
 use Rattle.entries.specs.Values.{entryOf}
+use Rattle.entries.specs.declared.form.Form.{Form}
 use Rattle.entries.specs.Tables.{room, entryAt}
 use Rattle.entries.specs.Shown.{entryMeant}
 use Rattle.spelling.specs.Odd.{listing, oddFrom, oddIn, answerOf, oddAnswer, oddList, spellingMeans, CountIs, Counts, Walks}
@@ -128,28 +129,28 @@ after-plain ds n none = refl
 after-plain ds n (some ns) = refl
 
 -- the entries before n were passed, `found` of them listed
-pub record Walking (h : Bytes) (t : List ℕ) (v : Version) (list₀ : List ℕ) (list : List ℕ) (n found : ℕ) : Type 0 where
-  pub inside : n ≤ room t
+pub record Walking (form : Form) (h : Bytes) (t : List ℕ) (v : Version) (list₀ : List ℕ) (list : List ℕ) (n found : ℕ) : Type 0 where
+  pub inside : n ≤ room form t
   pub small : found ≤ n
   pub done : List ℕ
   pub size : length done ≡ found
-  pub whole : oddIn h t v ≡ after done (oddFrom h t v n (room t - n))
+  pub whole : oddIn form h t v ≡ after done (oddFrom form h t v n (room form t - n))
   pub wrote : list ≡ sets list₀ 0 done
   pub long : length list ≡ length list₀
 
-pub walk-start : (h : Bytes) (t : List ℕ) (v : Version) (list : List ℕ) → Walking h t v list list 0 0
-walk-start h t v list = record { inside = omega arith; small = omega arith; done = []; size = refl; whole = let z : room t - 0 ≡ room t = omega arith in rw z (sym (nothing (oddIn h t v))); wrote = refl; long = refl }
+pub walk-start : (form : Form) (h : Bytes) (t : List ℕ) (v : Version) (list : List ℕ) → Walking form h t v list list 0 0
+walk-start form h t v list = record { inside = omega arith; small = omega arith; done = []; size = refl; whole = let z : room form t - 0 ≡ room form t = omega arith in rw z (sym (nothing (oddIn form h t v))); wrote = refl; long = refl }
   where
     nothing : (o : Option (List ℕ)) → after [] o ≡ o
     nothing none = refl
     nothing (some ns) = refl
 
-module _ {h : Bytes} {t : List ℕ} {v : Version} {list₀ list : List ℕ} {n found : ℕ} (g : Walking h t v list₀ list n found) {m : ℕ} (all : m ≡ room t) where
-  pub walk-end : m ≤ n → Walks (oddIn h t v) list₀ (counted.Count found) list
+module _ {form : Form} {h : Bytes} {t : List ℕ} {v : Version} {list₀ list : List ℕ} {n found : ℕ} (g : Walking form h t v list₀ list n found) {m : ℕ} (all : m ≡ room form t) where
+  pub walk-end : m ≤ n → Walks (oddIn form h t v) list₀ (counted.Count found) list
   unfolding oddFrom
   walk-end e =
-      let z : room t - n ≡ 0 = omega (arith, e, all) in
-      let w : oddIn h t v ≡ some (g .done) = g .whole ∙ rw (z, append-nil (g .done)) in
+      let z : room form t - n ≡ 0 = omega (arith, e, all) in
+      let w : oddIn form h t v ≡ some (g .done) = g .whole ∙ rw (z, append-nil (g .done)) in
       record {
         counts = (g .done, w, sym (g .size));
         lists = λ ns f. g .wrote ∙ ap (sets list₀ 0) (some-is (sym w ∙ f));
@@ -158,35 +159,35 @@ module _ {h : Bytes} {t : List ℕ} {v : Version} {list₀ list : List ℕ} {n f
   pub walk-less : n < m → m - (n + 1) < m - n
   walk-less b = omega (arith, b)
 
-  module _ (b : n < m) (r : Spelling) (a : spellingMeans r ≡ entryOdd h v (entryAt h t n)) where
-    more : (r : Option Bool) → entryOdd h v (entryAt h t n) ≡ r → oddIn h t v ≡ after (g .done) (listing n r (oddFrom h t v (n + 1) (room t - (n + 1))))
+  module _ (b : n < m) (r : Spelling) (a : spellingMeans r ≡ entryOdd h v (entryAt form h t n)) where
+    more : (r : Option Bool) → entryOdd h v (entryAt form h t n) ≡ r → oddIn form h t v ≡ after (g .done) (listing n r (oddFrom form h t v (n + 1) (room form t - (n + 1))))
     unfolding oddFrom
-    more r e = let z : room t - n ≡ suc (room t - (n + 1)) = omega (arith, b, all) in g .whole ∙ rw (z, oddFrom, e)
+    more r e = let z : room form t - n ≡ suc (room form t - (n + 1)) = omega (arith, b, all) in g .whole ∙ rw (z, oddFrom, e)
 
-    pub walk-refused : r ≡ spelling.Refused → Walks (oddIn h t v) list₀ counted.Refused list
+    pub walk-refused : r ≡ spelling.Refused → Walks (oddIn form h t v) list₀ counted.Refused list
     walk-refused e = let w = more none (sym a ∙ ap spellingMeans e) in record { counts = w; lists = λ ns f. never-some (sym w ∙ f) }
       where
         never-some : {ns : List ℕ} {A : Type 0} → _≡_ {A = Option (List ℕ)} none (some ns) → A
         never-some e = never cc
 
-    pub walk-plain : r ≡ spelling.Plain → Walking h t v list₀ list (n + 1) found
+    pub walk-plain : r ≡ spelling.Plain → Walking form h t v list₀ list (n + 1) found
     walk-plain e = record {
       inside = omega (arith, b, all);
       small = omega (arith, g .small);
       done = g .done;
       size = g .size;
-      whole = more (some false) (sym a ∙ ap spellingMeans e) ∙ after-plain (g .done) n (oddFrom h t v (n + 1) (room t - (n + 1)));
+      whole = more (some false) (sym a ∙ ap spellingMeans e) ∙ after-plain (g .done) n (oddFrom form h t v (n + 1) (room form t - (n + 1)));
       wrote = g .wrote;
       long = g .long;
     }
 
-    pub walk-odd : r ≡ spelling.Odd → {list′ : List ℕ} → list′ ≡ sets list found (n ∷ []) → Walking h t v list₀ list′ (n + 1) (found + 1)
+    pub walk-odd : r ≡ spelling.Odd → {list′ : List ℕ} → list′ ≡ sets list found (n ∷ []) → Walking form h t v list₀ list′ (n + 1) (found + 1)
     walk-odd e {list′} f = record {
       inside = omega (arith, b, all);
       small = omega (arith, g .small);
       done = g .done ++ n ∷ [];
       size = length-append (g .done) (n ∷ []) ∙ ap (_+ 1) (g .size);
-      whole = more (some true) (sym a ∙ ap spellingMeans e) ∙ after-odd (g .done) n (oddFrom h t v (n + 1) (room t - (n + 1)));
+      whole = more (some true) (sym a ∙ ap spellingMeans e) ∙ after-odd (g .done) n (oddFrom form h t v (n + 1) (room form t - (n + 1)));
       wrote = let s : found ≡ 0 + length (g .done) = sym (g .size) ∙ omega arith in f ∙ rw (g .wrote, s) (sets-append list₀ 0 (g .done) (n ∷ []));
       long = ap length f ∙ length-sets list found (n ∷ []) ∙ g .long;
     }

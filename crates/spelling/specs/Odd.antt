@@ -10,6 +10,7 @@ use lib.Seq.{sets}
 use Rattle.values.specs.Bytes.{Bytes}
 use Rattle.rules.specs.Version.{Version}
 use Rattle.rules.specs.Spelling.{entryOdd}
+use Rattle.entries.specs.declared.form.Form.{Form}
 use Rattle.entries.specs.Tables.{room, entryAt}
 use Rattle.spelling.specs.declared.odd.Spelling.{Spelling}
 use Rattle.spelling.specs.declared.odd.Spelling.the-variants as spelling
@@ -26,13 +27,13 @@ listing n (some odd) none = none
 listing n (some odd) (some ns) = some (elim odd [ true ↦ n ∷ ns | false ↦ ns ])
 
 -- of so many entries from number n on
-unfoldable pub oddFrom : Bytes → List ℕ → Version → ℕ → ℕ → Option (List ℕ)
-oddFrom h t v n zero = some []
-oddFrom h t v n (suc more) = listing n (entryOdd h v (entryAt h t n)) (oddFrom h t v (n + 1) more)
+unfoldable pub oddFrom : Form → Bytes → List ℕ → Version → ℕ → ℕ → Option (List ℕ)
+oddFrom form h t v n zero = some []
+oddFrom form h t v n (suc more) = listing n (entryOdd h v (entryAt form h t n)) (oddFrom form h t v (n + 1) more)
 
 -- of all entries of a table; none is refusal 29
-abbrev pub oddIn : Bytes → List ℕ → Version → Option (List ℕ)
-oddIn h t v = oddFrom h t v 0 (room t)
+abbrev pub oddIn : Form → Bytes → List ℕ → Version → Option (List ℕ)
+oddIn form h t v = oddFrom form h t v 0 (room form t)
 
 -- document 02's number
 abbrev pub outcomeNumber : OddOutcome → ℕ

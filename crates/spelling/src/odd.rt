@@ -1,4 +1,5 @@
 // The entries that carry a number that is not plainly spelled: with a sign, or with a leading zero.
+use entries::form::Form;
 use entries::kind;
 use entries::shown;
 use entries::shown::EntryRead;
@@ -78,10 +79,10 @@ fn line_spelling(l: &[u8], kind: u8, version: FileFormat) -> Spelling
     }
 }
 
-fn entry_spelling(h: &[u8], table: &[u64], n: usize, version: FileFormat) -> Spelling
-    ensures { λ r. ⌜ spellingMeans r ≡ entryOdd (now (h .entry)) (versionOf version) (entryAt (now (h .entry)) (now (table .entry)) n) ⌝ }
+fn entry_spelling(h: &[u8], table: &[u64], form: Form, n: usize, version: FileFormat) -> Spelling
+    ensures { λ r. ⌜ spellingMeans r ≡ entryOdd (now (h .entry)) (versionOf version) (entryAt form (now (h .entry)) (now (table .entry)) n) ⌝ }
 {
-    let EntryRead::Entry(e) = shown::entry_at(h, table, n) else {
+    let EntryRead::Entry(e) = shown::entry_at(h, table, form, n) else {
         return Spelling::Refused;
     };
     if !kind::has_id(e.kind) {
@@ -103,16 +104,16 @@ fn put(list: &mut [u64], at: usize, word: u64)
 
 // Counts the entries that carry an oddly spelled number, and writes their numbers as far as there is room; ends at one that is
 // refused.
-fn walk(h: &[u8], table: &[u64], version: FileFormat, list: &mut [u64]) -> Counted
-    ensures { λ r. ⌜ Walks (oddIn (now (h .entry)) (now (table .entry)) (versionOf version)) (now (list .entry)) r (now (list .exit)) ⌝ }
+fn walk(h: &[u8], table: &[u64], form: Form, version: FileFormat, list: &mut [u64]) -> Counted
+    ensures { λ r. ⌜ Walks (oddIn form (now (h .entry)) (now (table .entry)) (versionOf version)) (now (list .entry)) r (now (list .exit)) ⌝ }
 {
-    let entries = table::count(table);
+    let entries = table::count(table, form);
     let mut n: usize = 0;
     let mut found: usize = 0;
     while n < entries {
         let at = n;
         n += 1;
-        match entry_spelling(h, table, at, version) {
+        match entry_spelling(h, table, form, at, version) {
             Spelling::Refused => return Counted::Refused,
             Spelling::Plain => {}
             Spelling::Odd => {
@@ -124,19 +125,25 @@ fn walk(h: &[u8], table: &[u64], version: FileFormat, list: &mut [u64]) -> Count
     Counted::Count(found)
 }
 
-fn count(h: &[u8], table: &[u64], version: FileFormat) -> Counted
-    ensures { λ r. ⌜ Counts (oddIn (now (h .entry)) (now (table .entry)) (versionOf version)) r ⌝ }
+fn count(h: &[u8], table: &[u64], form: Form, version: FileFormat) -> Counted
+    ensures { λ r. ⌜ Counts (oddIn form (now (h .entry)) (now (table .entry)) (versionOf version)) r ⌝ }
 {
     let mut nothing = [0u64; 0];
-    walk(h, table, version, &mut nothing)
+    walk(h, table, form, version, &mut nothing)
 }
 
 // Lists the numbers of the entries that carry an oddly spelled number, in table order. Nothing is written if it is refused.
-pub fn odd_entries(header: &[u8], table: &[u64], version: FileFormat, list: &mut [u64]) -> OddAnswer
-    ensures answer { λ r. ⌜ r ≡ oddAnswer (length (now (list .entry))) (oddIn (now (header .entry)) (now (table .entry)) (versionOf version)) ⌝ }
-    ensures list { λ _. ⌜ now (list .exit) ≡ oddList (now (list .entry)) (oddIn (now (header .entry)) (now (table .entry)) (versionOf version)) ⌝ }
+pub fn odd_entries(
+    header: &[u8],
+    table: &[u64],
+    form: Form,
+    version: FileFormat,
+    list: &mut [u64],
+) -> OddAnswer
+    ensures answer { λ r. ⌜ r ≡ oddAnswer (length (now (list .entry))) (oddIn form (now (header .entry)) (now (table .entry)) (versionOf version)) ⌝ }
+    ensures list { λ _. ⌜ now (list .exit) ≡ oddList (now (list .entry)) (oddIn form (now (header .entry)) (now (table .entry)) (versionOf version)) ⌝ }
 {
-    match count(header, table, version) {
+    match count(header, table, form, version) {
         Counted::Refused => OddAnswer {
             outcome: OddOutcome::NotWellFormed,
             listed: 0,
@@ -148,7 +155,7 @@ pub fn odd_entries(header: &[u8], table: &[u64], version: FileFormat, list: &mut
                     listed: 0,
                 };
             }
-            walk(header, table, version, list);
+            walk(header, table, form, version, list);
             OddAnswer {
                 outcome: OddOutcome::Listed,
                 listed: n,

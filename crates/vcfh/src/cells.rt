@@ -1,4 +1,5 @@
 // The cell register, and what differs from another.
+use crate::form::FORM;
 use crate::notes;
 use crate::say;
 use crate::why;
@@ -47,7 +48,7 @@ fn say_why(outcome: RegisterOutcome, header: &[u8], imposed: FileFormatOption, s
 
 // The register of a header; where it is refused, that is said.
 fn read(header: &[u8], imposed: FileFormatOption, table: &mut [u64]) -> RegisterRead {
-    let answer = probe::register(header, imposed, table);
+    let answer = probe::register(header, imposed, FORM, table);
     let outcome = answer.outcome;
     let number = outcome.number();
     if number != 0 {

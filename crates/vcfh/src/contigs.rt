@@ -45,7 +45,7 @@ fn say_why(refusal: SamRefusal, l: &[u8]) {
         SamRefusal::DuplicateSequence => say_twice(l),
         SamRefusal::OutputTooSmall => say::text(
             2,
-            b"the contig lines are longer than 1,048,586 bytes\n",
+            b"the contig lines are longer than 16,777,226 bytes\n",
         ),
     }
 }
@@ -90,7 +90,7 @@ pub fn say_contigs(sam: &[u8], full: bool, out: &mut [u8]) {
     if sam.len() <= end {
         say::tell(b"n");
         say::refused(27, 0, 0);
-        say::text(2, b"the header is longer than 1,048,585 bytes\n");
+        say::text(2, b"the header is longer than 16,777,225 bytes\n");
         return;
     }
     say_lines(bytes::part(sam, 0, end), out);

@@ -1,4 +1,5 @@
 // The entries of a header, a line for each.
+use crate::form::FORM;
 use crate::say;
 use entries::kind;
 use entries::table;
@@ -30,7 +31,10 @@ fn say_id(header: &[u8], table: &[u64], n: usize, kind: u8, l: &[u8]) {
         say::cell(b"-", 16);
         return;
     }
-    say::cell(shown::bytes_of(header, shown::id(header, table, n)), 16);
+    say::cell(
+        shown::bytes_of(header, shown::id(header, table, FORM, n)),
+        16,
+    );
 }
 
 // A record's key stands between `##` and the first `=`.
@@ -44,7 +48,7 @@ fn say_key(kind: u8, l: &[u8]) {
 }
 
 fn say_entry(header: &[u8], table: &[u64], n: usize, kind: u8, line: usize) {
-    let l = shown::bytes_of(header, shown::entry(header, table, n));
+    let l = shown::bytes_of(header, shown::entry(header, table, FORM, n));
     say::number_cell(n as u64, 6);
     say_kind(kind);
     say::number_cell(line as u64, 6);
@@ -66,7 +70,7 @@ pub fn say_entries(header: &[u8], table: &[u64], count: usize) {
     let mut n = 0;
     while n < count {
         let own = n + 1;
-        let kind = table::get(table, n).kind;
+        let kind = table::get(table, FORM, n).kind;
         line = line_of(kind, own, line);
         say_entry(header, table, n, kind, line);
         n = own;

@@ -1,10 +1,11 @@
-// What bin/vcfh runs. Three arguments make a case: a command, the version to impose as a fileformat line has it (`-`: none), and a
+// What bin/vcfh runs. The first argument is `large` where the stack has room for the largest headers. Then three make a case: a command, the version to impose as a fileformat line has it (`-`: none), and a
 // file's name (`-`: standard input). The command cells-new compares with the file of the cells-old before it.
 // What came of a case is told on descriptor 3, by which bin/vcfh goes; sentences and notes stand on standard error.
 mod asked;
 mod cells;
 mod contigs;
 mod fields;
+mod form;
 mod input;
 mod listing;
 mod notes;
@@ -14,6 +15,7 @@ mod spelled;
 mod twice;
 mod why;
 
+use form::FORM;
 use header::file_format_option::FileFormatOption;
 use header::parser::Outcome;
 use input::Start;
@@ -24,34 +26,19 @@ use values::output;
 ghost use mathlib.Core.Path.{_≡_};
 ghost use lib.ListN.{length};
 
-// Room for a header that is two bytes too long, after the nine bytes that stand before it in a BCF. As with `io::buffer`, the
-// contract gives only the length.
-fn header_buffer() -> [u8; 1048586]
-    ensures { λ r. ⌜ 1048586 ≡ length r ⌝ }
-{
-    [0; 1048586]
-}
-
-// Room for the entries of any header: a line and its ending have five bytes or more, and the samples stand in one line.
-fn entry_table() -> [u64; 524288]
-    ensures { λ r. ⌜ 524288 ≡ length r ⌝ }
-{
-    [0; 524288]
-}
-
-// Room for the first bytes of an input, and mostly for all of its header.
+// Room for the first bytes of an input, and mostly for all of its header. As with `io::buffer`, the contract gives only the length.
 fn short_buffer() -> [u8; 16384]
     ensures { λ r. ⌜ 16384 ≡ length r ⌝ }
 {
     [0; 16384]
 }
 
-// Room for the entries of a header that stands in these bytes, of which an entry takes two or more. Clearing a table for any header
-// would cost more than the reading.
-fn short_table() -> [u64; 16384]
-    ensures { λ r. ⌜ 16384 ≡ length r ⌝ }
+// Room for the entries of a header that stands in these bytes: of the names of samples 256 have one byte or none, and any other
+// entry takes three bytes or more. Clearing a table for any header would cost more than the reading.
+fn short_table() -> [u64; 11456]
+    ensures { λ r. ⌜ 11456 ≡ length r ⌝ }
 {
-    [0; 16384]
+    [0; 11456]
 }
 
 // Room for the house form of a short header: quotes and backslashes make it at most twice as long, and a little.
@@ -61,22 +48,55 @@ fn short_form() -> [u8; 65536]
     [0; 65536]
 }
 
-// Room for 32,768 pairs of a dictionary.
-fn pair_buffer() -> [u64; 65536]
-    ensures { λ r. ⌜ 65536 ≡ length r ⌝ }
-{
-    [0; 65536]
-}
-
-// The same for a short header, whose lines have eight bytes or more.
+// Room for the pairs of a dictionary of a short header, whose lines have eight bytes or more.
 fn short_pairs() -> [u64; 4096]
     ensures { λ r. ⌜ 4096 ≡ length r ⌝ }
 {
     [0; 4096]
 }
 
+// The same for headers of up to half a megabyte, after the nine bytes that stand before one in a BCF: all that a stack of eight
+// megabytes has room for.
+fn long_buffer() -> [u8; 524298]
+    ensures { λ r. ⌜ 524298 ≡ length r ⌝ }
+{
+    [0; 524298]
+}
+
+fn long_table() -> [u64; 350208]
+    ensures { λ r. ⌜ 350208 ≡ length r ⌝ }
+{
+    [0; 350208]
+}
+
+fn long_form() -> [u8; 1048660]
+    ensures { λ r. ⌜ 1048660 ≡ length r ⌝ }
+{
+    [0; 1048660]
+}
+
+// Room for 32,768 pairs: a line that a dictionary has takes 16 bytes or more.
+fn long_pairs() -> [u64; 65536]
+    ensures { λ r. ⌜ 65536 ≡ length r ⌝ }
+{
+    [0; 65536]
+}
+
+// The same for a header that is two bytes too long, and for 1,000,000 entries.
+fn large_buffer() -> [u8; 16777226]
+    ensures { λ r. ⌜ 16777226 ≡ length r ⌝ }
+{
+    [0; 16777226]
+}
+
+fn large_table() -> [u64; 2000000]
+    ensures { λ r. ⌜ 2000000 ≡ length r ⌝ }
+{
+    [0; 2000000]
+}
+
 fn check(header: &[u8], imposed: FileFormatOption, table: &mut [u64]) {
-    let answer = header::parser::read(header, imposed, table);
+    let answer = header::parser::read(header, imposed, FORM, table);
     let mut out = io::buffer();
     let end = report::put_answer(&mut out, 0, answer);
     say::text(1, bytes::part(&out, 0, end));
@@ -90,7 +110,7 @@ fn check(header: &[u8], imposed: FileFormatOption, table: &mut [u64]) {
 }
 
 fn entries(header: &[u8], imposed: FileFormatOption, table: &mut [u64]) {
-    let answer = header::parser::read(header, imposed, table);
+    let answer = header::parser::read(header, imposed, FORM, table);
     let outcome = answer.outcome;
     match outcome {
         Outcome::Accepted(version, _) => {
@@ -104,12 +124,12 @@ fn entries(header: &[u8], imposed: FileFormatOption, table: &mut [u64]) {
     }
 }
 
-fn odd(header: &[u8], imposed: FileFormatOption, table: &mut [u64]) {
-    let answer = header::parser::read(header, imposed, table);
+fn odd(header: &[u8], imposed: FileFormatOption, table: &mut [u64], list: &mut [u64]) {
+    let answer = header::parser::read(header, imposed, FORM, table);
     let outcome = answer.outcome;
     match outcome {
         Outcome::Accepted(version, _) => {
-            spelled::say_odd(header, table, answer.entries, version);
+            spelled::say_odd(header, table, answer.entries, version, list);
             notes::say_notes(header, table, answer.entries, version);
         }
         Outcome::Refused(refusal) => {
@@ -140,7 +160,7 @@ fn house(
     form: &mut [u8],
     noted: bool,
 ) {
-    let answer = house::form::house_form(header, imposed, table, form);
+    let answer = house::form::house_form(header, imposed, FORM, table, form);
     let outcome = answer.outcome;
     match outcome {
         Outcome::Accepted(version, _) => {
@@ -172,7 +192,7 @@ fn run(
     } else if bytes::same(command, b"dictionary") {
         dictionary(header, imposed, table, strings, contigs);
     } else if bytes::same(command, b"odd") {
-        odd(header, imposed, table);
+        odd(header, imposed, table, strings);
     } else if bytes::same(command, b"house") {
         house(header, imposed, table, form, true);
     } else if bytes::same(command, b"form") {
@@ -237,19 +257,25 @@ fn run_command(
     );
 }
 
-// A case whose header may go on after these first bytes.
-fn long_case(number: usize, first: &[u8], fd: i32, imposed: FileFormatOption, had: &mut [u64; 40]) {
-    let mut buffer = header_buffer();
+// A case whose header may go on after these first bytes, which are all that a long one has.
+fn large_case(
+    number: usize,
+    first: &[u8],
+    fd: i32,
+    imposed: FileFormatOption,
+    had: &mut [u64; 40],
+) {
+    let mut buffer = large_buffer();
     let next = output::put_bytes(&mut buffer, 0, first);
     let end = input::fill(fd, &mut buffer, next);
     if os::errno() != 0 {
         say::tell(b"r");
         return;
     }
-    let mut table = entry_table();
-    let mut form = header_buffer();
-    let mut strings = pair_buffer();
-    let mut contigs = pair_buffer();
+    let mut table = large_table();
+    let mut form = large_buffer();
+    let mut strings = large_table();
+    let mut contigs = large_table();
     let text = input::text(bytes::part(&buffer, 0, end));
     let full = buffer.len() <= end;
     run_command(
@@ -266,7 +292,78 @@ fn long_case(number: usize, first: &[u8], fd: i32, imposed: FileFormatOption, ha
 }
 
 // The same, as a function that calls itself: the compiler keeps such a one apart, where it would else make one function of all cases
-// and clear the megabytes of a long case in every short one. `turns` is the number of arguments, so that the call inside does nothing.
+// and take the memory of a large case in every short one. `turns` is the number of arguments, so that the call inside does nothing.
+fn large_case_apart(
+    turns: usize,
+    number: usize,
+    first: &[u8],
+    fd: i32,
+    imposed: FileFormatOption,
+    had: &mut [u64; 40],
+) {
+    if turns == 0 {
+        return;
+    }
+    large_case_apart(turns / 0x1_0000_0000, number, first, fd, imposed, had);
+    large_case(number, first, fd, imposed, had);
+}
+
+// Whether the stack has room for a large case, as the first argument says.
+fn may_be_large() -> bool {
+    let mut word = io::buffer();
+    let end = os::arg(1, &mut word);
+    bytes::same(&word[..end], b"large")
+}
+
+// A case whose header goes on after what was read.
+fn larger_case(
+    number: usize,
+    first: &[u8],
+    fd: i32,
+    imposed: FileFormatOption,
+    had: &mut [u64; 40],
+) {
+    if !may_be_large() {
+        say::tell(b"m");
+        return;
+    }
+    large_case_apart(os::arg_count(), number, first, fd, imposed, had);
+}
+
+// A case whose header may go on after these first bytes.
+fn long_case(number: usize, first: &[u8], fd: i32, imposed: FileFormatOption, had: &mut [u64; 40]) {
+    let mut buffer = long_buffer();
+    let next = output::put_bytes(&mut buffer, 0, first);
+    let end = input::fill(fd, &mut buffer, next);
+    if os::errno() != 0 {
+        say::tell(b"r");
+        return;
+    }
+    let text = input::text(bytes::part(&buffer, 0, end));
+    let full = buffer.len() <= end;
+    if full {
+        if text.len() <= input::header_end(text) {
+            larger_case(number, &buffer, fd, imposed, had);
+            return;
+        }
+    }
+    let mut table = long_table();
+    let mut form = long_form();
+    let mut strings = long_pairs();
+    let mut contigs = long_pairs();
+    run_command(
+        number,
+        text,
+        full,
+        imposed,
+        &mut table,
+        &mut form,
+        &mut strings,
+        &mut contigs,
+        had,
+    );
+}
+
 fn long_case_apart(
     turns: usize,
     number: usize,
@@ -372,11 +469,15 @@ fn case(command: usize, version: usize, file: usize, had: &mut [u64; 40]) {
 
 fn main() {
     let mut had = [0u64; 40];
-    let cases = os::arg_count() / 3;
+    let count = os::arg_count();
+    if count < 2 {
+        return;
+    }
+    let cases = (count - 2) / 3;
     let mut k = 0;
     while k < cases {
         let i = 3 * k;
-        case(i + 1, i + 2, i + 3, &mut had);
+        case(i + 2, i + 3, i + 4, &mut had);
         k += 1;
     }
 }

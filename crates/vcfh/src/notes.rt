@@ -1,5 +1,6 @@
 // What an accepted header has that may surprise, in notes on standard error.
 use crate::fields;
+use crate::form::FORM;
 use crate::say;
 use entries::entry::Entry;
 use entries::kind;
@@ -67,7 +68,7 @@ fn find_map_like(header: &[u8], table: &[u64], count: usize) -> Found {
             return found;
         }
         line += 1;
-        if is_map_like(header, table::get(table, n)) {
+        if is_map_like(header, table::get(table, FORM, n)) {
             found = found.more(line, line);
         }
     }
@@ -174,9 +175,9 @@ fn hash_of(kind: u8, id: &[u8]) -> u32 {
 // The entry of a line, which counts from 1.
 fn entry_of(table: &[u64], line: u32) -> Entry {
     if line == 0 {
-        return table::get(table, 0);
+        return table::get(table, FORM, 0);
     }
-    table::get(table, (line - 1) as usize)
+    table::get(table, FORM, (line - 1) as usize)
 }
 
 // Whether the IDs of two lines are alike and stand under one key.
@@ -230,7 +231,7 @@ fn find_alike(header: &[u8], table: &[u64], count: usize) -> Found {
             return found;
         }
         line += 1;
-        let fellow = find_fellow(header, table, &mut slots, line, table::get(table, n));
+        let fellow = find_fellow(header, table, &mut slots, line, table::get(table, FORM, n));
         if fellow != 0 {
             found = found.more(line, fellow);
         }

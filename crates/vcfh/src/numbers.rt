@@ -1,4 +1,5 @@
 // The dictionaries of BCF: a line for each string and each contig, with its number and its ID.
+use crate::form::FORM;
 use crate::notes;
 use crate::say;
 use dictionary::string_maps;
@@ -27,7 +28,7 @@ pub fn say_id(header: &[u8], e: Entry) {
 fn say_pair(label: &[u8], header: &[u8], table: &[u64], entry: u64, number: u64) {
     say::numbered(1, label, number);
     say::text(1, b"\t");
-    say_id(header, table::get(table, entry as usize));
+    say_id(header, table::get(table, FORM, entry as usize));
     say::text(1, b"\n");
 }
 
@@ -71,7 +72,7 @@ pub fn say_numbers(
     strings: &mut [u64],
     contigs: &mut [u64],
 ) -> bool {
-    let answer = string_maps::dictionaries(header, imposed, table, strings, contigs);
+    let answer = string_maps::dictionaries(header, imposed, FORM, table, strings, contigs);
     let outcome = answer.outcome;
     match outcome {
         DictionaryOutcome::Accepted(version, _) => {

@@ -1,5 +1,6 @@
 // The entries that carry a number with a sign or a leading zero, a line for each.
 use crate::fields;
+use crate::form::FORM;
 use crate::numbers;
 use crate::say;
 use entries::table;
@@ -84,35 +85,41 @@ fn say_numbers(l: &[u8], version: FileFormat) {
     }
 }
 
+fn line_of(n: usize) -> u64 {
+    if n < 0xFFFF_FFFF {
+        return n as u64 + 1;
+    }
+    0
+}
+
 // Number, line, key, ID and the fields.
-fn say_entry(header: &[u8], table: &[u64], n: usize, line: usize, version: FileFormat) {
-    let l = shown::bytes_of(header, shown::entry(header, table, n));
+fn say_entry(header: &[u8], table: &[u64], n: usize, version: FileFormat) {
+    let l = shown::bytes_of(header, shown::entry(header, table, FORM, n));
     say::decimal(1, n as u64);
     say::text(1, b"\t");
-    say::decimal(1, line as u64);
+    say::decimal(1, line_of(n));
     say::text(1, b"\t");
     say::shown(1, fields::key_of(l));
     say::text(1, b"\t");
-    numbers::say_id(header, table::get(table, n));
+    numbers::say_id(header, table::get(table, FORM, n));
     say::text(1, b"\t");
     say_numbers(l, version);
     say::text(1, b"\n");
 }
 
-// Of an accepted header's entries, each by itself, so that no list is needed. A map stands in the line of its entry's number and one.
-pub fn say_odd(header: &[u8], table: &[u64], count: usize, version: FileFormat) {
-    let mut one = [0u64; 1];
-    let mut n = 0;
-    while n < count {
-        if table.len() / 2 <= n {
+// Of an accepted header's entries; the list has room for all that a header of this memory can have. A map stands in the line of its
+// entry's number and one.
+pub fn say_odd(header: &[u8], table: &[u64], count: usize, version: FileFormat, list: &mut [u64]) {
+    let kept = table::kept(table, FORM, count);
+    let answer = odd::odd_entries(header, kept, FORM, version, list);
+    let listed = answer.listed;
+    let mut k = 0;
+    while k < listed {
+        if list.len() <= k {
             return;
         }
-        let entry = n;
-        n += 1;
-        let words = &table[2 * entry..2 * n];
-        let answer = odd::odd_entries(header, words, version, &mut one);
-        if answer.listed == 1 {
-            say_entry(header, table, entry, n, version);
-        }
+        let n = list[k] as usize;
+        k += 1;
+        say_entry(header, table, n, version);
     }
 }

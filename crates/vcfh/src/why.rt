@@ -1,8 +1,8 @@
 // Why a header is refused, in a sentence on standard error.
 use crate::fields;
+use crate::form::FORM;
 use crate::say;
 use crate::twice;
-use entries::limits::Limits;
 use header::file_format_option::FileFormatOption;
 use lines::line;
 use records::file_format::FileFormat;
@@ -97,7 +97,7 @@ fn say_line(number: u64, l: &[u8], version: FileFormat) {
     match number {
         1 => say(b"a line follows the column line"),
         2 => say(
-            b"the line is longer than 65,535 bytes, which is a limit of this tool and not of VCF",
+            b"the line is longer than 16,777,215 bytes, which is a limit of this tool and not of VCF",
         ),
         3 => say(b"the line is not UTF-8"),
         4 => say(b"the first line is a record, but not the fileformat line"),
@@ -136,11 +136,13 @@ fn say_whole(number: u64, header: &[u8], l: &[u8], version: FileFormat) {
         21 => twice::say_id_twice(header, l, version),
         22 => say(b"a column is wrong or missing"),
         23 => twice::say_name_twice(l),
-        24 => say(b"the table has no room for the line's entries"),
+        24 => say(
+            b"the header has more than 1,000,000 entries, which is a limit of this tool and not of VCF",
+        ),
         25 => say(b"there is no line at all"),
         26 => say(b"the column line is missing"),
         27 => say(
-            b"the header is longer than 1,048,575 bytes, which is a limit of this tool and not of VCF",
+            b"the header is longer than 16,777,215 bytes, which is a limit of this tool and not of VCF",
         ),
         28 => say(b"the house form is longer than the output"),
         _ => say(b"there is no such entry, ID or field"),
@@ -179,7 +181,8 @@ pub fn say_why(refusal: Refusal, header: &[u8], imposed: FileFormatOption, start
 
 // Whether it is the form, or a line of it, that is too long, and not the header.
 fn is_long_form(number: u64, header: &[u8], start: usize) -> bool {
-    let limits = Limits::FIRST;
+    let form = FORM;
+    let limits = form.limits();
     if number == 27 {
         return header.len() <= limits.header;
     }
@@ -199,11 +202,11 @@ pub fn say_why_no_form(refusal: Refusal, header: &[u8], imposed: FileFormatOptio
     say::tell(b"n");
     if refusal.number() == 2 {
         say(
-            b"a line of the house form is longer than 65,535 bytes, which is a limit of this tool and not of VCF",
+            b"a line of the house form is longer than 16,777,215 bytes, which is a limit of this tool and not of VCF",
         );
         return;
     }
     say(
-        b"the house form is longer than 1,048,575 bytes, which is a limit of this tool and not of VCF",
+        b"the house form is longer than 16,777,215 bytes, which is a limit of this tool and not of VCF",
     );
 }

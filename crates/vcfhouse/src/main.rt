@@ -1,4 +1,5 @@
 // Reads a header from standard input and writes its house form to standard output, or its refusal to standard error.
+use entries::form::Form;
 use header::file_format_option::FileFormatOption;
 use header::parser::Outcome;
 use house::form::HouseAnswer;
@@ -35,6 +36,7 @@ fn main() {
     let answer = house::form::house_form(
         &buffer[..n],
         FileFormatOption::None,
+        Form::First,
         &mut table,
         &mut form,
     );

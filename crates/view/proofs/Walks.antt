@@ -14,6 +14,8 @@ use Rattle.values.specs.Bytes.{Bytes}
 use Rattle.values.proofs.Tests.{pass, fail, test, and-l, never}
 use Rattle.values.proofs.Lists.{none-not}
 use Rattle.rules.specs.Shown.{Part as RulePart, wellFormed}
+use Rattle.entries.specs.declared.form.Form.{Form}
+use Rattle.entries.proofs.Tables.{room-small}
 use Rattle.entries.specs.Tables.{room, wordsClear, entryIn, entryAt, shownEntry}
 use Rattle.entries.specs.declared.shown.Shown.{Shown}
 use Rattle.entries.specs.declared.shown.Shown.the-variants.{Part, Refused}
@@ -25,10 +27,10 @@ use Rattle.view.specs.declared.Stepped.{Stepped}
 -- A step
 
 -- an entry that is shown lies in the table
-shown-near : (h : Bytes) (table : List ℕ) (n : ℕ) {p : RulePart} → shownEntry h table n ≡ some p → n < room table
+shown-near : (form : Form) (h : Bytes) (table : List ℕ) (n : ℕ) {p : RulePart} → shownEntry form h table n ≡ some p → n < room form table
 unfolding entryAt wordsClear
-shown-near h table n e = elim (test (wordsClear table n && wellFormed (length h) (entryIn table n))) [
-  | pass f ↦ ltb-true n (room table) (and-l (ltb n (room table)) _ (and-l (wordsClear table n) _ f))
+shown-near form h table n e = elim (test (wordsClear form table n && wellFormed (length h) (entryIn form table n))) [
+  | pass f ↦ ltb-true n (room form table) (and-l (ltb n (room form table)) _ (and-l (wordsClear form table n) _ f))
   | fail f ↦ none-not (rw (entryAt, f) at e)
 ]
 
@@ -41,20 +43,21 @@ shown-none : (o : Option RulePart) → Refused ≡ shownAs o → o ≡ none
 shown-none none e = refl
 shown-none (some p) e = never cc
 
-module _ (h : Bytes) (table : List ℕ) (at : ℕ) {r : Shown} (said : answered r ≡ orRefused (shownEntry h table at)) where
-  a : r ≡ shownAs (shownEntry h table at)
-  a = answer-is r (shownEntry h table at) said
+module _ (form : Form) (h : Bytes) (table : List ℕ) (at : ℕ) {r : Shown} (said : answered r ≡ orRefused (shownEntry form h table at)) where
+  a : r ≡ shownAs (shownEntry form h table at)
+  a = answer-is r (shownEntry form h table at) said
 
-  pub step-refused : r ≡ Refused → _≡_ {A = Stepped} (record { found = r; at = at }) (stepAt h table at)
+  pub step-refused : r ≡ Refused → _≡_ {A = Stepped} (record { found = r; at = at }) (stepAt form h table at)
   step-refused e = rw (← a, e)
 
   module _ {s e : ℕ} (b : r ≡ Part s e) where
-    pub step-shown : _≡_ {A = Stepped} (record { found = r; at = at + 1 }) (stepAt h table at)
+    pub step-shown : _≡_ {A = Stepped} (record { found = r; at = at + 1 }) (stepAt form h table at)
     step-shown = rw (← a, b)
 
     pub step-fits : length table < 2 ^ 64 → Fits w64 (at + 1)
-    unfolding room
-    step-fits l = let n = shown-near h table at (shown-part (shownEntry h table at) (sym b ∙ a)) in record { fits = omega arith }
+    step-fits l =
+        let n = shown-near form h table at (shown-part (shownEntry form h table at) (sym b ∙ a)) in
+        record { fits = omega (arith, room-small form table) }
 
 pub ruleset one-step = (step-refused, step-shown, step-fits)
 
@@ -65,111 +68,111 @@ stepped-found at Refused = refl
 stepped-on : (at : ℕ) {x : Shown} {s e : ℕ} → x ≡ Part s e → stepped at x .at ≡ at + 1
 stepped-on at e = rw e
 
-module _ (h : Bytes) (table : List ℕ) (at : ℕ) {p : Stepped} (a : p ≡ stepAt h table at) where
-  found-is : p .found ≡ shownAs (shownEntry h table at)
-  found-is = ap (λ (q : Stepped). q .found) a ∙ stepped-found at (shownAs (shownEntry h table at))
+module _ (form : Form) (h : Bytes) (table : List ℕ) (at : ℕ) {p : Stepped} (a : p ≡ stepAt form h table at) where
+  found-is : p .found ≡ shownAs (shownEntry form h table at)
+  found-is = ap (λ (q : Stepped). q .found) a ∙ stepped-found at (shownAs (shownEntry form h table at))
 
-  on : {s e : ℕ} → p .found ≡ Part s e → (p .at ≡ at + 1) × (shownEntry h table at ≡ some (s, e))
+  on : {s e : ℕ} → p .found ≡ Part s e → (p .at ≡ at + 1) × (shownEntry form h table at ≡ some (s, e))
   on b =
       let q = sym b ∙ found-is in
-      (ap (λ (q : Stepped). q .at) a ∙ stepped-on at (sym q), shown-part (shownEntry h table at) q)
+      (ap (λ (q : Stepped). q .at) a ∙ stepped-on at (sym q), shown-part (shownEntry form h table at) q)
 
 -- The walk
 
-steps-more : (n : ℕ) (h : Bytes) (table : List ℕ) (at : ℕ) {p : RulePart} → shownEntry h table at ≡ some p → steps (suc n) h table at ≡ p ∷ steps n h table (at + 1)
+steps-more : (n : ℕ) (form : Form) (h : Bytes) (table : List ℕ) (at : ℕ) {p : RulePart} → shownEntry form h table at ≡ some p → steps (suc n) form h table at ≡ p ∷ steps n form h table (at + 1)
 unfolding steps
-steps-more n h table at e = rw (steps, e)
+steps-more n form h table at e = rw (steps, e)
 
-steps-end : (n : ℕ) (h : Bytes) (table : List ℕ) (at : ℕ) → shownEntry h table at ≡ none → steps n h table at ≡ []
+steps-end : (n : ℕ) (form : Form) (h : Bytes) (table : List ℕ) (at : ℕ) → shownEntry form h table at ≡ none → steps n form h table at ≡ []
 unfolding steps
-steps-end zero h table at e = refl
-steps-end (suc n) h table at e = rw (steps, e)
+steps-end zero form h table at e = refl
+steps-end (suc n) form h table at e = rw (steps, e)
 
 -- what is left to be counted
-pub record Counting (h : Bytes) (table : List ℕ) (first at : ℕ) : Type 0 where
+pub record Counting (form : Form) (h : Bytes) (table : List ℕ) (first at : ℕ) : Type 0 where
   pub fuel : ℕ
-  pub enough : room table ≤ at + fuel
+  pub enough : room form table ≤ at + fuel
   pub from : first ≤ at
-  pub counted : length (shownFrom h table first) ≡ at - first + length (steps fuel h table at)
+  pub counted : length (shownFrom form h table first) ≡ at - first + length (steps fuel form h table at)
 
-pub count-all : (h : Bytes) (table : List ℕ) (first : ℕ) → Counting h table first first
-count-all h table first = record { fuel = room table; enough = omega arith; from = omega arith; counted = omega arith }
+pub count-all : (form : Form) (h : Bytes) (table : List ℕ) (first : ℕ) → Counting form h table first first
+count-all form h table first = record { fuel = room form table; enough = omega arith; from = omega arith; counted = omega arith }
 
-module _ {h : Bytes} {table : List ℕ} {first at : ℕ} (g : Counting h table first at) {p : Stepped} (a : p ≡ stepAt h table at) where
-  pub count-end : p .found ≡ Refused → at - first ≡ length (shownFrom h table first)
+module _ {form : Form} {h : Bytes} {table : List ℕ} {first at : ℕ} (g : Counting form h table first at) {p : Stepped} (a : p ≡ stepAt form h table at) where
+  pub count-end : p .found ≡ Refused → at - first ≡ length (shownFrom form h table first)
   count-end e =
-      let f = steps-end (g .fuel) h table at (shown-none (shownEntry h table at) (sym e ∙ found-is h table at a)) in
+      let f = steps-end (g .fuel) form h table at (shown-none (shownEntry form h table at) (sym e ∙ found-is form h table at a)) in
       let n = g .counted ∙ ap (λ (x : List RulePart). at - first + length x) f in
       omega arith
 
   module _ {s e : ℕ} (b : p .found ≡ Part s e) where
-    pub count-less : room table - p .at < room table - at
-    count-less = let q = on h table at a b in let n = shown-near h table at (q .1) in omega (arith, q .0)
+    pub count-less : room form table - p .at < room form table - at
+    count-less = let q = on form h table at a b in let n = shown-near form h table at (q .1) in omega (arith, q .0)
 
-    pub count-more : Counting h table first (p .at)
+    pub count-more : Counting form h table first (p .at)
     count-more = go (g .fuel) (g .enough) (g .counted)
       where
-        go : (n : ℕ) → room table ≤ at + n → length (shownFrom h table first) ≡ at - first + length (steps n h table at) → Counting h table first (p .at)
-        go zero l c = let q = on h table at a b in let n = shown-near h table at (q .1) in absurd (omega arith)
+        go : (n : ℕ) → room form table ≤ at + n → length (shownFrom form h table first) ≡ at - first + length (steps n form h table at) → Counting form h table first (p .at)
+        go zero l c = let q = on form h table at a b in let n = shown-near form h table at (q .1) in absurd (omega arith)
         go (suc n) l c =
-            let q = on h table at a b in
+            let q = on form h table at a b in
             let f = g .from in
-            let t = c ∙ ap (λ (x : List RulePart). at - first + length x) (steps-more n h table at (q .1)) in
+            let t = c ∙ ap (λ (x : List RulePart). at - first + length x) (steps-more n form h table at (q .1)) in
             rw (q .0) (record { fuel = n; enough = omega arith; from = omega arith; counted = omega arith })
 
 pub ruleset counts = (count-all, count-end, count-less, count-more)
 
 -- What is shown, in order
 
-steps-shown : (n : ℕ) (h : Bytes) (table : List ℕ) (at k : ℕ) → k < length (steps n h table at) → shownEntry h table (at + k) ≡ some (getD (steps n h table at) k (0, 0))
+steps-shown : (n : ℕ) (form : Form) (h : Bytes) (table : List ℕ) (at k : ℕ) → k < length (steps n form h table at) → shownEntry form h table (at + k) ≡ some (getD (steps n form h table at) k (0, 0))
 unfolding steps
-steps-shown zero h table at k l = absurd (omega arith)
-steps-shown (suc n) h table at k l = go (λ k l. steps-shown n h table (at + 1) k l) (shownEntry h table at) refl k l
+steps-shown zero form h table at k l = absurd (omega arith)
+steps-shown (suc n) form h table at k l = go (λ k l. steps-shown n form h table (at + 1) k l) (shownEntry form h table at) refl k l
   where
-    go : ((k : ℕ) → k < length (steps n h table (at + 1)) → shownEntry h table (at + 1 + k) ≡ some (getD (steps n h table (at + 1)) k (0, 0)))
-        → (o : Option RulePart) → shownEntry h table at ≡ o → (k : ℕ) → k < length {A = RulePart} (elim o [ none ↦ [] | some p ↦ p ∷ steps n h table (at + 1) ])
-        → shownEntry h table (at + k) ≡ some (getD {A = RulePart} (elim o [ none ↦ [] | some p ↦ p ∷ steps n h table (at + 1) ]) k (0, 0))
+    go : ((k : ℕ) → k < length (steps n form h table (at + 1)) → shownEntry form h table (at + 1 + k) ≡ some (getD (steps n form h table (at + 1)) k (0, 0)))
+        → (o : Option RulePart) → shownEntry form h table at ≡ o → (k : ℕ) → k < length {A = RulePart} (elim o [ none ↦ [] | some p ↦ p ∷ steps n form h table (at + 1) ])
+        → shownEntry form h table (at + k) ≡ some (getD {A = RulePart} (elim o [ none ↦ [] | some p ↦ p ∷ steps n form h table (at + 1) ]) k (0, 0))
     go next none e k l = absurd (omega arith)
     go next (some p) e zero l = let z : at + zero ≡ at = omega arith in rw z e
     go next (some p) e (suc k) l = let z : at + suc k ≡ at + 1 + k = omega arith in rw z (next k (omega arith))
 
-steps-ended : (n : ℕ) (h : Bytes) (table : List ℕ) (at : ℕ) → room table ≤ at + n → shownEntry h table (at + length (steps n h table at)) ≡ none
+steps-ended : (n : ℕ) (form : Form) (h : Bytes) (table : List ℕ) (at : ℕ) → room form table ≤ at + n → shownEntry form h table (at + length (steps n form h table at)) ≡ none
 unfolding steps
-steps-ended zero h table at l = let z : at + zero ≡ at = omega arith in rw z (past (shownEntry h table at) refl)
+steps-ended zero form h table at l = let z : at + zero ≡ at = omega arith in rw z (past (shownEntry form h table at) refl)
   where
-    past : (o : Option RulePart) → shownEntry h table at ≡ o → shownEntry h table at ≡ none
+    past : (o : Option RulePart) → shownEntry form h table at ≡ o → shownEntry form h table at ≡ none
     past none e = e
-    past (some p) e = let n = shown-near h table at e in absurd (omega arith)
-steps-ended (suc n) h table at l = go (steps-ended n h table (at + 1) (omega arith)) (shownEntry h table at) refl
+    past (some p) e = let n = shown-near form h table at e in absurd (omega arith)
+steps-ended (suc n) form h table at l = go (steps-ended n form h table (at + 1) (omega arith)) (shownEntry form h table at) refl
   where
-    go : shownEntry h table (at + 1 + length (steps n h table (at + 1))) ≡ none
-        → (o : Option RulePart) → shownEntry h table at ≡ o → shownEntry h table (at + length {A = RulePart} (elim o [ none ↦ [] | some p ↦ p ∷ steps n h table (at + 1) ])) ≡ none
+    go : shownEntry form h table (at + 1 + length (steps n form h table (at + 1))) ≡ none
+        → (o : Option RulePart) → shownEntry form h table at ≡ o → shownEntry form h table (at + length {A = RulePart} (elim o [ none ↦ [] | some p ↦ p ∷ steps n form h table (at + 1) ])) ≡ none
     go next none e = let z : at + zero ≡ at = omega arith in rw z e
-    go next (some p) e = let z : at + suc (length (steps n h table (at + 1))) ≡ at + 1 + length (steps n h table (at + 1)) = omega arith in rw z next
+    go next (some p) e = let z : at + suc (length (steps n form h table (at + 1))) ≡ at + 1 + length (steps n form h table (at + 1)) = omega arith in rw z next
 
 -- the walk's parts are, in order, what the entry call shows of the numbers from the first on
-pub walk-shown : (h : Bytes) (table : List ℕ) (first k : ℕ) → k < length (shownFrom h table first) → shownEntry h table (first + k) ≡ some (getD (shownFrom h table first) k (0, 0))
-walk-shown h table first k l = steps-shown (room table) h table first k l
+pub walk-shown : (form : Form) (h : Bytes) (table : List ℕ) (first k : ℕ) → k < length (shownFrom form h table first) → shownEntry form h table (first + k) ≡ some (getD (shownFrom form h table first) k (0, 0))
+walk-shown form h table first k l = steps-shown (room form table) form h table first k l
 
 -- and it ends where that call refuses
-pub walk-ended : (h : Bytes) (table : List ℕ) (first : ℕ) → shownEntry h table (first + length (shownFrom h table first)) ≡ none
-walk-ended h table first = steps-ended (room table) h table first (omega arith)
+pub walk-ended : (form : Form) (h : Bytes) (table : List ℕ) (first : ℕ) → shownEntry form h table (first + length (shownFrom form h table first)) ≡ none
+walk-ended form h table first = steps-ended (room form table) form h table first (omega arith)
 
-steps-moved : (n : ℕ) (h : Bytes) (table : List ℕ) (at k : ℕ) → k ≤ length (steps n h table at) → stepsTo k h table at ≡ at + k
+steps-moved : (n : ℕ) (form : Form) (h : Bytes) (table : List ℕ) (at k : ℕ) → k ≤ length (steps n form h table at) → stepsTo k form h table at ≡ at + k
 unfolding steps stepsTo
-steps-moved n h table at zero l = omega arith
-steps-moved zero h table at (suc k) l = absurd (omega arith)
-steps-moved (suc n) h table at (suc k) l = go (λ m. steps-moved n h table (at + 1) k m) (shownEntry h table at) l
+steps-moved n form h table at zero l = omega arith
+steps-moved zero form h table at (suc k) l = absurd (omega arith)
+steps-moved (suc n) form h table at (suc k) l = go (λ m. steps-moved n form h table (at + 1) k m) (shownEntry form h table at) l
   where
-    go : (k ≤ length (steps n h table (at + 1)) → stepsTo k h table (at + 1) ≡ at + 1 + k) → (o : Option RulePart) → suc k ≤ length {A = RulePart} (elim o [ none ↦ [] | some p ↦ p ∷ steps n h table (at + 1) ])
-        → stepsTo k h table (stepped at (shownAs o) .at) ≡ at + suc k
+    go : (k ≤ length (steps n form h table (at + 1)) → stepsTo k form h table (at + 1) ≡ at + 1 + k) → (o : Option RulePart) → suc k ≤ length {A = RulePart} (elim o [ none ↦ [] | some p ↦ p ∷ steps n form h table (at + 1) ])
+        → stepsTo k form h table (stepped at (shownAs o) .at) ≡ at + suc k
     go next none l = absurd (omega arith)
     go next (some p) l = let z : at + suc k ≡ at + 1 + k = omega arith in rw z (next (omega arith))
 
 -- until then each step leads to the next number
-pub walk-moved : (h : Bytes) (table : List ℕ) (first k : ℕ) → k ≤ length (shownFrom h table first) → stepsTo k h table first ≡ first + k
-walk-moved h table first k l = steps-moved (room table) h table first k l
+pub walk-moved : (form : Form) (h : Bytes) (table : List ℕ) (first k : ℕ) → k ≤ length (shownFrom form h table first) → stepsTo k form h table first ≡ first + k
+walk-moved form h table first k l = steps-moved (room form table) form h table first k l
 
 -- so the view's step number k shows what the entry call shows of entry first + k
-pub walk-found : (h : Bytes) (table : List ℕ) (first k : ℕ) → k ≤ length (shownFrom h table first) → stepAt h table (stepsTo k h table first) .found ≡ shownAs (shownEntry h table (first + k))
-walk-found h table first k l = rw (walk-moved h table first k l) (stepped-found (first + k) (shownAs (shownEntry h table (first + k))))
+pub walk-found : (form : Form) (h : Bytes) (table : List ℕ) (first k : ℕ) → k ≤ length (shownFrom form h table first) → stepAt form h table (stepsTo k form h table first) .found ≡ shownAs (shownEntry form h table (first + k))
+walk-found form h table first k l = rw (walk-moved form h table first k l) (stepped-found (first + k) (shownAs (shownEntry form h table (first + k))))

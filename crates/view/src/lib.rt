@@ -1,4 +1,5 @@
 // A header view: the lent bytes and the number of the next entry. Each step hands the view back with what it shows.
+use entries::form::Form;
 use header::shown;
 use header::shown::Shown;
 ghost use mathlib.Core.Path.{_≡_};
@@ -23,10 +24,10 @@ pub struct Moved<'a> {
 }
 
 // The entry of this number, and the next number; the same one where the entry is refused.
-pub fn step_at(h: &[u8], table: &[u64], at: usize) -> Stepped
-    ensures { λ r. ⌜ r ≡ stepAt (now (h .entry)) (now (table .entry)) at ⌝ }
+pub fn step_at(h: &[u8], table: &[u64], form: Form, at: usize) -> Stepped
+    ensures { λ r. ⌜ r ≡ stepAt form (now (h .entry)) (now (table .entry)) at ⌝ }
 {
-    let found = shown::entry(h, table, at);
+    let found = shown::entry(h, table, form, at);
     match found {
         Shown::Part { start: _, end: _ } => Stepped { found, at: at + 1 },
         Shown::Refused => Stepped { found, at },
@@ -41,10 +42,10 @@ impl<'a> View<'a> {
         View { header, at: 0 }
     }
 
-    pub fn next(self, table: &[u64]) -> Moved<'a>
-        ensures { λ r. ⌜ r ≡ movedTo (self .entry) (stepAt (now (self .entry .header)) (now (table .entry)) (self .entry .at)) ⌝ }
+    pub fn next(self, table: &[u64], form: Form) -> Moved<'a>
+        ensures { λ r. ⌜ r ≡ movedTo (self .entry) (stepAt form (now (self .entry .header)) (now (table .entry)) (self .entry .at)) ⌝ }
     {
-        let p = step_at(self.header, table, self.at);
+        let p = step_at(self.header, table, form, self.at);
         Moved {
             view: View {
                 header: self.header,
@@ -56,10 +57,10 @@ impl<'a> View<'a> {
 }
 
 // One step of a view that stands at this number, for callers that hold none.
-pub fn step_from(h: &[u8], table: &[u64], at: usize) -> Stepped
-    ensures { λ r. ⌜ r ≡ stepAt (now (h .entry)) (now (table .entry)) at ⌝ }
+pub fn step_from(h: &[u8], table: &[u64], form: Form, at: usize) -> Stepped
+    ensures { λ r. ⌜ r ≡ stepAt form (now (h .entry)) (now (table .entry)) at ⌝ }
 {
-    let m = View { header: h, at }.next(table);
+    let m = View { header: h, at }.next(table, form);
     Stepped {
         found: m.found,
         at: m.view.at,
@@ -67,12 +68,12 @@ pub fn step_from(h: &[u8], table: &[u64], at: usize) -> Stepped
 }
 
 // How many entries a view shows from number `first` on, up to the first that is refused.
-pub fn count_from(h: &[u8], table: &[u64], first: usize) -> usize
-    ensures { λ r. ⌜ r ≡ length (shownFrom (now (h .entry)) (now (table .entry)) first) ⌝ }
+pub fn count_from(h: &[u8], table: &[u64], form: Form, first: usize) -> usize
+    ensures { λ r. ⌜ r ≡ length (shownFrom form (now (h .entry)) (now (table .entry)) first) ⌝ }
 {
     let mut at = first;
     loop {
-        let p = step_from(h, table, at);
+        let p = step_from(h, table, form, at);
         let found = p.found;
         match found {
             Shown::Part { start: _, end: _ } => at = p.at,

@@ -3,6 +3,9 @@ use borrow.Author.Needs.{needs}
 use Rattle.capi.proofs.vcfh_entry.Statement.{statement}
 use Rattle.capi.proofs.vcfh_entry.Tie as tie
 
+form-of-requires : tie.Need-form-of-requires
+form-of-requires c κs = search needs
+
 entry-requires : tie.Need-entry-requires
 entry-requires c κs = search (parts, needs)
 
@@ -13,4 +16,4 @@ returns : tie.Need-returns
 returns c = search (parts, needs)
 
 pub vcfh-entry-spec : {M : Type 1} → statement M
-vcfh-entry-spec = tie.close (tie.spec entry-requires part-of-requires returns)
+vcfh-entry-spec = tie.close (tie.spec form-of-requires entry-requires part-of-requires returns)

@@ -6,6 +6,9 @@ use Rattle.capi.proofs.vcfh_odd.Tie as tie
 new-requires : tie.Need-new-requires
 new-requires c κs = search needs
 
+form-of-requires : tie.Need-form-of-requires
+form-of-requires c κs = search needs
+
 odd-entries-requires : tie.Need-odd-entries-requires
 odd-entries-requires c κs = search needs
 
@@ -20,4 +23,11 @@ returns c = search (odd, needs)
 
 pub vcfh-odd-spec : {M : Type 1} → statement M
 vcfh-odd-spec =
-    tie.close (tie.spec new-requires odd-entries-requires number-requires same-length returns)
+    tie.close
+    (tie.spec
+    new-requires
+    form-of-requires
+    odd-entries-requires
+    number-requires
+    same-length
+    returns)

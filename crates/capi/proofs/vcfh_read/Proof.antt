@@ -6,6 +6,9 @@ use Rattle.capi.proofs.vcfh_read.Tie as tie
 imposed-by-requires : tie.Need-imposed-by-requires
 imposed-by-requires c κs = search (readings, needs)
 
+form-of-requires : tie.Need-form-of-requires
+form-of-requires c κs = search needs
+
 read-requires : tie.Need-read-requires
 read-requires c κs = search (readings, needs)
 
@@ -20,4 +23,11 @@ returns c = search (readings, needs)
 
 pub vcfh-read-spec : {M : Type 1} → statement M
 vcfh-read-spec =
-    tie.close (tie.spec imposed-by-requires read-requires number-of-requires same-length returns)
+    tie.close
+    (tie.spec
+    imposed-by-requires
+    form-of-requires
+    read-requires
+    number-of-requires
+    same-length
+    returns)

@@ -7,7 +7,7 @@ use Rattle.cases.proofs.main.Statement.{statement}
 use Rattle.cases.proofs.main.Tie as tie
 
 abbrev Inv-loop : tie.InvT-loop
-Inv-loop file₀ input₀ form₀ count i₀ file input form i = (1048577 ≡ length file) × (1048577 ≡ length input) × (1048577 ≡ length form)
+Inv-loop file₀ input₀ form₀ count i₀ file input form i = (1200000 ≡ length file) × (1200000 ≡ length input) × (1200000 ≡ length form)
 
 abbrev μ-loop : tie.MeasureT-loop
 μ-loop file₀ input₀ form₀ count i₀ file input form i = count - i

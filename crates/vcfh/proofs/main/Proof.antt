@@ -4,13 +4,16 @@ use Rattle.vcfh.proofs.main.Statement.{statement}
 use Rattle.vcfh.proofs.main.Tie as tie
 
 abbrev Inv-loop : tie.InvT-loop
-Inv-loop had₀ cases k₀ had k = Unit {0}
+Inv-loop had₀ count cases k₀ had k = Unit {0}
 
 abbrev μ-loop : tie.MeasureT-loop
-μ-loop had₀ cases k₀ had k = cases - k
+μ-loop had₀ count cases k₀ had k = cases - k
 
 arg-count-requires : tie.Need-arg-count-requires Inv-loop μ-loop
 arg-count-requires c κs = search needs
+
+returns : tie.Need-returns Inv-loop μ-loop
+returns c = search needs
 
 loop-holds : tie.Need-loop-holds Inv-loop μ-loop
 loop-holds c = search needs
@@ -39,8 +42,8 @@ loop-less c = search needs
 loop-again : tie.Need-loop-again Inv-loop μ-loop
 loop-again c = search needs
 
-returns : tie.Need-returns Inv-loop μ-loop
-returns c = search needs
+returns-2 : tie.Need-returns-2 Inv-loop μ-loop
+returns-2 c = search needs
 
 pub main-spec : {M : Type 1} → statement M
 main-spec =
@@ -49,6 +52,7 @@ main-spec =
     Inv-loop
     μ-loop
     arg-count-requires
+    returns
     loop-holds
     mul-i
     add-case
@@ -58,4 +62,4 @@ main-spec =
     add-k
     loop-less
     loop-again
-    returns)
+    returns-2)

@@ -6,10 +6,10 @@ use Rattle.view.proofs.count_from.Statement.{statement}
 use Rattle.view.proofs.count_from.Tie as tie
 
 abbrev Inv-loop : tie.InvT-loop
-Inv-loop h table first at₀ at = Counting h table first at
+Inv-loop h table form first at₀ at = Counting form h table first at
 
 abbrev μ-loop : tie.MeasureT-loop
-μ-loop h table first at₀ at = room table - at
+μ-loop h table form first at₀ at = room form table - at
 
 loop-holds : tie.Need-loop-holds Inv-loop μ-loop
 loop-holds c = search (counts, needs)

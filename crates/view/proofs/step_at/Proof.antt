@@ -9,8 +9,8 @@ entry-requires c κs = search (one-step, needs)
 enum-told : tie.Need-enum-told
 enum-told c = search (one-step, needs)
 
-add-t6 : tie.Need-add-t6
-add-t6 c = search (one-step, needs)
+add-t7 : tie.Need-add-t7
+add-t7 c = search (one-step, needs)
 
 enum-told-2 : tie.Need-enum-told-2
 enum-told-2 c = search (one-step, needs)
@@ -22,4 +22,4 @@ returns-2 : tie.Need-returns-2
 returns-2 c = search (one-step, needs)
 
 pub step-at-spec : {M : Type 1} → statement M
-step-at-spec = tie.close (tie.spec entry-requires enum-told add-t6 enum-told-2 returns returns-2)
+step-at-spec = tie.close (tie.spec entry-requires enum-told add-t7 enum-told-2 returns returns-2)

@@ -6,10 +6,10 @@ use Rattle.cases.proofs.calls.put_fields.Statement.{statement}
 use Rattle.cases.proofs.calls.put_fields.Tie as tie
 
 abbrev Inv-loop : tie.InvT-loop
-Inv-loop out₀ at header table n version next₀ i₀ out next i = length out ≡ length out₀
+Inv-loop out₀ at header table form n version next₀ i₀ out next i = length out ≡ length out₀
 
 abbrev μ-loop : tie.MeasureT-loop
-μ-loop out₀ at header table n version next₀ i₀ out next i = 64 - i
+μ-loop out₀ at header table form n version next₀ i₀ out next i = 64 - i
 
 loop-holds : tie.Need-loop-holds Inv-loop μ-loop
 loop-holds c = search needs

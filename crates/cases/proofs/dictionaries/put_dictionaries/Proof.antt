@@ -24,6 +24,9 @@ returns-3 c = search needs
 imposed-requires : tie.Need-imposed-requires
 imposed-requires c κs = search needs
 
+form-requires : tie.Need-form-requires
+form-requires c κs = search needs
+
 slice-relend-prefix-dictionaries : tie.Need-slice-relend-prefix-dictionaries
 slice-relend-prefix-dictionaries c = search needs
 
@@ -74,6 +77,7 @@ put-dictionaries-spec =
     size-requires-3
     returns-3
     imposed-requires
+    form-requires
     slice-relend-prefix-dictionaries
     slice-aggregate-dictionaries
     slice-relend-prefix-dictionaries-2

@@ -15,6 +15,9 @@ returns c = search needs
 imposed-requires : tie.Need-imposed-requires
 imposed-requires c κs = search needs
 
+form-requires : tie.Need-form-requires
+form-requires c κs = search needs
+
 slice-aggregate-put-form : tie.Need-slice-aggregate-put-form
 slice-aggregate-put-form c = search (length-take-le, needs)
 
@@ -47,6 +50,7 @@ put-spec =
     size-requires
     returns
     imposed-requires
+    form-requires
     slice-aggregate-put-form
     size-requires-2
     slice-relend-prefix-put-form

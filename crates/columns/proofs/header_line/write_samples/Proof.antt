@@ -7,10 +7,10 @@ use Rattle.columns.proofs.header_line.write_samples.Statement.{statemen
 use Rattle.columns.proofs.header_line.write_samples.Tie as tie
 
 abbrev Inv-loop : tie.InvT-loop
-Inv-loop h start end n table₀ line from₀ k₀ table from k = Storing h start end line n table₀ table from k
+Inv-loop h start end n table₀ form line from₀ k₀ table from k = Storing form h start end line n table₀ table from k
 
 abbrev μ-loop : tie.MeasureT-loop
-μ-loop h start end n table₀ line from₀ k₀ table from k = length line - from
+μ-loop h start end n table₀ form line from₀ k₀ table from k = length line - from
 
 part-requires : tie.Need-part-requires Inv-loop μ-loop
 part-requires c κs = search (stores, next-fits, needs)

@@ -13,10 +13,10 @@ use Rattle.entries.proofs.table.count.Reads as count-reads
 use Rattle.entries.proofs.table.get.Reads as get-reads
 
 abbrev Inv-loop : tie.InvT-loop
-Inv-loop h kept dictionary given₀ missing₀ k₀ given missing k = Carrying dictionary h kept given missing k
+Inv-loop h kept form dictionary given₀ missing₀ k₀ given missing k = Carrying dictionary form h kept given missing k
 
 abbrev μ-loop : tie.MeasureT-loop
-μ-loop h kept dictionary given₀ missing₀ k₀ given missing k = room kept - k
+μ-loop h kept form dictionary given₀ missing₀ k₀ given missing k = room form kept - k
 
 -- src/numbering.rt:30:5
 loop-holds : tie.Need-loop-holds Inv-loop μ-loop

@@ -2,104 +2,76 @@ use Rattle.dictionary.proofs.Pairs.{turns}
 use borrow.Author.Needs.{needs}
 use Rattle.dictionary.proofs.numbering.number_line.Statement.{statement}
 use Rattle.dictionary.proofs.numbering.number_line.Tie as tie
-use Rattle.dictionary.proofs.numbering.number_line.Reads as reads
-use Rattle.dictionary.proofs.numbering.number_line.Lts as lts
-use Rattle.dictionary.proofs.numbering.put_pair.Reads as put-pair-reads
-use Rattle.dictionary.proofs.place.place_line.Reads as place-line-reads
 
--- src/numbering.rt:100:11
 place-line-requires : tie.Need-place-line-requires
 place-line-requires c κs = search (turns, needs)
 
--- src/numbering.rt:101:26
 enum-known-n : tie.Need-enum-known-n
 enum-known-n c = search (turns, needs)
 
--- src/numbering.rt:102:13
 put-pair-requires : tie.Need-put-pair-requires
 put-pair-requires c κs = search (turns, needs)
 
--- src/numbering.rt:104:24
-add-t23 : tie.Need-add-t23
-add-t23 c = search (turns, needs)
+add-t24 : tie.Need-add-t24
+add-t24 c = search (turns, needs)
 
--- src/numbering.rt:109:22
 enum-told : tie.Need-enum-told
 enum-told c = search (turns, needs)
 
--- src/numbering.rt:109:13
 put-pair-requires-2 : tie.Need-put-pair-requires-2
 put-pair-requires-2 c κs = search (turns, needs)
 
--- src/numbering.rt:111:24
-add-t28 : tie.Need-add-t28
-add-t28 c = search (turns, needs)
-
--- src/numbering.rt:112:23
 add-t29 : tie.Need-add-t29
 add-t29 c = search (turns, needs)
 
--- src/numbering.rt:115:37
+add-t30 : tie.Need-add-t30
+add-t30 c = search (turns, needs)
+
 enum-told-2 : tie.Need-enum-told-2
 enum-told-2 c = search (turns, needs)
 
--- src/numbering.rt:116:26
 enum-told-3 : tie.Need-enum-told-3
 enum-told-3 c = search (turns, needs)
 
--- src/numbering.rt:79:1
 same-length : tie.Need-same-length
 same-length c = search (turns, needs)
 
--- src/numbering.rt:79:1
 same-length-2 : tie.Need-same-length-2
 same-length-2 c = search (turns, needs)
 
--- src/numbering.rt:79:1
 same-length-3 : tie.Need-same-length-3
 same-length-3 c = search (turns, needs)
 
--- src/numbering.rt:79:1
 returns : tie.Need-returns
 returns c = (search (turns, needs), (search (turns, needs), (search (turns, needs), search (turns, needs))))
 
--- src/numbering.rt:79:1
 same-length-4 : tie.Need-same-length-4
 same-length-4 c = search (turns, needs)
 
--- src/numbering.rt:79:1
 same-length-5 : tie.Need-same-length-5
 same-length-5 c = search (turns, needs)
 
--- src/numbering.rt:79:1
 same-length-6 : tie.Need-same-length-6
 same-length-6 c = search (turns, needs)
 
--- src/numbering.rt:79:1
 returns-2 : tie.Need-returns-2
 returns-2 c = (search (turns, needs), (search (turns, needs), (search (turns, needs), search (turns, needs))))
 
--- src/numbering.rt:79:1
 same-length-7 : tie.Need-same-length-7
 same-length-7 c = search (turns, needs)
 
--- src/numbering.rt:79:1
 same-length-8 : tie.Need-same-length-8
 same-length-8 c = search (turns, needs)
 
--- src/numbering.rt:79:1
 returns-3 : tie.Need-returns-3
 returns-3 c = (search (turns, needs), (search (turns, needs), (search (turns, needs), search (turns, needs))))
 
--- src/numbering.rt:79:1
 same-length-9 : tie.Need-same-length-9
 same-length-9 c = search (turns, needs)
 
--- src/numbering.rt:79:1
 same-length-10 : tie.Need-same-length-10
 same-length-10 c = search (turns, needs)
 
--- src/numbering.rt:79:1
 returns-4 : tie.Need-returns-4
 returns-4 c = (search (turns, needs), (search (turns, needs), (search (turns, needs), search (turns, needs))))
 
@@ -110,11 +82,11 @@ number-line-spec =
     place-line-requires
     enum-known-n
     put-pair-requires
-    add-t23
+    add-t24
     enum-told
     put-pair-requires-2
-    add-t28
     add-t29
+    add-t30
     enum-told-2
     enum-told-3
     same-length

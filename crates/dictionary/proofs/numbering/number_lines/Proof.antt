@@ -15,10 +15,10 @@ use Rattle.entries.proofs.table.get.Reads as get-reads
 use Rattle.entries.proofs.table.kept.Reads as kept-reads
 
 abbrev Inv-loop : tie.InvT-loop
-Inv-loop h kept dictionary indexed out₀ marks₀ numbers₀ count₀ k₀ out marks numbers count k = Progress dictionary indexed h kept out₀ out marks₀ marks numbers₀ numbers count k
+Inv-loop h kept form dictionary indexed out₀ marks₀ numbers₀ count₀ k₀ out marks numbers count k = Progress dictionary indexed form h kept out₀ out marks₀ marks numbers₀ numbers count k
 
 abbrev μ-loop : tie.MeasureT-loop
-μ-loop h kept dictionary indexed out₀ marks₀ numbers₀ count₀ k₀ out marks numbers count k = room kept - k
+μ-loop h kept form dictionary indexed out₀ marks₀ numbers₀ count₀ k₀ out marks numbers count k = room form kept - k
 
 -- src/numbering.rt:134:15
 first-number-requires : tie.Need-first-number-requires Inv-loop μ-loop

@@ -13,10 +13,10 @@ use Rattle.entries.proofs.table.get.Reads as get-reads
 use Rattle.values.proofs.string.same_meaning.Reads as same-meaning-reads
 
 abbrev Inv-loop : tie.InvT-loop
-Inv-loop h ahead dictionary e id k₀ k = Finding dictionary h ahead e k
+Inv-loop h ahead form dictionary e id k₀ k = Finding dictionary form h ahead e k
 
 abbrev μ-loop : tie.MeasureT-loop
-μ-loop h ahead dictionary e id k₀ k = room ahead - k
+μ-loop h ahead form dictionary e id k₀ k = room form ahead - k
 
 -- src/place.rt:35:9
 id-part-requires : tie.Need-id-part-requires Inv-loop μ-loop

@@ -12,10 +12,10 @@ use Rattle.entries.proofs.table.count.Reads as count-reads
 use Rattle.entries.proofs.table.get.Reads as get-reads
 
 abbrev Inv-loop : tie.InvT-loop
-Inv-loop h ahead dictionary n k₀ k = Counting dictionary h ahead n k
+Inv-loop h ahead form dictionary n k₀ k = Counting dictionary form h ahead n k
 
 abbrev μ-loop : tie.MeasureT-loop
-μ-loop h ahead dictionary n k₀ k = room ahead - k
+μ-loop h ahead form dictionary n k₀ k = room form ahead - k
 
 -- src/place.rt:63:5
 loop-holds : tie.Need-loop-holds Inv-loop μ-loop

@@ -18,7 +18,7 @@ returns c = search (shown-entries, needs)
 
 add-end : tie.Need-add-end
 add-end c =
-    let i = found-inside _ _ _ (c .before .before .before .before .entry-at .ensures) (c .before .before .e .given .1) in
+    let i = found-inside _ _ _ _ (c .before .before .before .before .entry-at .ensures) (c .before .before .e .given .1) in
     omega arith
 
 returns-2 : tie.Need-returns-2

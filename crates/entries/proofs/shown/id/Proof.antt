@@ -25,13 +25,13 @@ returns-2 c = search (shown-ids, needs)
 add-start : tie.Need-add-start
 add-start c =
     let k = c .before .before .before in
-    let i = found-inside _ _ _ (k .before .before .before .entry-at .ensures) (k .before .e .given .1) in
+    let i = found-inside _ _ _ _ (k .before .before .before .entry-at .ensures) (k .before .e .given .1) in
     omega arith
 
 add-end : tie.Need-add-end
 add-end c =
     let k = c .before .before .before .before in
-    let i = found-inside _ _ _ (k .before .before .before .entry-at .ensures) (k .before .e .given .1) in
+    let i = found-inside _ _ _ _ (k .before .before .before .entry-at .ensures) (k .before .e .given .1) in
     omega arith
 
 returns-3 : tie.Need-returns-3

@@ -1,6 +1,5 @@
 use Prim.Native.Nat.{_-_}
 use lib.ListN.{length}
-use Rattle.entries.specs.Values.{limitsOf}
 use Rattle.header.specs.Verdicts.{imposedOf}
 use Rattle.header.proofs.Parsers.{Going, whole}
 use borrow.Author.Needs.{needs}
@@ -8,10 +7,13 @@ use Rattle.header.proofs.parser.read_lines.Statement.{statement}
 use Rattle.header.proofs.parser.read_lines.Tie as tie
 
 abbrev Inv-loop : tie.InvT-loop
-Inv-loop header table₀ marks₀ options parser₀ table marks parser = Going (limitsOf (options .limits)) (imposedOf (options .imposed)) header table₀ (options .ascii) marks₀ marks table parser
+Inv-loop header table₀ marks₀ options parser₀ table marks parser = Going (options .form) (imposedOf (options .imposed)) header table₀ (options .ascii) marks₀ marks table parser
 
 abbrev μ-loop : tie.MeasureT-loop
 μ-loop header table₀ marks₀ options parser₀ table marks parser = length header - parser .at
+
+limits-requires : tie.Need-limits-requires Inv-loop μ-loop
+limits-requires c κs = search (whole, needs)
 
 refuse-requires : tie.Need-refuse-requires Inv-loop μ-loop
 refuse-requires c κs = search (whole, needs)
@@ -73,6 +75,7 @@ read-lines-spec =
     (tie.spec
     Inv-loop
     μ-loop
+    limits-requires
     refuse-requires
     returns
     is-ascii-requires

@@ -26,7 +26,7 @@ returns-2 c = search (all-fields, needs)
 add-field-at : tie.Need-add-field-at
 add-field-at c =
     let k = c .before .before .before in
-    let i = found-inside _ _ _ (k .before .before .before .entry-at .ensures) (k .before .e .given .1) in
+    let i = found-inside _ _ _ _ (k .before .before .before .entry-at .ensures) (k .before .e .given .1) in
     omega arith
 
 field-at-requires : tie.Need-field-at-requires

@@ -3,6 +3,9 @@ use borrow.Author.Needs.{needs}
 use Rattle.header.proofs.verdict.judge_line.Statement.{statement}
 use Rattle.header.proofs.verdict.judge_line.Tie as tie
 
+limits-requires : tie.Need-limits-requires
+limits-requires c κs = search (all-lines, needs)
+
 is-done-requires : tie.Need-is-done-requires
 is-done-requires c κs = search (all-lines, needs)
 
@@ -34,6 +37,7 @@ pub judge-line-spec : {M : Type 1} → statement M
 judge-line-spec =
     tie.close
     (tie.spec
+    limits-requires
     is-done-requires
     returns
     part-requires

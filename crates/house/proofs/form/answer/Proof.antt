@@ -3,8 +3,8 @@ use borrow.Author.Needs.{needs}
 use Rattle.house.proofs.form.answer.Statement.{statement}
 use Rattle.house.proofs.form.answer.Tie as tie
 
-enum-known-form : tie.Need-enum-known-form
-enum-known-form c = search (answers, needs)
+enum-known-written : tie.Need-enum-known-written
+enum-known-written c = search (answers, needs)
 
 enum-told : tie.Need-enum-told
 enum-told c = search (answers, needs)
@@ -12,8 +12,8 @@ enum-told c = search (answers, needs)
 refuse-requires : tie.Need-refuse-requires
 refuse-requires c κs = search (answers, needs)
 
-enum-known-form-2 : tie.Need-enum-known-form-2
-enum-known-form-2 c = search (answers, needs)
+enum-known-written-2 : tie.Need-enum-known-written-2
+enum-known-written-2 c = search (answers, needs)
 
 refuse-requires-2 : tie.Need-refuse-requires-2
 refuse-requires-2 c κs = search (answers, needs)
@@ -40,10 +40,10 @@ pub answer-spec : {M : Type 1} → statement M
 answer-spec =
     tie.close
     (tie.spec
-    enum-known-form
+    enum-known-written
     enum-told
     refuse-requires
-    enum-known-form-2
+    enum-known-written-2
     refuse-requires-2
     enum-told-2
     refuse-requires-3

@@ -6,10 +6,10 @@ use Rattle.house.proofs.form.column_line.Statement.{statement}
 use Rattle.house.proofs.form.column_line.Tie as tie
 
 abbrev Inv-loop : tie.InvT-loop
-Inv-loop h kept k₀ k = Columns h kept k
+Inv-loop h kept form k₀ k = Columns form h kept k
 
 abbrev μ-loop : tie.MeasureT-loop
-μ-loop h kept k₀ k = room kept - k
+μ-loop h kept form k₀ k = room form kept - k
 
 loop-holds : tie.Need-loop-holds Inv-loop μ-loop
 loop-holds c = search (columns, needs)

@@ -3,6 +3,9 @@ use borrow.Author.Needs.{needs}
 use Rattle.house.proofs.form.write_form.Statement.{statement}
 use Rattle.house.proofs.form.write_form.Tie as tie
 
+limits-requires : tie.Need-limits-requires
+limits-requires c κs = search (writes, needs)
+
 slice-aggregate-put-form : tie.Need-slice-aggregate-put-form
 slice-aggregate-put-form c = search (writes, needs)
 
@@ -31,6 +34,7 @@ pub write-form-spec : {M : Type 1} → statement M
 write-form-spec =
     tie.close
     (tie.spec
+    limits-requires
     slice-aggregate-put-form
     put-form-requires
     returns

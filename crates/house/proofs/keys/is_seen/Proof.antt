@@ -6,10 +6,10 @@ use Rattle.house.proofs.keys.is_seen.Statement.{statement}
 use Rattle.house.proofs.keys.is_seen.Tie as tie
 
 abbrev Inv-loop : tie.InvT-loop
-Inv-loop h kept prefix k₀ k = Seens h prefix kept k
+Inv-loop h kept form prefix k₀ k = Seens form h prefix kept k
 
 abbrev μ-loop : tie.MeasureT-loop
-μ-loop h kept prefix k₀ k = room kept - k
+μ-loop h kept form prefix k₀ k = room form kept - k
 
 loop-holds : tie.Need-loop-holds Inv-loop μ-loop
 loop-holds c = search (seens, needs)

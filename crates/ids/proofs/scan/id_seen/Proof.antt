@@ -1,22 +1,22 @@
 use Prim.Native.Nat.{_-_}
 use lib.ListN.{length}
 use Rattle.entries.specs.Tables.{room}
-use Rattle.ids.proofs.Seen.{Ids, Within, ids, bytes, new-ended, bytes-differ}
+use Rattle.ids.proofs.Seen.{Ids, Within, ids, bytes, within-start, new-ended, bytes-differ}
 use borrow.Author.Needs.{needs}
 use Rattle.ids.proofs.scan.id_seen.Statement.{statement}
 use Rattle.ids.proofs.scan.id_seen.Tie as tie
 
 abbrev Inv-bytes : tie.InvT-bytes
-Inv-bytes h kept prefix kind id quoted last wanted found₀ k p q i₀ j₀ found i j = Within h prefix kind id quoted kept found k p q (i .at) (j .at)
+Inv-bytes h kept form prefix kind id quoted last wanted found₀ k p q i₀ j₀ found i j = Within h prefix kind id quoted form kept found k p q (i .at) (j .at)
 
 abbrev μ-bytes : tie.MeasureT-bytes
-μ-bytes h kept prefix kind id quoted last wanted found₀ k p q i₀ j₀ found i j = length p - i .at
+μ-bytes h kept form prefix kind id quoted last wanted found₀ k p q i₀ j₀ found i j = length p - i .at
 
 abbrev Inv-entries : tie.InvT-entries
-Inv-entries h kept prefix kind id quoted last wanted found₀ k₀ found k = Ids h prefix kind id quoted kept found k
+Inv-entries h kept form prefix kind id quoted last wanted found₀ k₀ found k = Ids h prefix kind id quoted form kept found k
 
 abbrev μ-entries : tie.MeasureT-entries
-μ-entries h kept prefix kind id quoted last wanted found₀ k₀ found k = room kept - k
+μ-entries h kept form prefix kind id quoted last wanted found₀ k₀ found k = room form kept - k
 
 last-byte-requires : tie.Need-last-byte-requires Inv-bytes μ-bytes Inv-entries μ-entries
 last-byte-requires c κs = search (ids, bytes, needs)
@@ -46,7 +46,10 @@ id-part-requires : tie.Need-id-part-requires Inv-bytes μ-bytes Inv-entries μ-e
 id-part-requires c κs = search (ids, bytes, needs)
 
 bytes-holds : tie.Need-bytes-holds Inv-bytes μ-bytes Inv-entries μ-entries
-bytes-holds c = search (ids, bytes, needs)
+bytes-holds c =
+    let e = c .before .before .before in
+    let l = e .before .before .before in
+    within-start (l .entries .inv) (e .before .before .count .ensures) (e .before .if1 .taken) (e .get .ensures) (c .before .before .is-candidate .ensures) (c .before .if2 .left) (c .id-part .ensures)
 
 next-unescaped-requires : tie.Need-next-unescaped-requires Inv-bytes μ-bytes Inv-entries μ-entries
 next-unescaped-requires c κs = search (ids, bytes, needs)

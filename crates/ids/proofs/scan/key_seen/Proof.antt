@@ -6,10 +6,10 @@ use Rattle.ids.proofs.scan.key_seen.Statement.{statement}
 use Rattle.ids.proofs.scan.key_seen.Tie as tie
 
 abbrev Inv-loop : tie.InvT-loop
-Inv-loop h kept prefix kind k₀ k = Keys h prefix kind kept k
+Inv-loop h kept form prefix kind k₀ k = Keys h prefix kind form kept k
 
 abbrev μ-loop : tie.MeasureT-loop
-μ-loop h kept prefix kind k₀ k = room kept - k
+μ-loop h kept form prefix kind k₀ k = room form kept - k
 
 loop-holds : tie.Need-loop-holds Inv-loop μ-loop
 loop-holds c = search (keys, needs)

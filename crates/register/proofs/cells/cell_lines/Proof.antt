@@ -4,10 +4,10 @@ use Rattle.register.proofs.cells.cell_lines.Statement.{statement}
 use Rattle.register.proofs.cells.cell_lines.Tie as tie
 
 abbrev Inv-loop : tie.InvT-loop
-Inv-loop h kept lines₀ k₀ lines k = Walked h kept lines k
+Inv-loop h kept form lines₀ k₀ lines k = Walked form h kept lines k
 
 abbrev μ-loop : tie.MeasureT-loop
-μ-loop h kept lines₀ k₀ lines k = k
+μ-loop h kept form lines₀ k₀ lines k = k
 
 count-requires : tie.Need-count-requires Inv-loop μ-loop
 count-requires c κs = search (walks, needs)

@@ -5,10 +5,10 @@ use Rattle.register.proofs.cells.constants.Statement.{statement}
 use Rattle.register.proofs.cells.constants.Tie as tie
 
 abbrev Inv-loop : tie.InvT-loop
-Inv-loop h kept lines found₀ well₀ found well = Filling h kept lines found well
+Inv-loop h kept form lines found₀ well₀ found well = Filling form h kept lines found well
 
 abbrev μ-loop : tie.MeasureT-loop
-μ-loop h kept lines found₀ well₀ found well = 40 - well
+μ-loop h kept form lines found₀ well₀ found well = 40 - well
 
 loop-holds : tie.Need-loop-holds Inv-loop μ-loop
 loop-holds c = search (fills, needs)

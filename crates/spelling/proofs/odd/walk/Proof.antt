@@ -7,10 +7,10 @@ use Rattle.spelling.proofs.odd.walk.Statement.{statement}
 use Rattle.spelling.proofs.odd.walk.Tie as tie
 
 abbrev Inv-loop : tie.InvT-loop
-Inv-loop h table version list₀ entries n₀ found₀ list n found = Walking h table (versionOf version) list₀ list n found
+Inv-loop h table form version list₀ entries n₀ found₀ list n found = Walking form h table (versionOf version) list₀ list n found
 
 abbrev μ-loop : tie.MeasureT-loop
-μ-loop h table version list₀ entries n₀ found₀ list n found = entries - n
+μ-loop h table form version list₀ entries n₀ found₀ list n found = entries - n
 
 count-requires : tie.Need-count-requires Inv-loop μ-loop
 count-requires c κs = search needs

@@ -36,6 +36,7 @@ use denote.Struct.Declared.{Declared}
 use denote.Struct.Laws as LL
 use denote.Struct.Rest.{all-own, ownAt, rest, own-open, own-out, own-put, own-shut}
 use denote.Struct.Values.{Values}
+use denote.Enum.Laws as EL
 use denote.Struct.At.{spelled}
 use denote.Triple.Statement.{Contract, Triple}
 use denote.Triple.Call.{calls-at}
@@ -48,6 +49,9 @@ use denote.Triple.Clauses.{ensured, lasts}
 use Rattle.view.specs.Steps.{stepAt, movedTo}
 use Rattle.view.specs.declared.View.{View}
 use Rattle.view.specs.declared.Stepped.{Stepped}
+use Rattle.entries.specs.declared.form.Form.{Form}
+use Rattle.entries.proofs.form.Form as F
+use Rattle.entries.proofs.form.Form.Laws as F′
 use Rattle.view.proofs.View as T
 use Rattle.view.proofs.View.Laws as T′
 use Rattle.view.proofs.Stepped as P
@@ -68,20 +72,24 @@ abbrev B : Lfts 2 → RattleType
 B κs = T.the-row (namedLft 2 0 tt κs)
 
 abbrev stayed : Stays (next.ended .signature .params) (next.ended .kept)
-stayed = (stay-none B yes, (stay-none-slice (1 ∷ []) tt (plain (λ _. u64)) yes, tt))
+stayed = (stay-none B yes, (stay-none-slice (1 ∷ []) tt (plain (λ _. u64)) yes, (stay-none (λ _. F.the-row) yes, tt)))
 
 module _ {M : Type 1} (𝓤 : URA M) (H : Heap 𝓤) (A : Atoms 𝓤) (mem : Memory → SProp 𝓤) (run : Routine → Fun 𝓤) where
   -- the contract that the proof cites
   abbrev StepAt : Contract 𝓤
   StepAt = tripleOf 𝓤 H A step.signature (step.spec 𝓤 H A mem run)
 
-module _ {M : Type 1} (𝓤 : URA M) (H : Heap 𝓤) (A : Atoms 𝓤) (W : Given 𝓤 H A) (mem : Memory → SProp 𝓤) (run : Routine → Fun 𝓤) (κ κ′ : Lft) (q q′ : Share) (d : View) (t : RefT (List ℕ)) where
+module _ {M : Type 1} (𝓤 : URA M) (H : Heap 𝓤) (A : Atoms 𝓤) (W : Given 𝓤 H A) (mem : Memory → SProp 𝓤) (run : Routine → Fun 𝓤) (κ κ′ : Lft) (q q′ : Share) (d : View) (t : RefT (List ℕ)) (f : Form) where
   abbrev κs : Lfts 2
   κs = (κ, (κ′, tt))
 
   -- the table's machine value, and what it owns
   abbrev tv : Val
   tv = sliceVal (t .ptr) (length (t .now))
+
+  -- the form's machine value, which owns nothing but what it says
+  abbrev fv : Val
+  fv = EL.val F.the-type F′.the-laws f
 
   abbrev OwnT : Fml
   OwnT = ShrSlice (named 1) κ′ u64 .own t (tv ∷ [])
@@ -94,10 +102,10 @@ module _ {M : Type 1} (𝓤 : URA M) (H : Heap 𝓤) (A : Atoms 𝓤) (W : Given
   v = sliceVal (d .header .ptr) (length (d .header .now))
 
   abbrev found : Stepped
-  found = stepAt (now (d .header)) (now t) (d .at)
+  found = stepAt f (now (d .header)) (now t) (d .at)
 
   abbrev Post : Val → SProp 𝓤
-  Post = walkOf 𝓤 H A next.ended stayed (next.clauses 𝓤 H A mem run) .post ((κs, (q, (q′, tt)), tt, (d, (t, tt)), (mach ∷ [], (tv ∷ [], tt))), tt)
+  Post = walkOf 𝓤 H A next.ended stayed (next.clauses 𝓤 H A mem run) .post ((κs, (q, (q′, tt)), tt, (d, (t, (f, tt))), (mach ∷ [], (tv ∷ [], (fv ∷ [], tt)))), tt)
 
   abbrev Own : Fml
   Own = B κs .own d (mach ∷ [])
@@ -131,35 +139,35 @@ module _ {M : Type 1} (𝓤 : URA M) (H : Heap 𝓤) (A : Atoms 𝓤) (W : Given
 
   -- what the callee is passed
   abbrev passed : Vals step.signature κs
-  passed = (v ∷ [], (tv ∷ [], (vint w64 (d .at) ∷ [], tt)))
+  passed = (v ∷ [], (tv ∷ [], (fv ∷ [], (vint w64 (d .at) ∷ [], tt))))
 
   abbrev to : StepAt 𝓤 H A mem run .Ghost
-  to = ((κs, (q, (q′, tt)), tt, (d .header, (t, (d .at, tt))), passed), tt)
+  to = ((κs, (q, (q′, tt)), tt, (d .header, (t, (f, (d .at, tt)))), passed), tt)
 
-  asked : ent 𝓤 (onEntry 𝓤 H A step.signature κs (q, (q′, tt)) (d .header, (t, (d .at, tt))) passed) (StepAt 𝓤 H A mem run .pre to)
-  asked = qed W ((‵ (flft κ q) ⊛ ‵ (flft κ′ q′) ⊛ ‵ ftrue) ∷ ‵ (owns (ShrSlice (named 0) κ u8 ∷ ShrSlice (named 1) κ′ u64 ∷ usize ∷ []) (d .header, (t, (d .at, tt))) passed) ∷ []) ∵ join ! $ frame ! $ done !
+  asked : ent 𝓤 (onEntry 𝓤 H A step.signature κs (q, (q′, tt)) (d .header, (t, (f, (d .at, tt)))) passed) (StepAt 𝓤 H A mem run .pre to)
+  asked = qed W ((‵ (flft κ q) ⊛ ‵ (flft κ′ q′) ⊛ ‵ ftrue) ∷ ‵ (owns (ShrSlice (named 0) κ u8 ∷ ShrSlice (named 1) κ′ u64 ∷ F.the-row ∷ usize ∷ []) (d .header, (t, (f, (d .at, tt)))) passed) ∷ []) ∵ join ! $ frame ! $ done !
 
   -- what the view owns gives what the callee asks, and is kept
-  apart : d .at < 2 ^ 64 → ent 𝓤 (onEntry 𝓤 H A next.signature κs (q, (q′, tt)) (d, (t, tt)) (mach ∷ [], (tv ∷ [], tt))) (sep 𝓤 (StepAt 𝓤 H A mem run .pre to) (sep 𝓤 (sem 𝓤 H A Own) (sem 𝓤 H A OwnT)))
-  apart fits =
-      qed W ((‵ (flft κ q) ⊛ ‵ (flft κ′ q′) ⊛ ‵ ftrue) ∷ ‵ (owns (B κs ∷ ShrSlice (named 1) κ′ u64 ∷ []) (d, (t, tt)) (mach ∷ [], (tv ∷ [], tt))) ∷ []) ∵
+  apart : d .at < 2 ^ 64 → Is F.the-row f (fv ∷ []) → ent 𝓤 (onEntry 𝓤 H A next.signature κs (q, (q′, tt)) (d, (t, (f, tt))) (mach ∷ [], (tv ∷ [], (fv ∷ [], tt)))) (sep 𝓤 (StepAt 𝓤 H A mem run .pre to) (sep 𝓤 (sem 𝓤 H A Own) (sem 𝓤 H A OwnT)))
+  apart fits pf =
+      qed W ((‵ (flft κ q) ⊛ ‵ (flft κ′ q′) ⊛ ‵ ftrue) ∷ ‵ (owns (B κs ∷ ShrSlice (named 1) κ′ u64 ∷ F.the-row ∷ []) (d, (t, (f, tt))) (mach ∷ [], (tv ∷ [], (fv ∷ [], tt)))) ∷ []) ∵
       move ! (1 ∷ []) $ fsplit ! $ move ! (1 ∷ []) $ fsplit ! $ move ! (1 ∷ []) $ drop ! $ use1 W (‵ OwnT ⊛ ‵ OwnT) (shr-slice-copy 𝓤 H A W (named 1) κ′ u64 .twice t (tv ∷ [])) $ split ! $
       move ! (2 ∷ []) $ use1 W (‵ Own ⊛ ‵ Own) (LL.copy D (T′.the-copy (namedLft 2 0 tt κs)) 𝓤 H A W .twice d (mach ∷ [])) $ split ! $
       use1 W (given (mach ∷ [] ≡ mach ∷ []) (‵ (all-own (D .parts) L vd))) (own-open 𝓤 H A W D L vd mach) $ learn ! (λ _. use1 W (‵ (ownAt (D .parts) L 0 (d .header)) ⊛ ‵ (rest (D .parts) L 0 vd)) (own-out 𝓤 H A W (D .parts) L 0 vd) $ split ! $
       -- [what the slice owns; what at owns; what the view owns; what the table owns, twice; the tokens]
-      move ! (1 ∷ []) $ drop ! $ nothing ! $ owned ! usize (Is usize) (uint-makes 𝓤 H A W w64) (d .at) _ (refl, fits) $ fjoin ! $ move ! (3 ∷ 0 ∷ []) $ fjoin ! $ move ! (1 ∷ 0 ∷ []) $ fjoin ! $
+      move ! (1 ∷ []) $ drop ! $ nothing ! $ owned ! usize (Is usize) (uint-makes 𝓤 H A W w64) (d .at) _ (refl, fits) $ fjoin ! $ owned ! F.the-row (Is F.the-row) (EL.makes F.the-type F′.the-plain 𝓤 H A) f _ pf $ fjoin ! $ move ! (3 ∷ 0 ∷ []) $ fjoin ! $ move ! (1 ∷ 0 ∷ []) $ fjoin ! $
       move ! (3 ∷ 0 ∷ []) $ use2 W (raw (StepAt 𝓤 H A mem run .pre to)) asked $ frame ! $ frame ! $ done !)
 
   -- of the callee's `ensured`, the clause alone
-  said : (p : Stepped) → ent 𝓤 (ensured 𝓤 H A step.ended (step.clauses 𝓤 H A mem run) κs (d .header, (t, (d .at, tt))) tt p) (fact 𝓤 (p ≡ found))
-  said p = exE 𝓤 _ (λ ws. snd∗ 𝓤 (sem 𝓤 H A (lasts step.ended κs (d .header, (t, (d .at, tt))) ws)) (fact 𝓤 (p ≡ found)))
+  said : (p : Stepped) → ent 𝓤 (ensured 𝓤 H A step.ended (step.clauses 𝓤 H A mem run) κs (d .header, (t, (f, (d .at, tt)))) tt p) (fact 𝓤 (p ≡ found))
+  said p = exE 𝓤 _ (λ ws. snd∗ 𝓤 (sem 𝓤 H A (lasts step.ended κs (d .header, (t, (f, (d .at, tt)))) ws)) (fact 𝓤 (p ≡ found)))
 
-  exits : (p : Stepped) (u : Val) → p ≡ found → p .at < 2 ^ 64 → ent 𝓤 (⋆ 𝓤 H A (‵ (P.the-row .own p (u ∷ [])) ∷ (‵ (flft κ q) ⊛ ‵ (flft κ′ q′) ⊛ ‵ ftrue) ∷ ‵ Own ∷ ‵ OwnT ∷ [])) (Post (out p))
-  exits p u e fits =
+  exits : (p : Stepped) (u : Val) → p ≡ found → p .at < 2 ^ 64 → Is F.the-row f (fv ∷ []) → ent 𝓤 (⋆ 𝓤 H A (‵ (P.the-row .own p (u ∷ [])) ∷ (‵ (flft κ q) ⊛ ‵ (flft κ′ q′) ⊛ ‵ ftrue) ∷ ‵ Own ∷ ‵ OwnT ∷ [])) (Post (out p))
+  exits p u e fits pf =
       qed W (‵ (P.the-row .own p (u ∷ [])) ∷ (‵ (flft κ q) ⊛ ‵ (flft κ′ q′) ⊛ ‵ ftrue) ∷ ‵ Own ∷ ‵ OwnT ∷ []) ∵
-      suffices ! _ (ends-at 𝓤 H A next.ended stayed (next.clauses 𝓤 H A mem run) W ((κs, (q, (q′, tt)), tt, (d, (t, tt)), (mach ∷ [], (tv ∷ [], tt))), tt) (out p) (movedTo d p) (tt, (tt, tt)) (tt, (tt, tt))) $ says ! (ap (movedTo d) e) $
+      suffices ! _ (ends-at 𝓤 H A next.ended stayed (next.clauses 𝓤 H A mem run) W ((κs, (q, (q′, tt)), tt, (d, (t, (f, tt))), (mach ∷ [], (tv ∷ [], (fv ∷ [], tt)))), tt) (out p) (movedTo d p) (tt, (tt, (tt, tt))) (tt, (tt, (tt, tt)))) $ says ! (ap (movedTo d) e) $
       move ! (1 ∷ []) $ frame ! $ move ! (1 ∷ []) $ use1 W (‵ Own ⊛ ‵ Own) (LL.copy D (T′.the-copy (namedLft 2 0 tt κs)) 𝓤 H A W .twice d (mach ∷ [])) $ split ! $
-      nothing ! $ move ! (4 ∷ 0 ∷ []) $ fjoin ! $ move ! (1 ∷ 0 ∷ []) $ fjoin ! $ frame ! $
+      nothing ! $ owned ! F.the-row (Is F.the-row) (EL.makes F.the-type F′.the-plain 𝓤 H A) f _ pf $ fjoin ! $ move ! (4 ∷ 0 ∷ []) $ fjoin ! $ move ! (1 ∷ 0 ∷ []) $ fjoin ! $ frame ! $
       -- [what the view owns; the callee's result]: the next place takes at's
       owned ! usize (Is usize) (uint-makes 𝓤 H A W w64) (p .at) _ (refl, fits) $ move ! (1 ∷ 0 ∷ []) $
       use2 W (‵ (B κs .own (to-n (p .at)) (T′.lowered (to-n (p .at)) ∷ []))) (own-put 𝓤 H A W D L 1 vd (p .at) mach) $ move ! (1 ∷ []) $
@@ -170,38 +178,38 @@ module _ {M : Type 1} (𝓤 : URA M) (H : Heap 𝓤) (A : Atoms 𝓤) (W : Given
       by ! (own-shut 𝓤 H A W E K (to-n (p .at), (p .found, tt))))
 
   module _ (C : Calls 𝓤 H) (Λ : Loops 𝓤 H) (fm : FmC 𝓤 H (W .laws) C) (known : Triple 𝓤 (C #view·step-at) (StepAt 𝓤 H A mem run)) where
-    walk : Holds (hasTy (T′.mir (named 0)) mach) × WT mach → Is (ShrSlice (named 1) κ′ u64) t (tv ∷ []) → ent 𝓤 (onEntry 𝓤 H A next.signature κs (q, (q′, tt)) (d, (t, tt)) (mach ∷ [], (tv ∷ [], tt))) (WpFn 𝓤 H C Λ code.function (mach ∷ tv ∷ []) Post)
-    walk wt pt =
-        qed W (raw (onEntry 𝓤 H A next.signature κs (q, (q′, tt)) (d, (t, tt)) (mach ∷ [], (tv ∷ [], tt))) ∷ []) ∵ enter ! C Λ code.function (mach ∷ tv ∷ []) _ $
-        alloc1 ! (λ l₀. alloc1 ! (λ l₁. alloc1 ! (λ l₂. alloc1 ! (λ l₃. alloc1 ! (λ l₄. alloc1 ! (λ l₅. alloc1 ! (λ l₆. alloc1 ! (λ l₇. alloc0 ! $ params1 ! $ pass1 ! (init ! 12 refl wt) $ pass1 ! (init ! 10 refl (shr-slice-lawful 𝓤 H A W (named 1) κ′ u64 .typed t (tv ∷ []) pt .0)) $ pass0 ! $
-        -- [room for _7; …; _6 at 2; _5 at 4; _4 at 6; _3 at 8; _2 at 10; _1 at 12; _0 at 14; the entry at 16]
-        assigns ! (of-opd ! (load ! (from ! (fld ! refl (stop !))) (look-in ! 12 (sub ! 0 refl (whole !))))) (from ! (stop !)) (init ! 6 refl (tt, wt .1 .0)) $
-        assigns ! (of-opd ! (load ! (from ! (fld ! refl (stop !))) (look-in ! 12 (sub ! 1 refl (whole !))))) (from ! (stop !)) (init ! 4 refl (tt, wt .1 .1 .0)) $
-        move ! (16 ∷ []) $ use1 W (raw (StepAt 𝓤 H A mem run .pre to) ⊛ ‵ Own ⊛ ‵ OwnT) (apart (wt .1 .1 .0 .fits)) $ split ! $ move ! (1 ∷ []) $ split ! $ move ! (2 ∷ []) $
-        calls-at ! fm (StepAt 𝓤 H A mem run) known to (and-then ! (load ! (from ! (stop !)) (look ! 9 refl)) (and-then ! (load ! (from ! (stop !)) (look ! 13 refl)) (and-then ! (load ! (from ! (stop !)) (look ! 7 refl)) (no-more !)))) (λ u.
-        use1 W (later (some (λ (p : Stepped). ((‵ (flft κ q) ⊛ ‵ (flft κ′ q′) ⊛ ‵ ftrue) ⊛ ‵ (P.the-row .own p (u ∷ []))) ⊛ raw (ensured 𝓤 H A step.ended (step.clauses 𝓤 H A mem run) κs (d .header, (t, (d .at, tt))) tt p)))) (id⊢ 𝓤 _) $ await ! tt $ pick ! (λ p.
+    walk : Holds (hasTy (T′.mir (named 0)) mach) × WT mach → Is (ShrSlice (named 1) κ′ u64) t (tv ∷ []) → Is F.the-row f (fv ∷ []) → ent 𝓤 (onEntry 𝓤 H A next.signature κs (q, (q′, tt)) (d, (t, (f, tt))) (mach ∷ [], (tv ∷ [], (fv ∷ [], tt)))) (WpFn 𝓤 H C Λ code.function (mach ∷ tv ∷ fv ∷ []) Post)
+    walk wt pt pf =
+        qed W (raw (onEntry 𝓤 H A next.signature κs (q, (q′, tt)) (d, (t, (f, tt))) (mach ∷ [], (tv ∷ [], (fv ∷ [], tt)))) ∷ []) ∵ enter ! C Λ code.function (mach ∷ tv ∷ fv ∷ []) _ $
+        alloc1 ! (λ l₀. alloc1 ! (λ l₁. alloc1 ! (λ l₂. alloc1 ! (λ l₃. alloc1 ! (λ l₄. alloc1 ! (λ l₅. alloc1 ! (λ l₆. alloc1 ! (λ l₇. alloc1 ! (λ l₈. alloc0 ! $ params1 ! $ pass1 ! (init ! 14 refl wt) $ pass1 ! (init ! 12 refl (shr-slice-lawful 𝓤 H A W (named 1) κ′ u64 .typed t (tv ∷ []) pt .0)) $ pass1 ! (init ! 10 refl (EL.lawful F.the-type F′.the-laws 𝓤 H A W tt .typed f _ pf .0)) $ pass0 ! $
+        -- [room for _8; …; _7 at 2; _6 at 4; _5 at 6; _4 at 8; _3 at 10; _2 at 12; _1 at 14; _0 at 16; the entry at 18]
+        assigns ! (of-opd ! (load ! (from ! (fld ! refl (stop !))) (look-in ! 14 (sub ! 0 refl (whole !))))) (from ! (stop !)) (init ! 6 refl (tt, wt .1 .0)) $
+        assigns ! (of-opd ! (load ! (from ! (fld ! refl (stop !))) (look-in ! 14 (sub ! 1 refl (whole !))))) (from ! (stop !)) (init ! 4 refl (tt, wt .1 .1 .0)) $
+        move ! (18 ∷ []) $ use1 W (raw (StepAt 𝓤 H A mem run .pre to) ⊛ ‵ Own ⊛ ‵ OwnT) (apart (wt .1 .1 .0 .fits) pf) $ split ! $ move ! (1 ∷ []) $ split ! $ move ! (2 ∷ []) $
+        calls-at ! fm (StepAt 𝓤 H A mem run) known to (and-then ! (load ! (from ! (stop !)) (look ! 9 refl)) (and-then ! (load ! (from ! (stop !)) (look ! 15 refl)) (and-then ! (load ! (from ! (stop !)) (look ! 13 refl)) (and-then ! (load ! (from ! (stop !)) (look ! 7 refl)) (no-more !))))) (λ u.
+        use1 W (later (some (λ (p : Stepped). ((‵ (flft κ q) ⊛ ‵ (flft κ′ q′) ⊛ ‵ ftrue) ⊛ ‵ (P.the-row .own p (u ∷ []))) ⊛ raw (ensured 𝓤 H A step.ended (step.clauses 𝓤 H A mem run) κs (d .header, (t, (f, (d .at, tt)))) tt p)))) (id⊢ 𝓤 _) $ await ! tt $ pick ! (λ p.
         split ! $ move ! (1 ∷ []) $ use1 W (raw (fact 𝓤 (p ≡ found))) (said p) $ heard ! (p ≡ found) (λ e. split ! $ move ! (1 ∷ []) $
-        -- [the result; the token; what the view owns; what the table owns; room for _7; …]
+        -- [the result; the token; what the view owns; what the table owns; room for _8; …]
         peeks ! P.the-row (Is P.the-row) (shows 𝓤 H A P.the-row) p (u ∷ []) (λ is.
         let wp = subst (λ (w : Val). Holds (hasTy P′.mir w) × WT w) (ap only (LL.tells P.the-type P′.the-laws p (u ∷ []) is)) (LL.lawful P.the-type P′.the-laws 𝓤 H A W .typed p _ is .0) in
         land ! (from ! (stop !)) (init ! 12 refl (LL.lawful P.the-type P′.the-laws 𝓤 H A W .typed p _ is .0)) $
-        rewrite ! 12 (λ (w : Val). ‵ (fat fullShare P′.mir l₃ 0 w)) (ap only (LL.tells P.the-type P′.the-laws p (u ∷ []) is)) refl $
-        assigns ! (of-opd ! (load ! (from ! (fld ! refl (stop !))) (look-in ! 16 (sub ! 0 refl (whole !))))) (from ! (stop !)) (init ! 6 refl (tt, wt .1 .0)) $
+        rewrite ! 12 (λ (w : Val). ‵ (fat fullShare P′.mir l₄ 0 w)) (ap only (LL.tells P.the-type P′.the-laws p (u ∷ []) is)) refl $
+        assigns ! (of-opd ! (load ! (from ! (fld ! refl (stop !))) (look-in ! 18 (sub ! 0 refl (whole !))))) (from ! (stop !)) (init ! 6 refl (tt, wt .1 .0)) $
         assigns ! (agg ! (and-then ! (load ! (from ! (stop !)) (look ! 6 refl)) (and-then ! (load ! (from ! (fld ! refl (stop !))) (look-in ! 12 (sub ! 1 refl (whole !)))) (no-more !)))) (from ! (stop !)) (init ! 4 refl (tt, (wt .1 .0, (wp .1 .1 .0, tt)))) $
-        assigns ! (agg ! (and-then ! (load ! (from ! (stop !)) (look ! 4 refl)) (and-then ! (load ! (from ! (fld ! refl (stop !))) (look-in ! 12 (sub ! 0 refl (whole !)))) (no-more !)))) (from ! (stop !)) (init ! 18 refl (wp .0, ((wt .1 .0, (wp .1 .1 .0, tt)), (wp .1 .0, tt)))) $
-        returns ! (look ! 18 refl) $ forget ! 4 refl $ forget ! 6 refl $ forget ! 8 refl $ forget ! 10 refl $ forget ! 12 refl $ forget ! 14 refl $ forget ! 16 refl $ forget ! 18 refl $
-        move ! (18 ∷ 19 ∷ []) $ free1 ! $ move ! (16 ∷ 17 ∷ []) $ free1 ! $ move ! (14 ∷ 15 ∷ []) $ free1 ! $ move ! (12 ∷ 13 ∷ []) $ free1 ! $ move ! (10 ∷ 11 ∷ []) $ free1 ! $ move ! (8 ∷ 9 ∷ []) $ free1 ! $ move ! (6 ∷ 7 ∷ []) $ free1 ! $ move ! (4 ∷ 5 ∷ []) $ free1 ! $ free0 ! $ by ! (exits p u e (wp .1 .1 .0 .fits))))))))))))))
+        assigns ! (agg ! (and-then ! (load ! (from ! (stop !)) (look ! 4 refl)) (and-then ! (load ! (from ! (fld ! refl (stop !))) (look-in ! 12 (sub ! 0 refl (whole !)))) (no-more !)))) (from ! (stop !)) (init ! 20 refl (wp .0, ((wt .1 .0, (wp .1 .1 .0, tt)), (wp .1 .0, tt)))) $
+        returns ! (look ! 20 refl) $ forget ! 4 refl $ forget ! 6 refl $ forget ! 8 refl $ forget ! 10 refl $ forget ! 12 refl $ forget ! 14 refl $ forget ! 16 refl $ forget ! 18 refl $ forget ! 20 refl $
+        move ! (20 ∷ 21 ∷ []) $ free1 ! $ move ! (18 ∷ 19 ∷ []) $ free1 ! $ move ! (16 ∷ 17 ∷ []) $ free1 ! $ move ! (14 ∷ 15 ∷ []) $ free1 ! $ move ! (12 ∷ 13 ∷ []) $ free1 ! $ move ! (10 ∷ 11 ∷ []) $ free1 ! $ move ! (8 ∷ 9 ∷ []) $ free1 ! $ move ! (6 ∷ 7 ∷ []) $ free1 ! $ move ! (4 ∷ 5 ∷ []) $ free1 ! $ free0 ! $ by ! (exits p u e (wp .1 .1 .0 .fits) pf))))))))))))))
 
 module _ {M : Type 1} (𝓤 : URA M) (H : Heap 𝓤) (A : Atoms 𝓤) (W : Given 𝓤 H A) (mem : Memory → SProp 𝓤) (run : Routine → Fun 𝓤) where
   next-walks : (C : Calls 𝓤 H) (Λ : Loops 𝓤 H) → FmC 𝓤 H (W .laws) C → Triple 𝓤 (C #view·step-at) (StepAt 𝓤 H A mem run)
       → Walks 𝓤 H A next.ended stayed (WpFn 𝓤 H C Λ code.function) (next.clauses 𝓤 H A mem run)
-  next-walks C Λ fm known = walked 𝓤 H A next.ended stayed (next.clauses 𝓤 H A mem run) (WpFn 𝓤 H C Λ code.function) (λ κs. (LL.vals (T.the-type (namedLft 2 0 tt κs)) (T′.the-laws (namedLft 2 0 tt κs)), (slice-vals, tt))) (λ κs. (LL.tells (T.the-type (namedLft 2 0 tt κs)) (T′.the-laws (namedLft 2 0 tt κs)), (shr-slice-tells (named 1) (κs .1 .0) u64, tt)))
-      (λ κs qs bounds a g are. via 𝓤 _ (fst∗ 𝓤 _ (emp 𝓤)) (walk 𝓤 H A W mem run (κs .0) (κs .1 .0) (qs .0) (qs .1 .0) (a .0) (a .1 .0) C Λ fm known (LL.lawful (T.the-type (namedLft 2 0 tt κs)) (T′.the-laws (namedLft 2 0 tt κs)) 𝓤 H A W .typed (a .0) _ (are .0) .0) (are .1 .0)))
+  next-walks C Λ fm known = walked 𝓤 H A next.ended stayed (next.clauses 𝓤 H A mem run) (WpFn 𝓤 H C Λ code.function) (λ κs. (LL.vals (T.the-type (namedLft 2 0 tt κs)) (T′.the-laws (namedLft 2 0 tt κs)), (slice-vals, (EL.vals F.the-type F′.the-laws, tt)))) (λ κs. (LL.tells (T.the-type (namedLft 2 0 tt κs)) (T′.the-laws (namedLft 2 0 tt κs)), (shr-slice-tells (named 1) (κs .1 .0) u64, (EL.tells F.the-type F′.the-laws, tt))))
+      (λ κs qs bounds a g are. via 𝓤 _ (fst∗ 𝓤 _ (emp 𝓤)) (walk 𝓤 H A W mem run (κs .0) (κs .1 .0) (qs .0) (qs .1 .0) (a .0) (a .1 .0) (a .1 .1 .0) C Λ fm known (LL.lawful (T.the-type (namedLft 2 0 tt κs)) (T′.the-laws (namedLft 2 0 tt κs)) 𝓤 H A W .typed (a .0) _ (are .0) .0) (are .1 .0) (are .1 .1 .0)))
 
 next-meets : {M : Type 1} (𝓤 : URA M) (H : Heap 𝓤) (A : Atoms 𝓤) (W : Given 𝓤 H A) (mem : Memory → SProp 𝓤) (run : Routine → Fun 𝓤) (𝓣 : Tables 𝓤 H)
     → Triple 𝓤 (𝓣 .C #view·step-at) (StepAt 𝓤 H A mem run)
     → Meets 𝓤 H A next.signature (WpFn 𝓤 H (𝓣 .C) (𝓣 .Λ) code.function) (next.spec 𝓤 H A mem run)
-next-meets 𝓤 H A W mem run 𝓣 known-step = walk-meets 𝓤 H A next.ended stayed W (goes-none 𝓤 H A W 2 B yes (λ κs x f. refl), (goes-none-slice 𝓤 H A W 2 (1 ∷ []) tt (plain (λ _. u64)) yes, tt)) (next.clauses 𝓤 H A mem run) (WpFn 𝓤 H (𝓣 .C) (𝓣 .Λ) code.function) (WpFn-mono 𝓤 H (W .laws) 𝓣 code.function)
+next-meets 𝓤 H A W mem run 𝓣 known-step = walk-meets 𝓤 H A next.ended stayed W (goes-none 𝓤 H A W 2 B yes (λ κs x f. refl), (goes-none-slice 𝓤 H A W 2 (1 ∷ []) tt (plain (λ _. u64)) yes, (goes-none 𝓤 H A W 2 (λ _. F.the-row) yes (λ κs x f. refl), tt))) (next.clauses 𝓤 H A mem run) (WpFn 𝓤 H (𝓣 .C) (𝓣 .Λ) code.function) (WpFn-mono 𝓤 H (W .laws) 𝓣 code.function)
     (next-walks 𝓤 H A W mem run (𝓣 .C) (𝓣 .Λ) (fmOf 𝓤 H (W .laws) 𝓣) known-step)
 
 pub next-spec : {M : Type 1} → stated.statement M

@@ -28,8 +28,8 @@ same-length c = search (keeps, next-fits, needs)
 returns : tie.Need-returns
 returns c = search (keeps, next-fits, needs)
 
-add-t22 : tie.Need-add-t22
-add-t22 c = search (keeps, next-fits, needs)
+add-t23 : tie.Need-add-t23
+add-t23 c = search (keeps, next-fits, needs)
 
 enum-known-verdict-3 : tie.Need-enum-known-verdict-3
 enum-known-verdict-3 c = search (keeps, next-fits, needs)
@@ -43,8 +43,8 @@ same-length-2 c = search (keeps, next-fits, needs)
 returns-2 : tie.Need-returns-2
 returns-2 c = search (keeps, next-fits, needs)
 
-add-t32 : tie.Need-add-t32
-add-t32 c = search (keeps, next-fits, needs)
+add-t33 : tie.Need-add-t33
+add-t33 c = search (keeps, next-fits, needs)
 
 enum-known-verdict-4 : tie.Need-enum-known-verdict-4
 enum-known-verdict-4 c = search (keeps, next-fits, needs)
@@ -64,11 +64,11 @@ returns-3 c = search (keeps, next-fits, needs)
 write-columns-requires : tie.Need-write-columns-requires
 write-columns-requires c κs = search (keeps, next-fits, needs)
 
-add-t34 : tie.Need-add-t34
-add-t34 c = search (keeps, next-fits, needs)
+add-t35 : tie.Need-add-t35
+add-t35 c = search (keeps, next-fits, needs)
 
-add-t37 : tie.Need-add-t37
-add-t37 c = search (keeps, next-fits, needs)
+add-t38 : tie.Need-add-t38
+add-t38 c = search (keeps, next-fits, needs)
 
 returns-4 : tie.Need-returns-4
 returns-4 c = search (keeps, next-fits, needs)
@@ -103,20 +103,20 @@ keep-spec =
     put-requires
     same-length
     returns
-    add-t22
+    add-t23
     enum-known-verdict-3
     put-requires-2
     same-length-2
     returns-2
-    add-t32
+    add-t33
     enum-known-verdict-4
     count-requires
     sub-if3
     same-length-3
     returns-3
     write-columns-requires
-    add-t34
-    add-t37
+    add-t35
+    add-t38
     returns-4
     same-length-4
     returns-5

@@ -1,0 +1,2 @@
+// Entries turned from one form into the other.
+pub mod turn;

@@ -14,8 +14,9 @@ def entry_line(header, table, n, version, field, form=model.FIRST):
     id_ = part(model.entry_id, header, table, n, form)
     fields = [part(model.entry_field, header, table, n, field, version, form)] if field is not None else all_fields(header, table, n, version, form)
     bytes_ = header[id_[0]:id_[1]] if id_ else b''
-    return b'%d entry=%s id=%s %s fields: %s' % (n, said(part(model.entry, header, table, n, form)), said(id_), bytes_,
-                                                  b' '.join(said(f) for f in fields))
+    key = part(model.entry_key, header, table, n, form)
+    return b'%d entry=%s id=%s %s key=%s fields: %s' % (n, said(part(model.entry, header, table, n, form)), said(id_), bytes_,
+                                                         said(key[0]) + b' of %d' % key[1] if key else b'29', b' '.join(said(f) for f in fields))
 
 
 def all_fields(header, table, n, version, form):

@@ -36,7 +36,7 @@ def show(name, header, entry, field, version=(4, 3), room=24, form=model.FIRST):
     parts = [part(model.entry, header, table, entry, form), part(model.entry_id, header, table, entry, form),
              part(model.entry_field, header, table, entry, field, version, form)]
     CASES.append((f'show{second(form)}-{name}', words('c-show' + second(form), version, room, entry, field), record.escaped(header),
-                  b'entry %s, id %s, field %s' % tuple(parts)))
+                  b'entry %s, id %s, field %s, key %s' % (*parts, key(header, table, entry, form))))
 
 
 def part(call, *arguments):
@@ -45,6 +45,14 @@ def part(call, *arguments):
     except model.Refused as refused:
         return b'%d start=0 length=0' % refused.number
     return b'0 start=%d length=%d' % (start, end - start)
+
+
+def key(header, table, entry, form):
+    try:
+        (start, end), fields = model.entry_key(header, table, entry, form)
+    except model.Refused as refused:
+        return b'%d start=0 length=0 fields=0' % refused.number
+    return b'0 start=%d length=%d fields=%d' % (start, end - start, fields)
 
 
 for versions in (None, (4, 3), (3, 4), (4, 2), (2, 4), (4, 5), (5, 4), (4, 10), (10, 4)):

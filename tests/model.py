@@ -10,11 +10,11 @@ from collections import namedtuple
 BUFFER, TABLE = 65536, 8192
 
 # The forms of entries: the limits of a header and a line, the words of an entry, and how many bits each number of a word has. Document
-# 01's, and the second of document 02, §5.
+# 01's, and the second of document 02, §5 and §10.
 
-Form = namedtuple('Form', 'number header line words ones twos')
-FIRST = Form(1, 2**20 - 1, 2**16 - 1, 2, (4, 20, 16, 24), (16, 16, 1, 2, 29))
-SECOND = Form(2, 2**24 - 1, 2**24 - 1, 2, (4, 24, 24, 12), (24, 24, 1, 2, 13))
+Form = namedtuple('Form', 'number header line words ones twos threes')
+FIRST = Form(1, 2**20 - 1, 2**16 - 1, 2, (4, 20, 16, 24), (16, 16, 1, 2, 29), None)
+SECOND = Form(2, 2**24 - 1, 2**24 - 1, 3, (4, 24, 24, 12), (24, 24, 1, 2, 13), (24, 24, 16))
 
 # Kinds and their known fields, in the table's order; those in MISSING are required wherever they are known.
 
@@ -326,7 +326,7 @@ def require_distinct(r, records):
 
 # Entries
 
-Entry = namedtuple('Entry', 'kind start length offset id_length quoted tag')
+Entry = namedtuple('Entry', 'kind start length offset id_length quoted tag key_length field_count', defaults=(0, 0))
 
 
 def plain_entry(kind, start, length):
@@ -335,8 +335,12 @@ def plain_entry(kind, start, length):
 
 def record_entry(r, start, length):
     if not r.id:
-        return plain_entry(r.kind, start, length)
-    return Entry(r.kind, start, length, r.id.text_start, r.id.text_end - r.id.text_start, int(r.id.quoted), r.tag)
+        return counted(plain_entry(r.kind, start, length), r)
+    return counted(Entry(r.kind, start, length, r.id.text_start, r.id.text_end - r.id.text_start, int(r.id.quoted), r.tag), r)
+
+
+def counted(e, r):
+    return e._replace(key_length=len(r.key), field_count=len(r.fields))
 
 
 def packed(widths, numbers):
@@ -355,9 +359,10 @@ def numbers_in(widths, word):
     return numbers
 
 
-def words_of(form, e, zero_one=0, zero_two=0):
+def words_of(form, e, zero_one=0, zero_two=0, zero_three=0):
     one = packed(form.ones, (e.kind, e.start, e.length, zero_one))
-    return one, packed(form.twos, (e.offset, e.id_length, e.quoted, e.tag, zero_two))
+    two = packed(form.twos, (e.offset, e.id_length, e.quoted, e.tag, zero_two))
+    return (one, two, packed(form.threes, (e.key_length, e.field_count, zero_three))) if form.threes else (one, two)
 
 
 Reading = namedtuple('Reading', 'number line start entries version samples')
@@ -402,7 +407,8 @@ def held(form, table, n):
     require(form.words * (n + 1) <= len(table), 29)
     kind, start, length, zero_one = numbers_in(form.ones, table[form.words * n])
     offset, id_length, quoted, tag, zero_two = numbers_in(form.twos, table[form.words * n + 1])
-    return Entry(kind, start, length, offset, id_length, quoted, tag), (zero_one, zero_two)
+    key_length, field_count, zero_three = numbers_in(form.threes, table[form.words * n + 2]) if form.threes else (0, 0, 0)
+    return Entry(kind, start, length, offset, id_length, quoted, tag, key_length, field_count), (zero_one, zero_two, zero_three)
 
 
 def well_formed(header, table, n, form=FIRST):
@@ -413,7 +419,28 @@ def well_formed(header, table, n, form=FIRST):
     require(e.tag <= (2 if e.kind == OTHER_MAP else 0), 29)
     require(e.kind in KNOWN or (e.offset, e.id_length, e.quoted, e.tag) == (0, 0, 0, 0), 29)
     require(e.start + e.length <= len(header) and e.offset + e.id_length <= e.length, 29)
+    require(e.kind in KNOWN or e.field_count == 0, 29)
+    require(e.kind not in (COLUMNS, SAMPLE) or e.key_length == 0, 29)
     return e
+
+
+def read_alone(header, e, version):
+    """The record on an entry's line, which must be of the entry's kind."""
+    line = header[e.start:e.start + e.length]
+    require(is_utf8(line), 29)
+    try:
+        r = record(line, version)
+    except Refused:
+        raise Refused(29) from None
+    require(r.kind == e.kind, 29)
+    return r
+
+
+def read_again(header, e, version, form):
+    """The same, and the third word must be what the line says."""
+    r = read_alone(header, e, version)
+    require(not form.threes or counted(e, r) == e, 29)
+    return r
 
 
 def entry(header, table, n, form=FIRST):
@@ -431,14 +458,16 @@ def entry_field(header, table, n, index, version, form=FIRST):
     """Field number `index` of entry n, whose line is read again under the version."""
     e = well_formed(header, table, n, form)
     require(e.kind in KNOWN, 29)
-    line = header[e.start:e.start + e.length]
-    require(is_utf8(line), 29)
-    try:
-        r = record(line, version)
-    except Refused:
-        raise Refused(29) from None
-    require(r.kind == e.kind and index < len(r.fields), 29)
+    r = read_again(header, e, version, form)
+    require(index < len(r.fields), 29)
     return e.start + r.fields[index].start, e.start + r.fields[index].end
+
+
+def entry_key(header, table, n, form=FIRST):
+    """The part of the key and the number of fields, from the third word alone."""
+    e = well_formed(header, table, n, form)
+    require(form.threes and e.kind <= OTHER_TEXT and 2 + e.key_length <= e.length, 29)
+    return (e.start + 2, e.start + 2 + e.key_length), e.field_count
 
 
 # How numbers were spelled
@@ -454,15 +483,9 @@ def is_odd(kind, f, version):
 
 def odd_entry(header, table, n, version, form):
     e = well_formed(header, table, n, form)
-    if e.kind not in KNOWN:
+    if not (e.kind in KNOWN or form.threes and e.kind in (FILEFORMAT, OTHER_TEXT)):
         return False
-    line = header[e.start:e.start + e.length]
-    require(is_utf8(line), 29)
-    try:
-        r = record(line, version)
-    except Refused:
-        raise Refused(29) from None
-    require(r.kind == e.kind, 29)
+    r = read_again(header, e, version, form)
     return any(is_odd(r.kind, f, version) for f in r.fields)
 
 
@@ -549,11 +572,18 @@ def form_refusal(written, output, form):
     return (28 if len(written) > output else 0), 0, 0
 
 
-# Document 02, §5: entries turned from one form into the other
+# Document 02, §5 and §10: entries turned from one form into the other
 
-def turn(header, table, target, source, to):
+def turned_entry(header, e, to, version):
+    """To the second form a record's line is read again; to the first its counts are dropped."""
+    if to.threes and e.kind <= OTHER_TEXT:
+        return counted(e, read_alone(header, e, version))
+    return e
+
+
+def turn(header, table, target, source, to, version=None):
     """How many entries of a table were turned, and the target's words after it; Refused, and then they stay."""
-    entries = [well_formed(header, table, n, source) for n in range(len(table) // source.words)]
+    entries = [turned_entry(header, well_formed(header, table, n, source), to, version) for n in range(len(table) // source.words)]
     for e in entries:
         fits = e.start <= to.header and max(e.length, e.offset, e.id_length) <= to.line
         require(fits, 32)

@@ -2,7 +2,7 @@
 """Makes the recorded cases of document 02, §5, crates/cases/data/second, from model.py: recorded headers read in the second form, the limits
 of both forms, forged words of the second form for each condition of well-formedness, and entries turned from one form into the other.
 What is asked is as in the other files, with a 2 after the first word for the second form; to-second and to-first have the words of the
-table that is read, those of the other table, and the words forged."""
+table that is read, those of the other table, the version under which lines are read again, and the words forged."""
 import calls_table
 import dictionary_model
 import model
@@ -30,8 +30,10 @@ def again(file, every, answered):
     """answered: the words of what is asked after the first, and the header -> what must come."""
     for index, (name, asked, given) in enumerate(record.recorded(file)):
         if index % every == 0 and not asked[0].startswith('c-'):
-            what = ' '.join([asked[0] + '2'] + asked[1:])
-            add(f'{file}-{name}', what, given, answered(asked[1:], record.unescaped(given)))
+            # as many entries as in the first form, as far as the program has words for them
+            room = min(int(asked[2]) * SECOND.words // FIRST.words, 8192)
+            asked = [asked[0] + '2', asked[1], str(room)] + asked[3:]
+            add(f'{file}-{name}', ' '.join(asked), given, answered(asked[1:], record.unescaped(given)))
 
 
 def read_again(asked, header):
@@ -89,7 +91,7 @@ def read_long(name, header, length, room, form):
 
 KINDS = text(F, b'##INFO=<ID=q,Number=1,Type=Integer,Description="d, e">', b'##cell=<K="0.98",ID="W07">', b'##source=made', COLS + b'\tFORMAT\ts\tt')
 LINES = {'fileformat': 0, 'INFO': 1, 'map': 2, 'text': 3, 'columns': 4, 'sample': 5}
-SIZE = 14
+SIZE = 7 * SECOND.words
 
 
 def show(name, header, size, entry, forged):
@@ -105,8 +107,7 @@ def forge(name, line, zero_one=0, zero_two=0, **numbers):
     n = LINES[line]
     words_left = model.read(KINDS, None, SIZE, SECOND).entries
     e = model.held(SECOND, told.words_in(words_left), n)[0]._replace(**numbers)
-    one, two = model.words_of(SECOND, e, zero_one, zero_two)
-    show(name, KINDS, SIZE, n, {SECOND.words * n: one, SECOND.words * n + 1: two})
+    show(name, KINDS, SIZE, n, {SECOND.words * n + k: word for k, word in enumerate(model.words_of(SECOND, e, zero_one, zero_two))})
 
 
 def forged():
@@ -139,12 +140,12 @@ def forged():
     # words of the first form are not those of the second
     first = told.words_in(model.read(EXAMPLE).entries)
     for n in range(3):
-        show(f'first-form-{n}', EXAMPLE, 6, n, {k: word for k, word in enumerate(first) if k // 2 == n})
+        show(f'first-form-{n}', EXAMPLE, 9, n, {SECOND.words * n + k: word for k, word in enumerate(first[2 * n:2 * n + 2])})
 
 
 # Turning
 
-def turn(name, header, source, size, other, forged=None, length=None):
+def turn(name, header, source, size, other, forged=None, length=None, version=(4, 3)):
     """The entries that reading left in `size` words, some forged, into a table of `other` words."""
     to = SECOND if source is FIRST else FIRST
     forged = forged or {}
@@ -153,12 +154,12 @@ def turn(name, header, source, size, other, forged=None, length=None):
     table = [forged.get(k, word) for k, word in enumerate(left + [0] * (size - len(left)))]
     written = [str(forged.get(k, '-')) for k in range(max(forged, default=-1) + 1)]
     try:
-        count, target = model.turn(full, table, [7] * other, source, to)
+        count, target = model.turn(full, table, [7] * other, source, to, version)
         number = 0
     except model.Refused as refused:
         number, count, target = refused.number, 0, []
     came = ' '.join([f'number={number} entries={count}'] + told.table(target[:to.words * count]))
-    asked = words('to-second' if source is FIRST else 'to-first', size, other, '-', '-', *written)
+    asked = words('to-second' if source is FIRST else 'to-first', size, other, version, '-', *written)
     add(f'{"second" if source is FIRST else "first"}-{number}-{name}', asked, record.stretched(header, length), came.encode())
 
 
@@ -191,23 +192,25 @@ def bounds():
         'offset': (Entry(7, 5, most, most, 0, 1, 2), Entry(7, 5, most + 1, most + 1, 0, 1, 2)),
         'id-length': (Entry(6, 5, most, 0, most, 0, 0), Entry(6, 5, most + 1, 0, most + 1, 0, 0)),
         'all': (Entry(7, start, most, 1, most - 1, 1, 1), Entry(7, start, most, 0, 0, 0, 1)),
+        # whose line is not read again
+        'sample-start': (Entry(10, start, 9, 0, 0, 0, 0), Entry(10, start + 1, 9, 0, 0, 0, 0)),
+        'sample-length': (Entry(10, 5, most, 0, 0, 0, 0), Entry(10, 5, most + 1, 0, 0, 0, 0)),
     }
     for name, (within, past) in cases.items():
         good = dict(enumerate(model.words_of(SECOND, within)))
-        turn(name + '-at-bound', header, SECOND, 2, 2, good, length)
-        turn(name + '-past-bound', header, SECOND, 2, 2, dict(enumerate(model.words_of(SECOND, past))), length)
-        turn(name + '-back', header, FIRST, 2, 2, dict(enumerate(model.words_of(FIRST, within))), length)
-    wide, bad = model.words_of(SECOND, cases['start'][1]), (1, 0)
+        turn(name + '-at-bound', header, SECOND, 3, 2, good, length)
+        turn(name + '-past-bound', header, SECOND, 3, 2, dict(enumerate(model.words_of(SECOND, past))), length)
+        turn(name + '-back', header, FIRST, 2, 3, dict(enumerate(model.words_of(FIRST, within))), length)
+    wide, bad = model.words_of(SECOND, cases['start'][1]), (1, 0, 0)
     # 29 comes before 32, and 32 before 24, wherever they stand
-    turn('wide-then-bad', header, SECOND, 4, 4, dict(enumerate(wide + bad)), length)
-    turn('bad-then-wide', header, SECOND, 4, 4, dict(enumerate(bad + wide)), length)
-    turn('wide-no-room', header, SECOND, 2, 0, dict(enumerate(wide)), length)
-    turn('bad-no-room', header, SECOND, 2, 0, dict(enumerate(bad)), length)
-    turn('bad-no-room', header, FIRST, 2, 0, dict(enumerate(bad)), length)
-    for name, words_ in {'zero-one': (model.words_of(FIRST, cases['start'][0], 1)), 'zero-two': model.words_of(FIRST, cases['offset'][0], 0, 1), 'all-bits': (LAST, LAST)}.items():
-        turn(name, header, FIRST, 2, 2, dict(enumerate(words_)), length)
-    for name, words_ in {'zero-one': (model.words_of(SECOND, cases['start'][0], 1)), 'zero-two': model.words_of(SECOND, cases['offset'][0], 0, 1), 'all-bits': (LAST, LAST)}.items():
-        turn(name, header, SECOND, 2, 2, dict(enumerate(words_)), length)
+    turn('wide-then-bad', header, SECOND, 6, 4, dict(enumerate(wide + bad)), length)
+    turn('bad-then-wide', header, SECOND, 6, 4, dict(enumerate(bad + wide)), length)
+    turn('wide-no-room', header, SECOND, 3, 0, dict(enumerate(wide)), length)
+    turn('bad-no-room', header, SECOND, 3, 0, dict(enumerate(bad)), length)
+    turn('bad-no-room', header, FIRST, 2, 0, dict(enumerate(bad[:2])), length)
+    for form, to in ((FIRST, SECOND), (SECOND, FIRST)):
+        for name, words_ in {'zero-one': model.words_of(form, cases['sample-start'][0], 1), 'zero-two': model.words_of(form, cases['offset'][0], 0, 1), 'all-bits': (LAST,) * form.words}.items():
+            turn(name, header, form, form.words, to.words, dict(enumerate(words_)), length)
 
 
 again('reads', 6, read_again)

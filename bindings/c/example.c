@@ -9,6 +9,6 @@ int main(void) {
     if (a.number) return fprintf(stderr, "line %lu: %s\n", (unsigned long)a.line, vcfh_words(a.number)), 1;
     for (uint64_t i = 0; i < a.entries; i++) {
         vcfh_part id = vcfh_id(header, length, table, 65536, VCFH_FIRST, i);
-        if (id.number == 0) printf("%u %.*s\n", vcfh_kind(table, i), (int)id.length, (const char *)header + id.start);
+        if (id.number == 0) printf("%u %.*s\n", vcfh_kind(table, VCFH_FIRST, i), (int)id.length, (const char *)header + id.start);
     }
 }

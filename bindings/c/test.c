@@ -85,7 +85,7 @@ static void odd(uint64_t form, uint64_t other) {
     const uint8_t *h = bytes(header);
     size_t length = strlen(header);
     uint64_t list[3] = {7, 7, 7};
-    size_t words = 2 * read_in(header, form).entries;
+    size_t words = VCFH_WORDS(form) * read_in(header, form).entries;
     vcfh_listed found = vcfh_odd(h, length, table, words, form, 4, 3, list, 3);
     same("listed", found.number, 0), same("how many", found.listed, 2);
     same("first", list[0], 2), same("second", list[1], 3), same("third", list[2], 7);
@@ -108,43 +108,65 @@ static void contigs(void) {
 
 /* The entries of PLAIN in each form. */
 static const uint64_t firsts[] = {0x1000000014000000, 0, 0x7000150016000000, 0x000B000300000000, 0x90002C0026000000, 0};
-static const uint64_t seconds[] = {0x1000000000014000, 0, 0x7000015000016000, 0x00000B0000030000, 0x900002C000026000, 0};
+static const uint64_t seconds[] = {0x1000000000014000, 0, 0x00000A0000000000, 0x7000015000016000, 0x00000B0000030000, 0x0000040000020000, 0x900002C000026000, 0, 0};
 
 static void same_words(const char *what, const uint64_t *got, const uint64_t *wanted, size_t count) {
     for (size_t i = 0; i < count; i++) same(what, got[i], wanted[i]);
 }
 
 static void stored(const char *what, uint64_t form, const uint64_t *wanted) {
-    same(what, read_in(PLAIN, form).entries, 3), same_words(what, table, wanted, 6);
+    same(what, read_in(PLAIN, form).entries, 3), same_words(what, table, wanted, 3 * VCFH_WORDS(form));
 }
 
-typedef vcfh_turned turn(const uint8_t *header, size_t length, const uint64_t *from, size_t from_words, uint64_t *to, size_t to_words);
-
-/* What is turned stands in `to`, which has a seventh word that stays; where the call is refused all seven stay. */
-static void turned(const char *what, turn *call, const uint64_t *from, size_t to_words, uint64_t number, const uint64_t *wanted) {
-    uint64_t to[] = {7, 7, 7, 7, 7, 7, 7};
-    vcfh_turned t = call(bytes(PLAIN), strlen(PLAIN), from, 6, to, to_words);
-    same(what, t.number, number), same(what, t.entries, number ? 0 : 3), same_words(what, to, wanted, 6), same(what, to[6], 7);
+/* Into a table of ten words; what is turned stands there, and the others stay; where the call is refused all stay. */
+static void turned(const char *what, uint64_t to_form, const uint64_t *from, size_t to_words, uint64_t number, uint64_t minor) {
+    uint64_t to[] = {7, 7, 7, 7, 7, 7, 7, 7, 7, 7}, wanted[] = {7, 7, 7, 7, 7, 7, 7, 7, 7, 7};
+    int second = to_form == VCFH_SECOND;
+    vcfh_turned t = second ? vcfh_to_second(bytes(PLAIN), strlen(PLAIN), from, 6, 4, (uint32_t)minor, to, to_words)
+                           : vcfh_to_first(bytes(PLAIN), strlen(PLAIN), from, 9, to, to_words);
+    if (!number) memcpy(wanted, second ? seconds : firsts, 8 * 3 * VCFH_WORDS(to_form));
+    same(what, t.number, number), same(what, t.entries, number ? 0 : 3), same_words(what, to, wanted, 10);
 }
 
-/* Both ways; then with a destination one word short, and with a fileformat entry that has an ID. */
+/* Both ways; then with a destination one word short, with a fileformat entry that has an ID, and by a version that refuses a line. */
 static void turning(void) {
-    const uint64_t stays[] = {7, 7, 7, 7, 7, 7};
-    uint64_t bad[6];
-    turned("to second", vcfh_to_second, firsts, 7, 0, seconds), turned("to first", vcfh_to_first, seconds, 7, 0, firsts);
-    turned("second too short", vcfh_to_second, firsts, 5, 24, stays), turned("first too short", vcfh_to_first, seconds, 5, 24, stays);
-    memcpy(bad, firsts, sizeof bad), bad[1] = firsts[3];
-    turned("bad first entry", vcfh_to_second, bad, 5, 29, stays);
-    memcpy(bad, seconds, sizeof bad), bad[1] = seconds[3];
-    turned("bad second entry", vcfh_to_first, bad, 5, 29, stays);
+    uint64_t bad[9];
+    turned("to second", VCFH_SECOND, firsts, 10, 0, 3), turned("to first", VCFH_FIRST, seconds, 10, 0, 3);
+    turned("second too short", VCFH_SECOND, firsts, 8, 24, 3), turned("first too short", VCFH_FIRST, seconds, 5, 24, 3);
+    memcpy(bad, firsts, sizeof firsts), bad[1] = firsts[3];
+    turned("bad first entry", VCFH_SECOND, bad, 5, 29, 3);
+    memcpy(bad, seconds, sizeof bad), bad[1] = seconds[4];
+    turned("bad second entry", VCFH_FIRST, bad, 5, 29, 3);
+    memcpy(bad, firsts, sizeof firsts), bad[2] = 0x6000150016000000;
+    turned("a line of another kind", VCFH_SECOND, bad, 10, 29, 3);
+}
+
+/* The key and the number of fields of each entry, in the second form; none in the first, and none where the third word is wrong. */
+static void keys(void) {
+    const char *header = "##fileformat=VCFv4.3\n##META=<ID=x,Values=[a,K=b]>\n##n=t\n" COLUMNS "\n";
+    const uint64_t starts[] = {2, 23, 52, 0}, lengths[] = {10, 4, 1, 0}, fields[] = {0, 2, 0, 0}, kinds[] = {1, 7, 8, 9};
+    read_in(header, VCFH_SECOND);
+    for (uint64_t n = 0; n < 4; n++) {
+        vcfh_key_part k = vcfh_key(bytes(header), strlen(header), table, WORDS, VCFH_SECOND, n);
+        same("key's number", k.number, n < 3 ? 0 : 29), same("key's start", k.start, starts[n]), same("key's length", k.length, lengths[n]);
+        same("key's fields", k.fields, fields[n]), same("kind", vcfh_kind(table, VCFH_SECOND, n), kinds[n]);
+    }
+    same("key past the table", vcfh_key(bytes(header), strlen(header), table, 12, VCFH_SECOND, 4).number, 29);
+    same("field by 4.3", vcfh_field(bytes(header), strlen(header), table, WORDS, VCFH_SECOND, 1, 4, 3, 0).number, 0);
+    same("three fields by 4.2", vcfh_field(bytes(header), strlen(header), table, WORDS, VCFH_SECOND, 1, 4, 2, 0).number, 29);
+    table[5]++;
+    same("a bit that is no number's", vcfh_key(bytes(header), strlen(header), table, WORDS, VCFH_SECOND, 1).number, 29);
+    read_in(header, VCFH_FIRST);
+    same("key in the first form", vcfh_key(bytes(header), strlen(header), table, WORDS, VCFH_FIRST, 1).number, 29);
+    same("kind in the first form", vcfh_kind(table, VCFH_FIRST, 1), 7);
 }
 
 static uint8_t large[0x100001];
 
 /* One text entry of the second form, turned to the first in a header of 2^20 + 1 bytes. */
 static void fitting(const char *what, uint64_t word, uint64_t number, uint64_t wanted) {
-    uint64_t from[] = {word, 0}, to[] = {7, 7};
-    same(what, vcfh_to_first(large, sizeof large, from, 2, to, 2).number, number), same(what, to[0], wanted);
+    uint64_t from[] = {word, 0, 0}, to[] = {7, 7};
+    same(what, vcfh_to_first(large, sizeof large, from, 3, to, 2).number, number), same(what, to[0], wanted);
 }
 
 /* Starts end at 2^20 - 1 in the first form, and lengths at 2^16 - 1. */
@@ -167,7 +189,7 @@ static void long_line(uint64_t form, uint64_t number, uint64_t entries, uint64_t
     uint64_t strings[2], names[2];
     vcfh_answer a = vcfh_read(large, length, 0, 0, 0, form, table, WORDS);
     same("long line", a.number, number), same("long line's entries", a.entries, entries);
-    same("long line's length", vcfh_entry(large, length, table, 2 * entries, form, 1).length, number ? 0 : 65536);
+    same("long line's length", vcfh_entry(large, length, table, VCFH_WORDS(form) * entries, form, 1).length, number ? 0 : 65536);
     same("long line's house form", vcfh_house(large, length, 0, 0, 0, form, table, WORDS, out, 4096).number, house);
     same("long line's cells", vcfh_register(large, length, 0, 0, 0, form, table, WORDS).number, cells);
     same("long line's names", vcfh_dictionaries(large, length, 0, 0, 0, form, table, WORDS, strings, 2, names, 2).number, number);
@@ -179,7 +201,7 @@ int main(void) {
     odd(VCFH_FIRST, VCFH_SECOND), odd(VCFH_SECOND, VCFH_FIRST), odd(0, VCFH_SECOND), odd(3, VCFH_SECOND);
     stored("first form", VCFH_FIRST, firsts), stored("second form", VCFH_SECOND, seconds);
     stored("form 0", 0, firsts), stored("form 3", 3, firsts), stored("form 2^32 + 2", 0x100000002, firsts);
-    turning(), fits();
+    turning(), fits(), keys();
     long_line(VCFH_FIRST, 2, 1, 2, 2), long_line(VCFH_SECOND, 0, 3, 28, 39);
     same("UTF-8", vcfh_utf8(bytes("\xc3\xa9"), 2), 1);
     same("no UTF-8", vcfh_utf8(bytes("\xc3\xa9"), 1), 0);

@@ -14,6 +14,9 @@ extern "C" {
 #define VCFH_FIRST 1
 #define VCFH_SECOND 2
 
+/* How many words of a table an entry takes. */
+#define VCFH_WORDS(form) ((form) == VCFH_SECOND ? 3 : 2)
+
 /* number: 0 if accepted, else why not (vcfh_words says it in words). line: from 1. start: of the line, in bytes.
    Of an accepted header, line and start are the number of lines and of bytes. entries: how many the table holds. */
 typedef struct { uint64_t number, line, start, entries; } vcfh_answer;
@@ -39,7 +42,7 @@ typedef struct { uint64_t number, start, length; } vcfh_part;
 /* 1 if the bytes are UTF-8, else 0. */
 uint64_t vcfh_utf8(const uint8_t *bytes, size_t length);
 
-/* Reads a header into the table, two words for each entry; each line and each tab of the header gives one entry at most.
+/* Reads a header into the table, VCFH_WORDS(form) for each entry; each line and each tab of the header gives one entry at most.
    imposed: 0, or else major and minor are the version by which the header is read, whatever its first line says. */
 vcfh_answer vcfh_read(const uint8_t *header, size_t length, uint64_t imposed, uint32_t major, uint32_t minor,
                       uint64_t form, uint64_t *table, size_t words);
@@ -75,6 +78,13 @@ vcfh_part vcfh_id(const uint8_t *header, size_t length, const uint64_t *table, s
 vcfh_part vcfh_field(const uint8_t *header, size_t length, const uint64_t *table, size_t words, uint64_t form,
                      uint64_t entry, uint32_t major, uint32_t minor, uint64_t field);
 
+/* number: 0, or 29 where there is no key to show: in the first form, and of the column line and samples. start and length: the key, as a
+   part of the header, in bytes. fields: how many the record has, 0 for fileformat and other texts. */
+typedef struct { uint64_t number, start, length, fields; } vcfh_key_part;
+
+/* The key of an entry, after its ##, and the number of its fields, which the second form has beside the entry; the line is not read. */
+vcfh_key_part vcfh_key(const uint8_t *header, size_t length, const uint64_t *table, size_t words, uint64_t form, uint64_t entry);
+
 /* number: 0, 29 where an entry is not well formed or its line, read alone, is not what the entry says, 31 where the list is too short.
    listed: how many entries were listed, 0 if refused. */
 typedef struct { uint64_t number, listed; } vcfh_listed;
@@ -84,21 +94,24 @@ typedef struct { uint64_t number, listed; } vcfh_listed;
 vcfh_listed vcfh_odd(const uint8_t *header, size_t length, const uint64_t *table, size_t words, uint64_t form,
                      uint32_t major, uint32_t minor, uint64_t *list, size_t list_words);
 
-/* number: 0, 29 where an entry is not well formed in this header, 32 where one does not fit the first form, 24 where the table that is
+/* number: 0, 29 where an entry is not well formed in this header or, to the second form, its line is not what the entry says, 32 where one does not fit the first form, 24 where the table that is
    written has no room. entries: how many were turned, 0 if refused. */
 typedef struct { uint64_t number, entries; } vcfh_turned;
 
-/* Turn a table of one form into one of the other. Every entry of the table that is read is turned, so give it as two words for each
-   entry that it holds. An entry fits the first form if its start is below 1,048,576 and its length below 65,536. Both tables stay as
+/* Turn a table of one form into one of the other. Every entry of the table that is read is turned, so give it as VCFH_WORDS of its form
+   for each entry that it holds. The second form has the key's length and the number of fields too, so to_second reads the lines again,
+   by the version given: the one in force when the header was read. An entry fits the first form if its start is below 1,048,576 and its length below 65,536. Both tables stay as
    they were if it is refused. */
 vcfh_turned vcfh_to_second(const uint8_t *header, size_t length, const uint64_t *first, size_t first_words,
-                           uint64_t *second, size_t second_words);
+                           uint32_t major, uint32_t minor, uint64_t *second, size_t second_words);
 vcfh_turned vcfh_to_first(const uint8_t *header, size_t length, const uint64_t *second, size_t second_words,
                           uint64_t *first, size_t first_words);
 
-/* 1 fileformat, 2 INFO, 3 FILTER, 4 FORMAT, 5 ALT, 6 contig, 7 other map, 8 other text, 9 column line, 10 sample. Both forms have the
-   kind in the same place. */
-static inline unsigned vcfh_kind(const uint64_t *table, uint64_t entry) { return (unsigned)(table[2 * entry] >> 60); }
+/* 1 fileformat, 2 INFO, 3 FILTER, 4 FORMAT, 5 ALT, 6 contig, 7 other map, 8 other text, 9 column line, 10 sample. The table must hold
+   the entry. */
+static inline unsigned vcfh_kind(const uint64_t *table, uint64_t form, uint64_t entry) {
+    return (unsigned)(table[VCFH_WORDS(form) * entry] >> 60);
+}
 
 static inline const char *vcfh_words(uint64_t number) {
     switch (number) {

@@ -156,6 +156,20 @@ class Forms(unittest.TestCase):
             self.assertEqual([vars(entry) for entry in header], [vars(entry) for entry in first])
             self.assertEqual((header.odd(), header.version, header.lines, header.form), ([1], (4, 4), 4, form))
 
+    def test_keys_and_numbers_of_fields_are_told_in_the_second_form(self):
+        lines = b"##META=<ID=x,Values=[a,K=b]>\n##n=t\n"
+        first = vcfh.Header(b"##fileformat=VCFv4.3\n" + lines + COLUMNS + b"\tFORMAT\ts")
+        self.assertEqual([first.key(n) for n in range(6)], [None] * 6)
+        wanted = [(b"fileformat", 0), (b"META", 2), (b"n", 0), None, None, None]
+        for header in (first.to_form(vcfh.SECOND), vcfh.Header(first._data, form=vcfh.SECOND)):
+            self.assertEqual([header.key(n) for n in range(6)], wanted)
+
+    def test_turning_reads_lines_by_the_version_in_force(self):
+        header = vcfh.Header(b"##fileformat=VCFv4.2\n##META=<ID=x,Values=[a,K=b]>\n" + COLUMNS, (4, 3))
+        self.assertEqual(header.to_form(vcfh.SECOND).key(1), (b"META", 2))
+        header.version = (4, 2)
+        self.assertEqual(header.to_form(vcfh.SECOND).key(1), (b"META", 3))
+
     def test_entries_that_do_not_fit_the_first_form_are_not_turned(self):
         header = vcfh.Header(long_line(vcfh.MAX_LINE[vcfh.FIRST] + 1), form=vcfh.SECOND)
         self.assertEqual(refused(header.to_form, vcfh.FIRST).number, 32)

@@ -19,6 +19,8 @@ FIRST, SECOND = 1, 2
 # the longest header or house form of each, and the longest line, in bytes
 MAX_LENGTH = {FIRST: 1048575, SECOND: 16777215}
 MAX_LINE = {FIRST: 65535, SECOND: 16777215}
+# how many words of a table an entry takes
+_WORDS = {FIRST: 2, SECOND: 3}
 
 WORDS = {int(number): words for number, words in re.findall(r'^REFUSAL\((\d+), "(.*)"\)$', (_BINDINGS / "refusals.h").read_text(), re.M)}
 
@@ -51,6 +53,10 @@ class _Part(ctypes.Structure):
     _fields_ = [(name, ctypes.c_uint64) for name in ("number", "start", "length")]
 
 
+class _Key(ctypes.Structure):
+    _fields_ = [(name, ctypes.c_uint64) for name in ("number", "start", "length", "fields")]
+
+
 class _Listed(ctypes.Structure):
     _fields_ = [(name, ctypes.c_uint64) for name in ("number", "listed")]
 
@@ -81,9 +87,10 @@ def _library():
         ("vcfh_contigs", _Contigs, _BYTES + [ctypes.c_char_p, ctypes.c_size_t]),
         ("vcfh_entry", _Part, _SHOWING + _NUMBER),
         ("vcfh_id", _Part, _SHOWING + _NUMBER),
+        ("vcfh_key", _Key, _SHOWING + _NUMBER),
         ("vcfh_field", _Part, _SHOWING + _NUMBER + _VERSION + _NUMBER),
         ("vcfh_odd", _Listed, _SHOWING + _VERSION + _TABLE),
-        ("vcfh_to_second", _Turned, _BYTES + _TABLE + _TABLE),
+        ("vcfh_to_second", _Turned, _BYTES + _TABLE + _VERSION + _TABLE),
         ("vcfh_to_first", _Turned, _BYTES + _TABLE + _TABLE),
     ):
         function = getattr(library, name)
@@ -129,10 +136,10 @@ def _accepted(answer):
 def _called(call, data, version, form, *more):
     """The answer, the table and its size of a call that reads the header."""
     # each line and each tab gives one entry at most
-    words = 2 * (data.count(b"\n") + data.count(b"\t") + 1)
+    words = _WORDS[_named(form)] * (data.count(b"\n") + data.count(b"\t") + 1)
     table = (ctypes.c_uint64 * words)()
     imposed = (0, 0, 0) if version is None else (1, *version)
-    answer = _accepted(call(data, len(data), *imposed, _named(form), table, words, *more))
+    answer = _accepted(call(data, len(data), *imposed, form, table, words, *more))
     return answer, table, words
 
 
@@ -152,7 +159,7 @@ class Header:
     def __getitem__(self, number):
         if not 0 <= number < self._entries:
             raise IndexError("no such entry")
-        kind = KINDS[(self._table[2 * number] >> 60) - 1]
+        kind = KINDS[(self._table[_WORDS[self.form] * number] >> 60) - 1]
         line, identity = self._part(_vcfh.vcfh_entry, number), self._part(_vcfh.vcfh_id, number)
         return Entry(number, kind, line, identity, list(self._fields(number)))
 
@@ -160,18 +167,26 @@ class Header:
         """The numbers of the entries that carry a Number, IDX or length with a sign or a leading zero, such as +5 or 007."""
         room = max(self._entries, 1)
         listed = (ctypes.c_uint64 * room)()
-        answer = _vcfh.vcfh_odd(self._data, len(self._data), self._table, 2 * self._entries, self.form, *self.version, listed, room)
+        answer = _vcfh.vcfh_odd(self._data, len(self._data), self._table, _WORDS[self.form] * self._entries, self.form, *self.version, listed, room)
         return list(listed[: _accepted(answer).listed])
 
     def to_form(self, form):
         """This header with its entries stored in the form given; Refused, with number 32, where one does not fit the first form."""
         if _named(form) == self.form:
             return self
-        turned, words = copy.copy(self), 2 * self._entries
+        turned, source, words = copy.copy(self), _WORDS[self.form] * self._entries, _WORDS[form] * self._entries
         turned.form, turned._table, turned._words = form, (ctypes.c_uint64 * words)(), words
-        call = _vcfh.vcfh_to_second if form == SECOND else _vcfh.vcfh_to_first
-        _accepted(call(self._data, len(self._data), self._table, words, turned._table, words))
+        read = (self._data, len(self._data), self._table, source)
+        if form == SECOND:
+            _accepted(_vcfh.vcfh_to_second(*read, *self.version, turned._table, words))
+        else:
+            _accepted(_vcfh.vcfh_to_first(*read, turned._table, words))
         return turned
+
+    def key(self, number):
+        """The key of an entry and how many fields it has, without reading its line; None in the first form, and of the column line and samples."""
+        found = _vcfh.vcfh_key(self._data, len(self._data), self._table, self._words, self.form, number)
+        return None if found.number else (self._data[found.start : found.start + found.length], found.fields)
 
     def _fields(self, number):
         for n in itertools.count():

@@ -64,6 +64,14 @@ pub struct Part {
 }
 
 #[repr(C)]
+pub struct Key {
+    pub number: u64,
+    pub start: u64,
+    pub length: u64,
+    pub fields: u64,
+}
+
+#[repr(C)]
 pub struct Listed {
     pub number: u64,
     pub listed: u64,
@@ -109,6 +117,7 @@ extern "C" {
     fn vcfh_contigs(sam: *const u8, length: usize, out: *mut u8, space: usize) -> ContigLines;
     fn vcfh_entry(header: *const u8, length: usize, table: *const u64, words: usize, form: u64, entry: u64) -> Part;
     fn vcfh_id(header: *const u8, length: usize, table: *const u64, words: usize, form: u64, entry: u64) -> Part;
+    fn vcfh_key(header: *const u8, length: usize, table: *const u64, words: usize, form: u64, entry: u64) -> Key;
     fn vcfh_field(
         header: *const u8,
         length: usize,
@@ -131,7 +140,16 @@ extern "C" {
         list: *mut u64,
         list_words: usize,
     ) -> Listed;
-    fn vcfh_to_second(header: *const u8, length: usize, first: *const u64, first_words: usize, second: *mut u64, second_words: usize) -> Turned;
+    fn vcfh_to_second(
+        header: *const u8,
+        length: usize,
+        first: *const u64,
+        first_words: usize,
+        major: u32,
+        minor: u32,
+        second: *mut u64,
+        second_words: usize,
+    ) -> Turned;
     fn vcfh_to_first(header: *const u8, length: usize, second: *const u64, second_words: usize, first: *mut u64, first_words: usize) -> Turned;
 }
 
@@ -177,6 +195,10 @@ pub fn id(header: &[u8], table: &[u64], form: Form, entry: u64) -> Part {
     unsafe { vcfh_id(header.as_ptr(), header.len(), table.as_ptr(), table.len(), form as u64, entry) }
 }
 
+pub fn key(header: &[u8], table: &[u64], form: Form, entry: u64) -> Key {
+    unsafe { vcfh_key(header.as_ptr(), header.len(), table.as_ptr(), table.len(), form as u64, entry) }
+}
+
 pub fn field(header: &[u8], table: &[u64], form: Form, entry: u64, version: Version, field: u64) -> Part {
     unsafe { vcfh_field(header.as_ptr(), header.len(), table.as_ptr(), table.len(), form as u64, entry, version.major, version.minor, field) }
 }
@@ -186,8 +208,9 @@ pub fn odd(header: &[u8], table: &[u64], form: Form, version: Version, list: &mu
     unsafe { vcfh_odd(header.as_ptr(), header.len(), table.as_ptr(), words, form as u64, version.major, version.minor, list.as_mut_ptr(), room) }
 }
 
-pub fn to_second(header: &[u8], first: &[u64], second: &mut [u64]) -> Turned {
-    unsafe { vcfh_to_second(header.as_ptr(), header.len(), first.as_ptr(), first.len(), second.as_mut_ptr(), second.len()) }
+pub fn to_second(header: &[u8], first: &[u64], version: Version, second: &mut [u64]) -> Turned {
+    let (words, room) = (first.len(), second.len());
+    unsafe { vcfh_to_second(header.as_ptr(), header.len(), first.as_ptr(), words, version.major, version.minor, second.as_mut_ptr(), room) }
 }
 
 pub fn to_first(header: &[u8], second: &[u64], first: &mut [u64]) -> Turned {

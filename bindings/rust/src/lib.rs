@@ -52,6 +52,14 @@ impl Form {
             Form::Second => 16_777_215,
         }
     }
+
+    /// How many words of a table an entry takes.
+    const fn words(self) -> usize {
+        match self {
+            Form::First => 2,
+            Form::Second => 3,
+        }
+    }
 }
 
 /// What an entry is.
@@ -122,7 +130,7 @@ pub fn house_form(bytes: &[u8], imposed: Option<Version>) -> Result<Vec<u8>, Ref
 pub fn house_form_in(bytes: &[u8], imposed: Option<Version>, form: Form) -> Result<Vec<u8>, Refused> {
     // Quotes and escapes at most double a line.
     let mut out = vec![0; form.max_length().min(2 * bytes.len())];
-    let answer = ffi::house(bytes, imposed, form, &mut vec![0; table_words(bytes)], &mut out);
+    let answer = ffi::house(bytes, imposed, form, &mut vec![0; table_words(bytes, form)], &mut out);
     accepted(answer.number, answer.line, answer.start)?;
     out.truncate(answer.length as usize);
     Ok(out)
@@ -143,7 +151,7 @@ pub fn dictionaries(bytes: &[u8], imposed: Option<Version>) -> Result<Dictionari
 
 /// The dictionaries of a header within the limits of the form named.
 pub fn dictionaries_in(bytes: &[u8], imposed: Option<Version>, form: Form) -> Result<Dictionaries, Refused> {
-    let words = table_words(bytes);
+    let words = table_words(bytes, form);
     let (mut strings, mut contigs) = (vec![0; words], vec![0; words]);
     let answer = ffi::dictionaries(bytes, imposed, form, &mut vec![0; words], &mut strings, &mut contigs);
     accepted(answer.number, answer.line, answer.start)?;
@@ -184,7 +192,7 @@ impl Register {
 
     /// Reads a header so within the limits of the form named, and its register.
     pub fn read_in(bytes: &[u8], imposed: Option<Version>, form: Form) -> Result<Self, Refused> {
-        let answer = ffi::register(bytes, imposed, form, &mut vec![0; table_words(bytes)]);
+        let answer = ffi::register(bytes, imposed, form, &mut vec![0; table_words(bytes, form)]);
         accepted(answer.number, answer.line, answer.start)?;
         Ok(Self { constants: answer.constants })
     }
@@ -214,10 +222,10 @@ impl<'h> Header<'h> {
 
     /// Reads a header so and stores its entries in the form named.
     pub fn read_in(bytes: &'h [u8], imposed: Option<Version>, form: Form) -> Result<Self, Refused> {
-        let mut table = vec![0; table_words(bytes)];
+        let mut table = vec![0; table_words(bytes, form)];
         let answer = ffi::read(bytes, imposed, form, &mut table);
         accepted(answer.number, answer.line, answer.start)?;
-        table.truncate(2 * answer.entries as usize);
+        table.truncate(form.words() * answer.entries as usize);
         Ok(Self { bytes, form, table, lines: answer.line, imposed })
     }
 
@@ -226,12 +234,15 @@ impl<'h> Header<'h> {
         if form == self.form {
             return Ok(self.clone());
         }
-        let turn = match form {
-            Form::First => ffi::to_first,
-            Form::Second => ffi::to_second,
+        let mut table = vec![0; form.words() * (self.table.len() / self.form.words())];
+        let turned = match form {
+            Form::First => ffi::to_first(self.bytes, &self.table, &mut table),
+            Form::Second => {
+                let version = self.version().expect("an accepted header has a version");
+                ffi::to_second(self.bytes, &self.table, version, &mut table)
+            }
         };
-        let mut table = vec![0; self.table.len()];
-        accepted(turn(self.bytes, &self.table, &mut table).number, 0, 0)?;
+        accepted(turned.number, 0, 0)?;
         Ok(Self { form, table, ..*self })
     }
 
@@ -263,7 +274,7 @@ impl<'h> Header<'h> {
 
     /// The numbers of the entries that carry a Number, IDX or length with a sign or a leading zero, such as `+5` or `007`.
     pub fn odd(&self) -> Vec<u64> {
-        let mut list = vec![0; self.table.len() / 2];
+        let mut list = vec![0; self.table.len() / self.form.words()];
         let listed = self.version().map_or(0, |version| ffi::odd(self.bytes, &self.table, self.form, version, &mut list).listed);
         list.truncate(listed as usize);
         list
@@ -276,9 +287,9 @@ impl<'h> Header<'h> {
 }
 
 /// A table of this size has room for every entry: each line and each tab gives one at most.
-fn table_words(bytes: &[u8]) -> usize {
+fn table_words(bytes: &[u8], form: Form) -> usize {
     let ends = bytes.iter().filter(|&&b| b == b'\n' || b == b'\t').count();
-    2 * (ends + 1)
+    form.words() * (ends + 1)
 }
 
 /// An entry of an accepted header: a line, or a sample.
@@ -295,7 +306,7 @@ impl<'t, 'h> Entry<'t, 'h> {
     }
 
     pub fn kind(&self) -> Kind {
-        let word = self.header.table[2 * self.number as usize];
+        let word = self.header.table[self.header.form.words() * self.number as usize];
         KINDS[(word >> 60) as usize - 1]
     }
 
@@ -307,6 +318,13 @@ impl<'t, 'h> Entry<'t, 'h> {
     /// The ID as it is written, without quotes; INFO, FILTER, FORMAT, ALT, contig and other maps have one.
     pub fn id(&self) -> Option<&'h [u8]> {
         self.header.part(ffi::id(self.header.bytes, &self.header.table, self.header.form, self.number))
+    }
+
+    /// The key and the number of fields, without reading the line: told in the second form alone, and not of the column line and samples.
+    pub fn key(&self) -> Option<(&'h [u8], u64)> {
+        let found = ffi::key(self.header.bytes, &self.header.table, self.header.form, self.number);
+        let key = self.header.part(ffi::Part { number: found.number, start: found.start, length: found.length })?;
+        Some((key, found.fields))
     }
 
     /// The fields of a map in order, each from its key through its value with its quotes; none where the entry is no map.

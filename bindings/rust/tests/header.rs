@@ -213,6 +213,26 @@ fn entries_turned_to_the_other_form_show_the_same_parts() {
 }
 
 #[test]
+fn keys_and_numbers_of_fields_are_told_in_the_second_form() {
+    let bytes = format!("##fileformat=VCFv4.3\n##META=<ID=x,Values=[a,K=b]>\n##n=t\n{COLUMNS}\tFORMAT\ts");
+    let first = Header::read(bytes.as_bytes(), None).unwrap();
+    assert!(first.entries().all(|entry| entry.key().is_none()));
+    for header in [first.to_form(Form::Second).unwrap(), Header::read_in(bytes.as_bytes(), None, Form::Second).unwrap()] {
+        let keys: Vec<_> = header.entries().map(|entry| entry.key()).collect();
+        assert_eq!(keys, [Some((&b"fileformat"[..], 0)), Some((b"META", 2)), Some((b"n", 0)), None, None]);
+    }
+}
+
+#[test]
+fn turning_reads_lines_by_the_version_in_force() {
+    let bytes = format!("##fileformat=VCFv4.2\n##META=<ID=x,Values=[a,K=b]>\n{COLUMNS}");
+    for (version, fields) in [(None, 3), (Some(Version { major: 4, minor: 3 }), 2)] {
+        let header = Header::read(bytes.as_bytes(), version).unwrap().to_form(Form::Second).unwrap();
+        assert_eq!(header.entry(1).unwrap().key(), Some((&b"META"[..], fields)));
+    }
+}
+
+#[test]
 fn entries_that_do_not_fit_the_first_form_are_not_turned() {
     let bytes = long_line(Form::First.max_line() + 1);
     let header = Header::read_in(bytes.as_bytes(), None, Form::Second).unwrap();

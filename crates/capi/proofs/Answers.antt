@@ -10,7 +10,7 @@ use borrow.Author.Tests.{eq-eqb, ne-eqb}
 use Rattle.rules.specs.Version.{Version, version}
 use Rattle.rules.specs.House.{house}
 use Rattle.rules.specs.Shown.{Part}
-use Rattle.entries.specs.Tables.{room, stored as storedIn, shownEntry, shownId, shownField}
+use Rattle.entries.specs.Tables.{room, stored as storedIn, shownEntry, shownId, shownKey, shownField}
 use Rattle.entries.specs.Values.{limitsBy}
 use Rattle.entries.specs.declared.form.Form.{Form}
 use Rattle.entries.specs.declared.form.Form.the-variants.{First, Second}
@@ -19,10 +19,13 @@ use Rattle.records.specs.declared.refusal.Refusal.{Refusal}
 use Rattle.records.specs.declared.refusal.Refusal.the-variants as refusal
 use Rattle.records.specs.Formats.{versionOf}
 use Rattle.records.specs.declared.file_format.FileFormat.{FileFormat}
-use Rattle.entries.specs.Shown.{answered, orRefused, shownAs, Inside}
+use Rattle.entries.specs.Shown.{answered, orRefused, shownAs, Inside, keyAnswered, keyOrRefused, KeyInside}
+use Rattle.entries.specs.declared.shown.KeyShown.{KeyShown}
+use Rattle.entries.specs.declared.shown.KeyShown.the-variants as key
 use Rattle.entries.specs.declared.shown.Shown.{Shown}
 use Rattle.entries.specs.declared.shown.Shown.the-variants as shown
-use Rattle.entries.proofs.Calls.{answer-is}
+use Rattle.entries.proofs.Calls.{answer-is, key-answered-injective}
+use Rattle.values.proofs.Tests.{never}
 use Rattle.header.specs.Parsers.{AnswerMeaning, outcomeNumber, readInto, ReadCall}
 use Rattle.header.specs.declared.parser.Outcome.{Outcome}
 use Rattle.header.specs.declared.parser.Outcome.the-variants as outcome
@@ -39,13 +42,14 @@ use Rattle.spelling.specs.Odd.{oddIn, oddAnswer, oddList}
 use Rattle.spelling.specs.Odd.{outcomeNumber as oddNumber}
 use Rattle.spelling.specs.declared.odd.OddAnswer.{OddAnswer}
 use Rattle.capi.specs.declared.VcfhOdd.{VcfhOdd}
-use Rattle.turning.specs.Turning.{turnNumber}
+use Rattle.turning.specs.Turning.{turnNumber, toSecond, turnAnswer, turnTable}
 use Rattle.turning.specs.declared.turn.TurnAnswer.{TurnAnswer}
 use Rattle.capi.specs.declared.VcfhTurned.{VcfhTurned}
-use Rattle.capi.specs.Answers.{oddAs, turnedAs, flag, imposedBy, formBy, answerInC, formInC, partOf, partAs, Ordered, registerAs, differencesAs}
+use Rattle.capi.specs.Answers.{oddAs, turnedAs, flag, imposedBy, formBy, answerInC, formInC, partOf, partAs, Ordered, keyShownIn, keyShownAs, KeyOrdered, registerAs, differencesAs}
 use Rattle.capi.specs.declared.VcfhAnswer.{VcfhAnswer}
 use Rattle.capi.specs.declared.VcfhForm.{VcfhForm}
 use Rattle.capi.specs.declared.VcfhPart.{VcfhPart}
+use Rattle.capi.specs.declared.VcfhKey.{VcfhKey}
 use Rattle.capi.specs.declared.VcfhRegister.{VcfhRegister}
 
 -- Parts
@@ -85,6 +89,35 @@ module _ (s : Shown) where
   no-part e q = rw (q, e)
 
 pub ruleset parts = (ordered, shows-entry, shows-id, shows-field, part-ordered, part-numbers, no-part)
+
+-- Keys
+
+pub key-ordered : (n : ℕ) (s : KeyShown) → KeyInside n s → KeyOrdered s
+key-ordered n (key.Key start end fields) i = i .0
+key-ordered n key.Refused i = tt
+
+module _ {f form : Form} (k : f ≡ form) (h t : List ℕ) (n : ℕ) (s : KeyShown) {r : VcfhKey} where
+  pub shows-key : keyAnswered s ≡ keyOrRefused (shownKey f h t n) → r ≡ keyShownAs s → r ≡ keyShownIn (shownKey form h t n)
+  shows-key a b = b ∙ go s (shownKey f h t n) a ∙ ap (λ (x : Form). keyShownIn (shownKey x h t n)) k
+    where
+      go : (s : KeyShown) (o : Option (Part × ℕ)) → keyAnswered s ≡ keyOrRefused o → keyShownAs s ≡ keyShownIn o
+      go (key.Key start end fields) none e = never cc
+      go (key.Key start end fields) (some p) e = ap keyShownAs (key-answered-injective (key.Key start end fields) (key.Key (p .0 .0) (p .0 .1) (p .1)) e)
+      go key.Refused none e = refl
+      go key.Refused (some p) e = never cc
+
+module _ (s : KeyShown) where
+  module _ (start end fields : ℕ) (e : s ≡ key.Key start end fields) where
+    pub key-fits : KeyOrdered s → start ≤ end
+    key-fits o = subst KeyOrdered e o
+
+    pub key-numbers : record { number = 0; start = start; length = end - start; fields = fields } ≡ keyShownAs s
+    key-numbers = sym (ap keyShownAs e)
+
+  pub no-key : s ≡ key.Refused → {n : ℕ} → n ≡ number refusal.InvalidEntry → record { number = n; start = 0; length = 0; fields = 0 } ≡ keyShownAs s
+  no-key e q = rw (q, e)
+
+pub ruleset keys = (key-ordered, shows-key, key-fits, key-numbers, no-key)
 
 -- Readings
 
@@ -201,4 +234,11 @@ turned-told a e = ap (λ k. record { number = k; entries = a .entries }) e
 pub turned-is : {a b : TurnAnswer} → a ≡ b → {r : VcfhTurned} → r ≡ turnedAs a → r ≡ turnedAs b
 turned-is e q = q ∙ ap turnedAs e
 
-pub ruleset turnings = (turned-told, turned-is)
+module _ (major minor : ℕ) {f : FileFormat} (e : f ≡ record { major = major; minor = minor }) (h s t : List ℕ) where
+  pub turned-under : {a : TurnAnswer} → a ≡ turnAnswer (toSecond (versionOf f)) h s t → {r : VcfhTurned} → r ≡ turnedAs a → r ≡ turnedAs (turnAnswer (toSecond (version major minor)) h s t)
+  turned-under b q = q ∙ ap turnedAs (b ∙ ap (λ (x : FileFormat). turnAnswer (toSecond (versionOf x)) h s t) e)
+
+  pub table-under : {t′ : List ℕ} → t′ ≡ turnTable (toSecond (versionOf f)) h s t → t′ ≡ turnTable (toSecond (version major minor)) h s t
+  table-under b = b ∙ ap (λ (x : FileFormat). turnTable (toSecond (versionOf x)) h s t) e
+
+pub ruleset turnings = (turned-told, turned-is, turned-under, table-under)

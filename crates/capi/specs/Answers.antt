@@ -24,7 +24,10 @@ use Rattle.capi.specs.declared.VcfhAnswer.{VcfhAnswer}
 use Rattle.capi.specs.declared.VcfhForm.{VcfhForm}
 use Rattle.capi.specs.declared.VcfhDictionaries.{VcfhDictionaries}
 use Rattle.dictionary.specs.Dictionary.{Dictionaries, dictionaries}
+use Rattle.entries.specs.declared.shown.KeyShown.{KeyShown}
+use Rattle.entries.specs.declared.shown.KeyShown.the-variants as key
 use Rattle.capi.specs.declared.VcfhPart.{VcfhPart}
+use Rattle.capi.specs.declared.VcfhKey.{VcfhKey}
 use Rattle.spelling.specs.Odd.{outcomeNumber}
 use Rattle.spelling.specs.declared.odd.OddAnswer.{OddAnswer}
 use Rattle.capi.specs.declared.VcfhOdd.{VcfhOdd}
@@ -81,6 +84,19 @@ partAs shown.Refused = record { number = 29; start = 0; length = 0 }
 abbrev pub Ordered : Shown → Type 0
 Ordered (shown.Part start end) = start ≤ end
 Ordered shown.Refused = Unit {0}
+
+-- the same of a key, with the number of fields
+abbrev pub keyShownIn : Option (Part × ℕ) → VcfhKey
+keyShownIn none = record { number = 29; start = 0; length = 0; fields = 0 }
+keyShownIn (some p) = record { number = 0; start = p .0 .0; length = p .0 .1 - p .0 .0; fields = p .1 }
+
+abbrev pub keyShownAs : KeyShown → VcfhKey
+keyShownAs (key.Key start end fields) = record { number = 0; start = start; length = end - start; fields = fields }
+keyShownAs key.Refused = record { number = 29; start = 0; length = 0; fields = 0 }
+
+abbrev pub KeyOrdered : KeyShown → Type 0
+KeyOrdered (key.Key start end fields) = start ≤ end
+KeyOrdered key.Refused = Unit {0}
 
 -- the forty constants, all 0 if refused
 abbrev pub registerAs : RegisterReading → VcfhRegister

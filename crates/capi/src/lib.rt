@@ -1,5 +1,6 @@
 // The library for programs in C, Rust or Python: answers are structs of 64-bit numbers, slices pass as pointer and length.
 use entries::form::Form;
+use entries::shown::KeyShown;
 use entries::shown::Shown;
 use header::file_format_option::FileFormatOption;
 use header::parser::Outcome;
@@ -16,17 +17,16 @@ ghost use lib.Seq.{sets};
 ghost use Rattle.values.specs.Utf8.{isUtf8};
 ghost use Rattle.rules.specs.Version.{version};
 ghost use Rattle.rules.specs.House.{house};
-ghost use Rattle.entries.specs.declared.form.Form.the-variants.{First, Second};
 ghost use Rattle.entries.specs.Values.{limitsBy};
-ghost use Rattle.entries.specs.Tables.{room, stored, shownEntry, shownId, shownField};
+ghost use Rattle.entries.specs.Tables.{room, stored, shownEntry, shownId, shownKey, shownField};
 ghost use Rattle.header.specs.Verdicts.{imposedOf};
 ghost use Rattle.header.specs.Parsers.{outcomeNumber, readInto};
 ghost use Rattle.sam.specs.Contigs.{contigLines, contigsFitting};
 ghost use Rattle.register.specs.Register.{registerOf};
 ghost use Rattle.register.specs.Compare.{differing};
 ghost use Rattle.spelling.specs.Odd.{oddIn, oddAnswer, oddList};
-ghost use Rattle.turning.specs.Turning.{turnAnswer, turnTable};
-ghost use Rattle.capi.specs.Answers.{flag, imposedBy, formBy, answerInC, formInC, dictionariesIn, dictionariesInC, partOf, partAs, Ordered, registerAs, differencesAs, oddAs, turnedAs, contigsInC};
+ghost use Rattle.turning.specs.Turning.{toFirst, toSecond, turnAnswer, turnTable};
+ghost use Rattle.capi.specs.Answers.{flag, imposedBy, formBy, answerInC, formInC, dictionariesIn, dictionariesInC, partOf, partAs, Ordered, keyShownAs, keyShownIn, KeyOrdered, registerAs, differencesAs, oddAs, turnedAs, contigsInC};
 
 // Document 01's number, 0 if accepted; the line and its start; how many entries the table keeps.
 #[repr(C)]
@@ -88,6 +88,15 @@ pub struct VcfhPart {
     pub number: u64,
     pub start: u64,
     pub length: u64,
+}
+
+// Number 0, a key as a part of the header and how many fields its record has; or number 29 and nothing.
+#[repr(C)]
+pub struct VcfhKey {
+    pub number: u64,
+    pub start: u64,
+    pub length: u64,
+    pub fields: u64,
 }
 
 // The same as a read answer, and the constants of W01 to W40 in whole hundredths, all 0 if refused.
@@ -159,6 +168,29 @@ fn part_of(shown: Shown) -> VcfhPart
     }
 }
 
+fn key_of(shown: KeyShown) -> VcfhKey
+    requires { ⌜ KeyOrdered shown ⌝ }
+    ensures { λ r. ⌜ r ≡ keyShownAs shown ⌝ }
+{
+    match shown {
+        KeyShown::Key { start, end, fields } => VcfhKey {
+            number: 0,
+            start: start as u64,
+            length: (end - start) as u64,
+            fields: fields as u64,
+        },
+        KeyShown::Refused => {
+            let refusal = Refusal::InvalidEntry;
+            VcfhKey {
+                number: refusal.number(),
+                start: 0,
+                length: 0,
+                fields: 0,
+            }
+        }
+    }
+}
+
 fn turned(answer: TurnAnswer) -> VcfhTurned
     ensures { λ r. ⌜ r ≡ turnedAs answer ⌝ }
 {
@@ -181,7 +213,7 @@ pub extern "C" fn vcfh_utf8(bytes: &[u8]) -> u64
     0
 }
 
-// Reads a header into the table, two words for each entry. `form`: 1 for the first form and its limits, 2 for the second.
+// Reads a header into the table. `form`: 1 for the first form and its limits, with two words for each entry; 2 for the second, with three.
 #[no_mangle]
 pub extern "C" fn vcfh_read(
     header: &[u8],
@@ -368,6 +400,15 @@ pub extern "C" fn vcfh_id(header: &[u8], table: &[u64], form: u64, entry: u64) -
     part_of(shown)
 }
 
+// The key of an entry, after its `##`, and how many fields its record has, in the second form; its line is not read.
+#[no_mangle]
+pub extern "C" fn vcfh_key(header: &[u8], table: &[u64], form: u64, entry: u64) -> VcfhKey
+    ensures { λ r. ⌜ r ≡ keyShownIn (shownKey (formBy form) (now (header .entry)) (now (table .entry)) entry) ⌝ }
+{
+    let shown = header::shown::key(header, table, form_of(form), entry as usize);
+    key_of(shown)
+}
+
 // Field `field`, from 0, of an entry, key through value; the entry's line is read again, under the version given.
 #[no_mangle]
 pub extern "C" fn vcfh_field(
@@ -416,20 +457,27 @@ pub extern "C" fn vcfh_odd(
     }
 }
 
-// The entries of a table of the first form, in one of the second.
+// The entries of a table of the first form, in one of the second; their lines are read again, under the version given.
 #[no_mangle]
-pub extern "C" fn vcfh_to_second(header: &[u8], first: &[u64], second: &mut [u64]) -> VcfhTurned
-    ensures answer { λ r. ⌜ r ≡ turnedAs (turnAnswer First Second (now (header .entry)) (now (first .entry)) (now (second .entry))) ⌝ }
-    ensures table { λ _. ⌜ now (second .exit) ≡ turnTable First Second (now (header .entry)) (now (first .entry)) (now (second .entry)) ⌝ }
+pub extern "C" fn vcfh_to_second(
+    header: &[u8],
+    first: &[u64],
+    major: u32,
+    minor: u32,
+    second: &mut [u64],
+) -> VcfhTurned
+    ensures answer { λ r. ⌜ r ≡ turnedAs (turnAnswer (toSecond (version major minor)) (now (header .entry)) (now (first .entry)) (now (second .entry))) ⌝ }
+    ensures table { λ _. ⌜ now (second .exit) ≡ turnTable (toSecond (version major minor)) (now (header .entry)) (now (first .entry)) (now (second .entry)) ⌝ }
 {
-    turned(turn::to_second(header, first, second))
+    let under = FileFormat::new(major, minor);
+    turned(turn::to_second(header, first, second, under))
 }
 
 // The entries of a table of the second form, in one of the first.
 #[no_mangle]
 pub extern "C" fn vcfh_to_first(header: &[u8], second: &[u64], first: &mut [u64]) -> VcfhTurned
-    ensures answer { λ r. ⌜ r ≡ turnedAs (turnAnswer Second First (now (header .entry)) (now (second .entry)) (now (first .entry))) ⌝ }
-    ensures table { λ _. ⌜ now (first .exit) ≡ turnTable Second First (now (header .entry)) (now (second .entry)) (now (first .entry)) ⌝ }
+    ensures answer { λ r. ⌜ r ≡ turnedAs (turnAnswer toFirst (now (header .entry)) (now (second .entry)) (now (first .entry))) ⌝ }
+    ensures table { λ _. ⌜ now (first .exit) ≡ turnTable toFirst (now (header .entry)) (now (second .entry)) (now (first .entry)) ⌝ }
 {
     turned(turn::to_first(header, second, first))
 }

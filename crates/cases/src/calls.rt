@@ -7,6 +7,7 @@ use entries::table;
 use header::file_format_option::FileFormatOption;
 use header::parser;
 use header::shown;
+use header::shown::KeyShown;
 use header::shown::Shown;
 use records::file_format::FileFormat;
 use values::integer::IntegerRead;
@@ -40,6 +41,18 @@ fn put_id(out: &mut [u8], at: usize, header: &[u8], table: &[u64], form: Form, n
     output::put_bytes(out, next, shown::bytes_of(header, id))
 }
 
+// The key's part, and how many fields its record has.
+fn put_key(out: &mut [u8], at: usize, header: &[u8], table: &[u64], form: Form, n: usize) -> usize {
+    let labelled = output::put_bytes(out, at, b" key=");
+    match shown::key(header, table, form, n) {
+        KeyShown::Key { start, end, fields } => {
+            let placed = put_shown(out, labelled, Shown::Part { start, end });
+            text::put_number(out, placed, b" of ", fields as u64)
+        }
+        KeyShown::Refused => output::put_bytes(out, labelled, b"29"),
+    }
+}
+
 // The fields up to the first that is refused, at most 64.
 fn put_fields(
     out: &mut [u8],
@@ -64,7 +77,7 @@ fn put_fields(
     next
 }
 
-// The entry's number, its part, and its ID.
+// The entry's number, its part, its ID and its key.
 fn put_places(
     out: &mut [u8],
     at: usize,
@@ -76,7 +89,8 @@ fn put_places(
     let numbered = text::put_number(out, at, b"", n as u64);
     let labelled = output::put_bytes(out, numbered, b" entry=");
     let placed = put_shown(out, labelled, shown::entry(header, table, form, n));
-    put_id(out, placed, header, table, form, n)
+    let named = put_id(out, placed, header, table, form, n);
+    put_key(out, named, header, table, form, n)
 }
 
 fn put_entry(

@@ -4,6 +4,7 @@ use crate::forms;
 use crate::reads;
 use crate::text;
 use crate::words;
+use capi::VcfhKey;
 use capi::VcfhPart;
 use entries::form::Form;
 use records::file_format;
@@ -135,26 +136,39 @@ fn put_part(out: &mut [u8], at: usize, label: &[u8], part: VcfhPart) -> usize {
     text::put_number(out, started, b" length=", part.length)
 }
 
-// An entry, its ID and one of its fields.
-fn put_parts(out: &mut [u8], header: &[u8], asked: &[u8], table: &[u64]) -> usize {
-    let entry = words::size(asked, 3) as u64;
-    let field = words::size(asked, 4) as u64;
-    let v = words::version(asked, 1);
-    let form = form_of(asked);
+fn put_key(out: &mut [u8], at: usize, key: VcfhKey) -> usize {
+    let numbered = text::put_number(out, at, b", key ", key.number);
+    let started = text::put_number(out, numbered, b" start=", key.start);
+    let sized = text::put_number(out, started, b" length=", key.length);
+    text::put_number(out, sized, b" fields=", key.fields)
+}
+
+// An entry and its ID.
+fn put_named(out: &mut [u8], header: &[u8], table: &[u64], form: u64, entry: u64) -> usize {
     let shown = put_part(
         out,
         0,
         b"entry ",
         capi::vcfh_entry(header, table, form, entry),
     );
-    let named = put_part(
+    put_part(
         out,
         shown,
         b", id ",
         capi::vcfh_id(header, table, form, entry),
-    );
+    )
+}
+
+// The same, one of its fields and its key.
+fn put_parts(out: &mut [u8], header: &[u8], asked: &[u8], table: &[u64]) -> usize {
+    let entry = words::size(asked, 3) as u64;
+    let field = words::size(asked, 4) as u64;
+    let v = words::version(asked, 1);
+    let form = form_of(asked);
+    let named = put_named(out, header, table, form, entry);
     let part = capi::vcfh_field(header, table, form, entry, v.major, v.minor, field);
-    put_part(out, named, b", field ", part)
+    let placed = put_part(out, named, b", field ", part);
+    put_key(out, placed, capi::vcfh_key(header, table, form, entry))
 }
 
 // Those of the entries that reading leaves.

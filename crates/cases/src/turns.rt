@@ -1,5 +1,5 @@
 // What comes of turning the entries that reading left into the other form. Asked: the words of the table that is read, those of the other
-// one, a word that says nothing twice, and the words forged.
+// one, the version under which lines are read again, a word that says nothing, and the words forged.
 use crate::calls;
 use crate::reads;
 use crate::text;
@@ -7,6 +7,7 @@ use crate::words;
 use entries::form::Form;
 use header::file_format_option::FileFormatOption;
 use header::parser;
+use records::file_format::FileFormat;
 use turning::turn;
 use turning::turn::TurnAnswer;
 
@@ -17,9 +18,15 @@ fn put_answer(out: &mut [u8], answer: TurnAnswer) -> usize {
 }
 
 // From this form into the other.
-fn turn_entries(header: &[u8], source: &[u64], from: Form, target: &mut [u64]) -> TurnAnswer {
+fn turn_entries(
+    header: &[u8],
+    source: &[u64],
+    from: Form,
+    target: &mut [u64],
+    version: FileFormat,
+) -> TurnAnswer {
     match from {
-        Form::First => turn::to_second(header, source, target),
+        Form::First => turn::to_second(header, source, target, version),
         Form::Second => turn::to_first(header, source, target),
     }
 }
@@ -35,7 +42,8 @@ fn put_turned(
 ) -> usize {
     parser::read(header, FileFormatOption::None, from, source);
     calls::forge(source, asked);
-    put_answer(out, turn_entries(header, source, from, target))
+    let version = words::version(asked, 3);
+    put_answer(out, turn_entries(header, source, from, target, version))
 }
 
 // The same with the first words of both tables.

@@ -2,7 +2,7 @@
 use Prim.Native.Nat.{ℕ, _+_}
 use mathlib.Core.Path.{_≡_, refl, sym, ap, ap₂, _∙_}
 use mathlib.Core.Bool.{Bool, true, false, true≢false}
-use mathlib.Core.List.{List, [], _∷_, _++_}
+use mathlib.Core.List.{List, [], _∷_, _++_, map}
 use mathlib.Core.Option.{Option}
 use lib.ListN.{length}
 use Rattle.values.specs.Bytes.{Bytes, ascii, same}
@@ -16,8 +16,8 @@ use Rattle.rules.specs.Known.{Kind, INFO, FILTER, FORMAT, ALT, contig, other, k
 use Rattle.rules.specs.Map.{isMeta, fieldsAt}
 use Rattle.rules.specs.Record.{Record, fileformat, fields, text, readRecord}
 use Rattle.rules.specs.Columns.{Columns}
-use Rattle.rules.specs.Entry.{Entry, mapKind, textKind, fieldsStart, recordEntry, sampleEntries, columnEntries}
-use Rattle.rules.specs.Shown.{lineIn}
+use Rattle.rules.specs.Entry.{Entry, Counts, withCounts, mapKind, textKind, fieldsStart, lineEntry, recordEntry, sampleEntries, columnEntries}
+use Rattle.rules.specs.Shown.{lineIn, idIn}
 use Rattle.rules.specs.Reading.{idOf}
 use Rattle.rules.proofs.Firsts.{on-ok}
 use Rattle.rules.proofs.Records.{Entered}
@@ -110,7 +110,7 @@ module _ (lim : Limits) (h : Bytes) (v : Version) (d : Dictionary) where
     line : isOf d r ≡ true → lineOfEntry h n e ≡ record { entry = n; id = idOf v r; idx = idxIn v r }
 
   row-same : (n : ℕ) (e : Entry) (r : Record) → Row lim h v e r → Entered v r → Same n e r
-  unfolding recordEntry
+  unfolding recordEntry lineEntry
   row-same n e (fileformat w) row g = absurd g
   row-same n e (fields k fs) row g =
       let s = shows-map lim h v k fs e row (g .fine .whole) in
@@ -158,10 +158,16 @@ module _ (lim : Limits) (h : Bytes) (v : Version) (d : Dictionary) where
   -- the fileformat line is entry 0, so the first record's entry is 1
   pub header-lines : {imposed : Option Version} {rs : List Record} {c : Columns} (es : List Entry) → TracedHeader lim imposed h v rs c es → All (Entered v) rs
       → entryLines d h 0 es ≡ linesOf d v 1 rs
-  unfolding entryLines recordEntry
+  unfolding entryLines recordEntry lineEntry
   header-lines {rs = rs} {c = c} es t g =
       ap (entryLines d h 0) (t .these) ∙ rw (no-format d) (rows-same 1 (t .rows) rs (columnEntries (t .start) (t .line) c) (t .all) g (columns-none (t .start) (t .line) c))
     where
       no-format : (d : Dictionary) → holds d 1 ≡ false
       no-format Strings = refl
       no-format Contigs = refl
+
+-- the lines are those of the entries whatever these tell of keys and fields, so in either form
+pub lines-uncounted : (d : Dictionary) (h : Bytes) (n : ℕ) (counts : Entry → Counts) (es : List Entry) → entryLines d h n (map (λ (e : Entry). withCounts (counts e) e) es) ≡ entryLines d h n es
+unfolding entryLines lineIn idIn entryIdx
+lines-uncounted d h n counts [] = refl
+lines-uncounted d h n counts (e ∷ es) = ap (lineIf (holds d (e .kind)) (lineOfEntry h n e)) (lines-uncounted d h (n + 1) counts es)

@@ -1,29 +1,35 @@
 -- The calls on an entry number: the ways of the code's tests and answers, on plain values. Assumes nothing.
-use Prim.Native.Nat.{ℕ, _+_, _-_, _≤_, _<_}
+use Prim.Native.Nat.{ℕ, _+_, _*_, _-_, _^_, _≤_, _<_}
 use native.Mathlib.Omega.{arith}
 use mathlib.Core.Path.{_≡_, refl, sym, ap, ap₂, _∙_}
-use mathlib.Core.Bool.{Bool, true, false, not, _||_, _&&_}
+use mathlib.Core.Bool.{Bool, true, false, not, _||_, _&&_, and-true, and-false}
 use mathlib.Core.List.{List}
 use mathlib.Core.Option.{Option, none, some}
 use lib.Dec.{eqb, leb}
 use lib.ListN.{length, take, drop, length-drop}
 use lib.Seq.{take-all, drop-drop}
 use borrow.Author.Tests.{eq-eqb, ne-eqb, le-leb, lt-leb, eqb-true, leb-true, leb-false}
+use mir.Syntax.{w64}
+use mir.Val.{Fits}
 use Rattle.values.specs.Bytes.{Bytes}
 use Rattle.values.proofs.Tests.{pass, fail, test, and-l, and-r, not-true, not-false, never}
 use Rattle.values.proofs.Lists.{some-is, none-not}
 use Rattle.rules.specs.Entry.{Entry as RuleEntry}
 use Rattle.rules.specs.Answer.{Answer, ok, refuse}
-use Rattle.rules.specs.Shown.{Part as RulePart, hasId, saysNoId, wellFormed, idIn, idPart}
-use Rattle.entries.specs.Tables.{entryIn, wordsClear, entryAt, shownEntry, shownId}
-use Rattle.entries.specs.Values.{entryOf}
+use Rattle.rules.specs.Sizes.{Limits as RuleLimits}
+use Rattle.rules.specs.Shown.{Part as RulePart, hasId, saysNoId, countsInPlace, wellFormed, idIn, idPart, entryKeyPart}
+use Rattle.entries.specs.Tables.{entryIn, wordsClear, entryAt, shownEntry, shownId, shownKey}
+use Rattle.entries.specs.Values.{entryOf, limitsOf, limitsBy}
 use Rattle.entries.specs.declared.entry.Entry.{Entry}
 use Rattle.entries.specs.declared.form.Form.{Form}
 use Rattle.entries.specs.declared.shown.Shown.{Shown}
 use Rattle.entries.specs.declared.shown.Shown.the-variants.{Part, Refused}
+use Rattle.entries.specs.declared.limits.Limits.{Limits}
+use Rattle.entries.specs.declared.shown.KeyShown.{KeyShown}
+use Rattle.entries.specs.declared.shown.KeyShown.the-variants as key
 use Rattle.entries.specs.declared.shown.EntryRead.{EntryRead}
 use Rattle.entries.specs.declared.shown.EntryRead.the-variants as read
-use Rattle.entries.specs.Shown.{answered, orRefused, shownAs, entryMeant, bytesOf, Inside}
+use Rattle.entries.specs.Shown.{answered, orRefused, keyAnswered, keyOrRefused, shownAs, entryMeant, bytesOf, Inside, KeyInside}
 
 -- The tests of an entry
 
@@ -111,11 +117,16 @@ module _ (size : ℕ) (e : RuleEntry) {p : Bool} (a : p ≡ (leb 1 (e .kind) && 
         unfolding wellFormed
         line-outside f = rw (← a, not-false p on, ← c, not-false r rn, ← d, not-false t tn, ← g, not-true u f)
 
-        pub line-inside : not u ≡ false → {w : Bool} → w ≡ leb (e .offset + e .idLength) (e .length) → w ≡ wellFormed size e
-        unfolding wellFormed
-        line-inside f b = rw (← a, not-false p on, ← c, not-false r rn, ← d, not-false t tn, ← g, not-false u f) b
+        module _ (un : not u ≡ false) {w : Bool} (b : w ≡ leb (e .offset + e .idLength) (e .length)) where
+          pub id-outside : not w ≡ true → false ≡ wellFormed size e
+          unfolding wellFormed
+          id-outside f = rw (← a, not-false p on, ← c, not-false r rn, ← d, not-false t tn, ← g, not-false u un, ← b, not-true w f)
 
-pub ruleset wells = (wrong-kind, wrong-tag, wrong-id, line-outside, line-inside)
+          pub id-inside : not w ≡ false → {x : Bool} → x ≡ countsInPlace e → x ≡ wellFormed size e
+          unfolding wellFormed
+          id-inside f k = rw (← a, not-false p on, ← c, not-false r rn, ← d, not-false t tn, ← g, not-false u un, ← b, not-false w f) k
+
+pub ruleset wells = (wrong-kind, wrong-tag, wrong-id, line-outside, id-outside, id-inside)
 
 -- The parts
 
@@ -141,6 +152,31 @@ module _ (form : Form) (h : Bytes) (table : List ℕ) (n : ℕ) {p : Bool} (a : 
 
 pub ruleset entries = (entry-unclear, entry-formed, entry-malformed)
 
+id-small : (k : ℕ) → hasId k ≡ true → k ≤ 8
+id-small k h = let s = leb-true k 7 (and-r (leb 2 k) (leb k 7) h) in omega arith
+
+-- what it tells of a key and of fields
+module _ (e : Entry) {p : Bool} (a : p ≡ hasId (e .kind)) where
+  pub counts-of-map : p ≡ true → true ≡ countsInPlace (entryOf e)
+  unfolding countsInPlace
+  counts-of-map f = let h = sym a ∙ f in let s = id-small (e .kind) h in rw (h, le-leb (e .kind) 8 s)
+
+  module _ (off : p ≡ false) where
+    pub fields-undue : (e .«field_count» ≡ 0 → ⊥) → false ≡ countsInPlace (entryOf e)
+    unfolding countsInPlace
+    fields-undue n = rw (sym a ∙ off, ne-eqb (e .«field_count») 0 n) (sym (and-false (leb (e .kind) 8 || eqb (e .«key_length») 0)))
+
+    module _ (z : e .«field_count» ≡ 0) where
+      pub key-due : e .kind ≤ 8 → true ≡ countsInPlace (entryOf e)
+      unfolding countsInPlace
+      key-due s = rw (sym a ∙ off, z, le-leb (e .kind) 8 s)
+
+      pub key-undue : 8 < e .kind → eqb (e .«key_length») 0 ≡ countsInPlace (entryOf e)
+      unfolding countsInPlace
+      key-undue s = rw (sym a ∙ off, z, lt-leb (e .kind) 8 s) (sym (and-true (eqb (e .«key_length») 0)))
+
+pub ruleset due-counts = (counts-of-map, fields-undue, key-due, key-undue)
+
 -- what a well-formed entry is
 pub record Formed (size : ℕ) (e : RuleEntry) : Type 0 where
   pub low : 1 ≤ e .kind
@@ -162,7 +198,8 @@ formed size e w =
     let ts = eqb (e .tag) 0 || (eqb (e .kind) 7 && leb (e .tag) 2) in
     let is = hasId (e .kind) || saysNoId e in
     let ls = leb (e .start + e .length) size in
-    let ds = leb (e .offset + e .idLength) (e .length) in
+    let is-in = leb (e .offset + e .idLength) (e .length) in
+    let ds = is-in && countsInPlace e in
     let k = and-l ks (ts && (is && (ls && ds))) w in
     let a = and-r ks (ts && (is && (ls && ds))) w in
     let b = and-r ts (is && (ls && ds)) a in
@@ -172,7 +209,7 @@ formed size e w =
       high = leb-true (e .kind) 10 (and-r (leb 1 (e .kind)) (leb (e .kind) 10) k);
       tag = tag-two (e .kind) (e .tag) (and-l ts (is && (ls && ds)) a);
       line = leb-true (e .start + e .length) size (and-l ls ds c);
-      id = leb-true (e .offset + e .idLength) (e .length) (and-r ls ds c);
+      id = leb-true (e .offset + e .idLength) (e .length) (and-l is-in (countsInPlace e) (and-r ls ds c));
     }
 
 -- an entry that is found: what the words hold, with no bits but its numbers', and well formed
@@ -203,6 +240,9 @@ module _ (form : Form) (h : Bytes) (table : List ℕ) (n : ℕ) {r : EntryRead} 
   pub entry-unshown : r ≡ read.Missing → answered Refused ≡ orRefused (shownEntry form h table n)
   entry-unshown e = rw (missing e)
 
+  pub key-unshown : r ≡ read.Missing → keyAnswered key.Refused ≡ keyOrRefused (shownKey form h table n)
+  key-unshown e = rw (missing e)
+
   pub id-unshown : r ≡ read.Missing → answered Refused ≡ orRefused (shownId form h table n)
   id-unshown e = rw (missing e)
 
@@ -229,9 +269,52 @@ module _ (form : Form) (h : Bytes) (table : List ℕ) (n : ℕ) {r : EntryRead} 
       pub id-shown : not q ≡ false → answered (Part (x .start + x .offset) (x .start + x .offset + x .«id_length»)) ≡ orRefused (shownId form h table n)
       id-shown e = rw (found, idPart, ← d, not-false q e)
 
+    -- the key, where the form tells it
+    module _ {l : Limits} (c : limitsOf l ≡ limitsBy form) where
+      counted-is : limitsBy form .counted ≡ l .counted
+      counted-is = sym (ap (λ (y : RuleLimits). y .counted) c)
+
+      pub key-uncounted : not (l .counted) ≡ true → keyAnswered key.Refused ≡ keyOrRefused (shownKey form h table n)
+      key-uncounted e = rw (found, entryKeyPart, counted-is, not-true (l .counted) e)
+
+      module _ (on : not (l .counted) ≡ false) where
+        pub key-none : 8 < x .kind → keyAnswered key.Refused ≡ keyOrRefused (shownKey form h table n)
+        key-none e = rw (found, entryKeyPart, counted-is, not-false (l .counted) on, lt-leb (x .kind) 8 e)
+
+        module _ (low : x .kind ≤ 8) {q : Bool} (d : q ≡ leb (2 + x .«key_length») (x .length)) where
+          pub key-outside : not q ≡ true → keyAnswered key.Refused ≡ keyOrRefused (shownKey form h table n)
+          key-outside e = rw (found, entryKeyPart, counted-is, not-false (l .counted) on, le-leb (x .kind) 8 low, ← d, not-true q e)
+
+          pub key-shown : not q ≡ false → keyAnswered (key.Key (x .start + 2) (x .start + 2 + x .«key_length») (x .«field_count»)) ≡ keyOrRefused (shownKey form h table n)
+          key-shown e = rw (found, entryKeyPart, counted-is, not-false (l .counted) on, le-leb (x .kind) 8 low, ← d, not-false q e)
+
+    module _ (few : length h * 1 < 2 ^ 63) {q : Bool} (d : q ≡ leb (2 + x .«key_length») (x .length)) (e : not q ≡ false) where
+      pub key-start-fits : Fits w64 (x .start + 2)
+      key-start-fits =
+          let i = found-inside in
+          let k = leb-true (2 + x .«key_length») (x .length) (sym d ∙ not-false q e) in
+          record { fits = omega arith }
+
+      pub key-end-fits : Fits w64 (x .start + 2 + x .«key_length»)
+      key-end-fits =
+          let i = found-inside in
+          let k = leb-true (2 + x .«key_length») (x .length) (sym d ∙ not-false q e) in
+          record { fits = omega arith }
+
+    pub key-part-inside : {q : Bool} → q ≡ leb (2 + x .«key_length») (x .length) → not q ≡ false → KeyInside (length h) (key.Key (x .start + 2) (x .start + 2 + x .«key_length») (x .«field_count»))
+    key-part-inside {q} d e =
+        let i = found-inside in
+        let k = leb-true (2 + x .«key_length») (x .length) (sym d ∙ not-false q e) in
+        (omega arith, omega arith)
+
 pub ruleset shown-entries = (entry-unshown, entry-shown, entry-part-inside, refused-inside, found-inside)
 
 pub ruleset shown-ids = (id-unshown, id-not-due, id-shown, id-part-inside, refused-inside, found-inside)
+
+pub key-refused-inside : (size : ℕ) → KeyInside size key.Refused
+key-refused-inside size = tt
+
+pub ruleset shown-keys = (key-unshown, key-uncounted, key-none, key-outside, key-shown, key-start-fits, key-end-fits, key-part-inside, key-refused-inside, found-inside)
 
 -- The answer
 
@@ -245,6 +328,17 @@ answered-injective (Part a b) (Part c d) e = ap₂ Part (ap (λ (x : Answer Rule
 answered-injective (Part a b) Refused e = never cc
 answered-injective Refused (Part c d) e = never cc
 answered-injective Refused Refused e = refl
+
+abbrev keyIn : Answer (RulePart × ℕ) → RulePart × ℕ
+keyIn (ok p) = p
+keyIn (refuse n) = ((0, 0), 0)
+
+pub key-answered-injective : (x y : KeyShown) → keyAnswered x ≡ keyAnswered y → x ≡ y
+key-answered-injective (key.Key a b n) (key.Key c d m) e =
+    ap (λ (z : RulePart × ℕ). key.Key (z .0 .0) (z .0 .1) (z .1)) (ap keyIn e)
+key-answered-injective (key.Key a b n) key.Refused e = never cc
+key-answered-injective key.Refused (key.Key c d m) e = never cc
+key-answered-injective key.Refused key.Refused e = refl
 
 says : (o : Option RulePart) → answered (shownAs o) ≡ orRefused o
 says none = refl

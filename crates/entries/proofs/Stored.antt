@@ -224,7 +224,9 @@ pub storable : (form : Form) {size : ℕ} → size ≤ limitsBy form .header →
 storable form {size} h e s =
     let f = formed size e (s .formed) in
     let l = s .short in
-    storable-within form e (f .high) (f .tag) (omega arith) l (omega arith) (omega arith)
+    let k = s .key in
+    let n = s .fields in
+    storable-within form e (f .high) (f .tag) (omega arith) l (omega arith) (omega arith) (omega arith) (omega arith) (s .uncounted)
 
 -- the entries that were stored, and no others
 pub entries-kept : (form : Form) (t : List ℕ) (es : List Entry) {n : ℕ} → length es ≡ n → n ≤ room form t → All (Storable form) es → entriesIn form (firstEntries form (stored form t 0 es) n) ≡ es

@@ -1,5 +1,5 @@
 -- The lent table: what its functions answer. Assumes nothing.
-use Prim.Native.Nat.{ℕ, _+_, _*_, _/_, _-_, _^_, _≤_, _<_}
+use Prim.Native.Nat.{ℕ, suc, _+_, _*_, _/_, _-_, _^_, _≤_, _<_}
 use native.Mathlib.Numerals.{add-one}
 use native.Mathlib.Nat.{add-sub-cancel-left}
 use native.Mathlib.Omega.{arith}
@@ -7,14 +7,14 @@ use mathlib.Core.Path.{_≡_, sym, ap, _∙_}
 use mathlib.Core.Bool.{Bool, true, false, not, false≢true}
 use mathlib.Core.List.{List, [], _∷_}
 use lib.Dec.{ltb}
-use lib.ListN.{length, getD, take, drop, set, length-take, length-drop}
+use lib.ListN.{length, getD, take, drop, set, List·getD-eq-default, length-take, length-drop}
 use lib.Seq.{take-all}
 use borrow.Author.Tests.{lt-ltb, le-ltb, ltb-true}
-use Rattle.values.proofs.Tests.{pass, fail, test, not-false}
+use Rattle.values.proofs.Tests.{pass, fail, test, never, not-false}
 use Rattle.rules.specs.Entry.{Entry}
 use Rattle.entries.specs.declared.form.Form.{Form}
 use Rattle.entries.specs.declared.form.Form.the-variants.{First, Second}
-use Rattle.entries.specs.Words.{wordCount, wordOne, wordTwo, unpacked, isClear}
+use Rattle.entries.specs.Words.{wordCount, wordOne, wordTwo, wordThree, unpacked, isClear}
 use Rattle.entries.specs.Tables.{room, words, stored, put, NextFits, firstEntries, wordsAt, entryIn, wordsClear}
 
 -- How many entries so many words have room for
@@ -76,6 +76,9 @@ module _ (form : Form) (t : List ℕ) (n : ℕ) {k : ℕ} (a : k ≡ room form t
   pub words-inside : {w : ℕ} → w ≡ wordCount form → n < k → w * n + w ≤ length t
   words-inside e h = rw e (entry-fits form t n (omega arith))
 
+  pub third-inside : {w : ℕ} → w ≡ wordCount form → n < k → form ≡ Second → w * n + 2 < length t
+  third-inside e h f = let i = words-inside e h in let c : wordCount form ≡ 3 = ap wordCount f in omega arith
+
   pub kept-inside : {w : ℕ} → w ≡ wordCount form → n ≤ k → w * n ≤ length t
   kept-inside e h = rw e (entries-fit form t n (omega arith))
 
@@ -111,11 +114,29 @@ module _ (form : Form) (t : List ℕ) (n : ℕ) {k : ℕ} (a : k ≡ room form t
   unfolding put
   nothing-put e h = rw (past h, put)
 
-  pub one-put : (e : Entry) → n < k → {s : ℕ} → s ≡ wordCount form → {w x : ℕ} → w ≡ wordOne form e → x ≡ wordTwo form e → set (set t (s * n) w) (s * n + 1) x ≡ put form t n e
-  unfolding put stored words
-  one-put e h z b d = rw (inside h, put, z, b, d, add-one)
+  module _ (e : Entry) (h : n < k) {s : ℕ} (z : s ≡ wordCount form) {w x : ℕ} (b : w ≡ wordOne form e) (d : x ≡ wordTwo form e) where
+    pub two-put : form ≡ First → set (set t (s * n) w) (s * n + 1) x ≡ put form t n e
+    unfolding put stored words
+    two-put f = rw (z, b, d) (two form f (inside h))
+      where
+        two : (form : Form) → form ≡ First → ltb n (room form t) ≡ true → set (set t (wordCount form * n) (wordOne form e)) (wordCount form * n + 1) (wordTwo form e) ≡ put form t n e
+        two First f l = rw (l, put, add-one)
+        two Second f l = never cc
+
+    pub three-put : form ≡ Second → {y : ℕ} → y ≡ wordThree Second e → set (set (set t (s * n) w) (s * n + 1) x) (s * n + 2) y ≡ put form t n e
+    unfolding put stored words
+    three-put f g = rw (z, b, d, g) (three form f (inside h))
+      where
+        three : (form : Form) → form ≡ Second → ltb n (room form t) ≡ true
+            → set (set (set t (wordCount form * n) (wordOne form e)) (wordCount form * n + 1) (wordTwo form e)) (wordCount form * n + 2) (wordThree Second e) ≡ put form t n e
+        three First f l = never cc
+        three Second f l = let i : 3 * n + 2 ≡ suc (suc (3 * n)) = omega arith in rw (l, put, add-one, i)
 
 pub ruleset counts = (kept-all, kept-some, none-there, words-there)
+
+-- a word past the end is 0
+pub third-missing : (ws : List ℕ) → length ws ≤ 2 → 0 ≡ getD ws 2 0
+third-missing ws h = sym (List·getD-eq-default ws 0 h)
 
 -- the words that were found
 module _ (form : Form) (t : List ℕ) (n : ℕ) {ws : List ℕ} (a : ws ≡ wordsAt form t n) where
@@ -136,21 +157,21 @@ module _ (form : Form) (t : List ℕ) (n : ℕ) {ws : List ℕ} (a : ws ≡ word
     | fail e ↦ e
   ]
 
-  pub none-got : {e : Entry} → length ws < 2 → e ≡ unpacked form (0 ∷ 0 ∷ []) → e ≡ entryIn form t n
+  pub none-got : {e : Entry} → length ws < 2 → e ≡ unpacked form (0 ∷ 0 ∷ 0 ∷ []) → e ≡ entryIn form t n
   unfolding entryIn wordsAt unpacked
   none-got h b = b ∙ rw (missing h, wordsAt)
 
-  pub got : {e : Entry} → e ≡ unpacked form (getD ws 0 0 ∷ getD ws 1 0 ∷ []) → e ≡ entryIn form t n
+  pub got : {y : ℕ} → y ≡ getD ws 2 0 → {e : Entry} → e ≡ unpacked form (getD ws 0 0 ∷ getD ws 1 0 ∷ y ∷ []) → e ≡ entryIn form t n
   unfolding entryIn unpacked
-  got b = b ∙ rw a
+  got z b = b ∙ rw (z, a)
 
   pub none-clear : length ws < 2 → false ≡ wordsClear form t n
   unfolding wordsClear
   none-clear h = rw (missing h)
 
-  pub clear-there : 2 ≤ length ws → {q : Bool} → q ≡ isClear form (getD ws 0 0 ∷ getD ws 1 0 ∷ []) → q ≡ wordsClear form t n
+  pub clear-there : 2 ≤ length ws → {y : ℕ} → y ≡ getD ws 2 0 → {q : Bool} → q ≡ isClear form (getD ws 0 0 ∷ getD ws 1 0 ∷ y ∷ []) → q ≡ wordsClear form t n
   unfolding wordsClear isClear
-  clear-there h b = rw (there h, ← a) b
+  clear-there h z b = rw (there h, ← a) (rw z at b)
 
 pub ruleset gets = (none-got, got, none-clear, clear-there)
 
@@ -164,4 +185,4 @@ some-next n h = record { is = λ e. h }
 pub next-fits : {n : ℕ} {q : Bool} → NextFits n q → not q ≡ false → n + 1 < 2 ^ 64
 next-fits {q = q} f e = f .is (not-false q e)
 
-pub ruleset puts = (none-next, some-next, no-room, some-room, nothing-put, one-put)
+pub ruleset puts = (none-next, some-next, no-room, some-room, nothing-put, two-put, three-put)

@@ -2,26 +2,28 @@
 use Prim.Native.Nat.{ℕ}
 use mathlib.Core.Path.{_≡_, refl}
 use mathlib.Core.List.{List, [], _∷_, _++_, map}
-use lib.ListN.{take}
+use mathlib.Core.Option.{none}
 use Rattle.rules.specs.Answer.{Answer, ok, refuse}
 use Rattle.rules.specs.Version.{v4-3}
-use Rattle.rules.specs.Shown.{Part, saysNoId, wellFormed, lineIn, nthFieldPart}
-use Rattle.rules.specs.Examples.{Case, Expected, starred, opened, cell}
+use Rattle.rules.specs.Shown.{Part, saysNoId, countsInPlace, wellFormed, lineIn, readAlone, tells, entryRecord, nthFieldPart}
+use Rattle.rules.specs.Sizes.{raisedLimits}
+use Rattle.rules.specs.Reading.{reading}
+use Rattle.rules.specs.Examples.{Case, Expected, starred, opened, cell, keyed}
 use Rattle.entries.specs.declared.form.Form.{Form}
 use Rattle.entries.specs.declared.form.Form.the-variants.{First, Second}
-use Rattle.entries.specs.Words.{wordOne, wordTwo, unpacked, isClear}
-use Rattle.entries.specs.Shown.{orRefused}
-use Rattle.entries.specs.Tables.{room, words, wordsAt, entryIn, wordsClear, entryAt, shownEntry, shownId, shownField}
+use Rattle.entries.specs.Words.{wordOne, wordTwo, wordThree, unpacked, isClear}
+use Rattle.entries.specs.Shown.{orRefused, keyOrRefused}
+use Rattle.entries.specs.Tables.{room, words, wordsAt, entryIn, wordsClear, entryAt, shownEntry, shownId, shownField, shownKey}
 
-abbrev pub wordsKept : Form → Case × Expected → List ℕ
-wordsKept form c = words form (c .1 .entries)
+abbrev pub wordsKept : Case × Expected → List ℕ
+wordsKept c = words First (c .1 .entries)
 
 -- the fileformat line's words
 abbrev pub formatWords : List ℕ
 formatWords = 0x1000000014000000 ∷ 0 ∷ []
 
 -- those of the rules' tables of cases, in their order
-starred-words : map (wordsKept First) starred ≡ (
+starred-words : map wordsKept starred ≡ (
     []
     ∷ formatWords
     ∷ (formatWords ++ 0x7000150016000000 ∷ 0x000B000300000000 ∷ 0x90002C0026000000 ∷ 0 ∷ [])
@@ -41,19 +43,19 @@ starred-words : map (wordsKept First) starred ≡ (
 unfolding words wordOne wordTwo
 starred-words = refl
 
--- the first four in the second form
-abbrev pub secondWords : List ℕ
-secondWords = 0x1000000000014000 ∷ 0 ∷ []
-
-starred-second : map (wordsKept Second) (take 4 starred) ≡ (
-    []
-    ∷ secondWords
-    ∷ (secondWords ++ 0x7000015000016000 ∷ 0x00000B0000030000 ∷ 0x900002C000026000 ∷ 0 ∷ [])
-    ∷ (secondWords ++ 0x700001500001A000 ∷ 0x0000150000038000 ∷ 0x9000030000026000 ∷ 0 ∷ [])
+-- those of a header with an entry of every sort, in the second form
+second-words : words Second (reading raisedLimits none 99 keyed .entries) ≡ (
+    0x1000000000014000 ∷ 0 ∷ 0x00000A0000000000
+    ∷ 0x700001500001C000 ∷ 0x00000B0000010000 ∷ 0x0000040000020000
+    ∷ 0x8000032000005000 ∷ 0 ∷ 0x0000010000000000
+    ∷ 0x3000038000021000 ∷ 0x00000D0000010000 ∷ 0x0000060000020000
+    ∷ 0x700005A000012000 ∷ 0x0000080000010000 ∷ 0x0000010000030000
+    ∷ 0x900006D00002F000 ∷ 0 ∷ 0
+    ∷ 0xA00009B000001000 ∷ 0 ∷ 0
     ∷ []
     )
-unfolding words wordOne wordTwo
-starred-second = refl
+unfolding words wordOne wordTwo wordThree opened
+second-words = refl
 
 -- 29: the words of a table of one entry, and what the calls answer of the 83 bytes: the entry, its ID, its field 1 under 4.3
 
@@ -105,38 +107,63 @@ shown =
     ∷ []
 
 pub refused-parts : map (λ (c : List ℕ × Parts). parts First (c .0)) shown ≡ map (λ (c : List ℕ × Parts). c .1) shown
-unfolding opened room unpacked isClear wordsAt entryIn wordsClear entryAt saysNoId wellFormed lineIn nthFieldPart
+unfolding opened room unpacked isClear wordsAt entryIn wordsClear entryAt saysNoId countsInPlace wellFormed lineIn readAlone tells entryRecord nthFieldPart
 refused-parts = refl
 
--- the same in the second form
-abbrev pub shownSecond : List (List ℕ × Parts)
+-- the same in the second form, and the key
+abbrev pub keyShown : List ℕ → Answer (Part × ℕ)
+keyShown t = keyOrRefused (shownKey Second cell t 0)
+
+-- the third word of the line's entry: a key of four bytes and two fields
+abbrev pub third : ℕ
+third = 0x0000040000020000
+
+abbrev pub key : Answer (Part × ℕ)
+key = ok ((23, 27), 2)
+
+abbrev pub shownSecond : List (List ℕ × Parts × Answer (Part × ℕ))
 shownSecond =
-    (0x7000015000016000 ∷ 0x00000B0000030000 ∷ [], shows line (ok (32, 35)) (ok (36, 42)))
+    (0x7000015000016000 ∷ 0x00000B0000030000 ∷ third ∷ [], shows line (ok (32, 35)) (ok (36, 42)), key)
     -- no such entry
-    ∷ ([], nothing)
-    ∷ (0x7000015000016000 ∷ [], nothing)
+    ∷ ([], nothing, refuse 29)
+    ∷ (0x7000015000016000 ∷ 0x00000B0000030000 ∷ [], nothing, refuse 29)
     -- no such kind
-    ∷ (0x0000015000016000 ∷ 0 ∷ [], nothing)
-    ∷ (0xB000015000016000 ∷ 0 ∷ [], nothing)
+    ∷ (0x0000015000016000 ∷ 0 ∷ 0 ∷ [], nothing, refuse 29)
+    ∷ (0xB000015000016000 ∷ 0 ∷ 0 ∷ [], nothing, refuse 29)
     -- a bit that should be 0, the highest and the lowest of each word
-    ∷ (0x7000015000016800 ∷ 0x00000B0000030000 ∷ [], nothing)
-    ∷ (0x7000015000016001 ∷ 0x00000B0000030000 ∷ [], nothing)
-    ∷ (0x7000015000016000 ∷ 0x00000B0000031000 ∷ [], nothing)
-    ∷ (0x7000015000016000 ∷ 0x00000B0000030001 ∷ [], nothing)
+    ∷ (0x7000015000016800 ∷ 0x00000B0000030000 ∷ third ∷ [], nothing, refuse 29)
+    ∷ (0x7000015000016001 ∷ 0x00000B0000030000 ∷ third ∷ [], nothing, refuse 29)
+    ∷ (0x7000015000016000 ∷ 0x00000B0000031000 ∷ third ∷ [], nothing, refuse 29)
+    ∷ (0x7000015000016000 ∷ 0x00000B0000030001 ∷ third ∷ [], nothing, refuse 29)
+    ∷ (0x7000015000016000 ∷ 0x00000B0000030000 ∷ 0x0000040000028000 ∷ [], nothing, refuse 29)
+    ∷ (0x7000015000016000 ∷ 0x00000B0000030000 ∷ 0x0000040000020001 ∷ [], nothing, refuse 29)
     -- no such tag, or not of this kind
-    ∷ (0x7000015000016000 ∷ 0x00000B0000036000 ∷ [], nothing)
-    ∷ (0x6000015000016000 ∷ 0x00000B0000032000 ∷ [], nothing)
+    ∷ (0x7000015000016000 ∷ 0x00000B0000036000 ∷ third ∷ [], nothing, refuse 29)
+    ∷ (0x6000015000016000 ∷ 0x00000B0000032000 ∷ third ∷ [], nothing, refuse 29)
     -- a line past the header, an ID past the line
-    ∷ (0x700001500003F000 ∷ 0x00000B0000030000 ∷ [], nothing)
-    ∷ (0x7000015000016000 ∷ 0x0000140000030000 ∷ [], nothing)
-    -- an ID where the kind has none
-    ∷ (0x8000015000016000 ∷ 0x00000B0000030000 ∷ [], nothing)
-    -- well formed, without an ID
-    ∷ (0x8000015000016000 ∷ 0 ∷ [], shows line (refuse 29) (refuse 29))
+    ∷ (0x700001500003F000 ∷ 0x00000B0000030000 ∷ third ∷ [], nothing, refuse 29)
+    ∷ (0x7000015000016000 ∷ 0x0000140000030000 ∷ third ∷ [], nothing, refuse 29)
+    -- an ID where the kind has none, and fields, and a key
+    ∷ (0x8000015000016000 ∷ 0x00000B0000030000 ∷ 0 ∷ [], nothing, refuse 29)
+    ∷ (0x8000015000016000 ∷ 0 ∷ third ∷ [], nothing, refuse 29)
+    ∷ (0x9000015000016000 ∷ 0 ∷ 0x0000040000000000 ∷ [], nothing, refuse 29)
+    -- well formed, without an ID, and without a key
+    ∷ (0x8000015000016000 ∷ 0 ∷ 0x0000040000000000 ∷ [], shows line (refuse 29) (refuse 29), ok ((23, 27), 0))
+    ∷ (0x9000015000016000 ∷ 0 ∷ 0 ∷ [], shows line (refuse 29) (refuse 29), refuse 29)
     -- well formed, of another kind than its line
-    ∷ (0x6000015000016000 ∷ 0x00000B0000030000 ∷ [], shows line (ok (32, 35)) (refuse 29))
+    ∷ (0x6000015000016000 ∷ 0x00000B0000030000 ∷ third ∷ [], shows line (ok (32, 35)) (refuse 29), key)
+    -- with another number of fields than its line, with another key length, and with one that is past the line
+    ∷ (0x7000015000016000 ∷ 0x00000B0000030000 ∷ 0x0000040000010000 ∷ [], shows line (ok (32, 35)) (refuse 29), ok ((23, 27), 1))
+    ∷ (0x7000015000016000 ∷ 0x00000B0000030000 ∷ 0x0000140000020000 ∷ [], shows line (ok (32, 35)) (refuse 29), ok ((23, 43), 2))
+    ∷ (0x7000015000016000 ∷ 0x00000B0000030000 ∷ 0x0000150000020000 ∷ [], shows line (ok (32, 35)) (refuse 29), refuse 29)
     ∷ []
 
-pub refused-second : map (λ (c : List ℕ × Parts). parts Second (c .0)) shownSecond ≡ map (λ (c : List ℕ × Parts). c .1) shownSecond
-unfolding opened room unpacked isClear wordsAt entryIn wordsClear entryAt saysNoId wellFormed lineIn nthFieldPart
+abbrev answers : List ℕ × Parts × Answer (Part × ℕ) → Parts × Answer (Part × ℕ)
+answers c = (parts Second (c .0), keyShown (c .0))
+
+abbrev expected : List ℕ × Parts × Answer (Part × ℕ) → Parts × Answer (Part × ℕ)
+expected c = (c .1, c .2)
+
+pub refused-second : map answers shownSecond ≡ map expected shownSecond
+unfolding opened room unpacked isClear wordsAt entryIn wordsClear entryAt saysNoId countsInPlace wellFormed lineIn readAlone tells entryRecord nthFieldPart
 refused-second = refl

@@ -10,6 +10,8 @@ use Rattle.rules.specs.Shown.{Part as RulePart}
 use Rattle.entries.specs.Values.{entryOf}
 use Rattle.entries.specs.declared.shown.Shown.{Shown}
 use Rattle.entries.specs.declared.shown.Shown.the-variants.{Part, Refused}
+use Rattle.entries.specs.declared.shown.KeyShown.{KeyShown}
+use Rattle.entries.specs.declared.shown.KeyShown.the-variants as key
 use Rattle.entries.specs.declared.shown.EntryRead.{EntryRead}
 use Rattle.entries.specs.declared.shown.EntryRead.the-variants.{Entry, Missing}
 
@@ -22,6 +24,15 @@ answered Refused = refuse 29
 abbrev pub orRefused : Option RulePart → Answer RulePart
 orRefused none = refuse 29
 orRefused (some p) = ok p
+
+-- the same of a key, with the number of fields
+abbrev pub keyAnswered : KeyShown → Answer (RulePart × ℕ)
+keyAnswered (key.Key start end fields) = ok ((start, end), fields)
+keyAnswered key.Refused = refuse 29
+
+abbrev pub keyOrRefused : Option (RulePart × ℕ) → Answer (RulePart × ℕ)
+keyOrRefused none = refuse 29
+keyOrRefused (some p) = ok p
 
 -- the code's answer that says this
 abbrev pub shownAs : Option RulePart → Shown
@@ -42,6 +53,10 @@ bytesOf h Refused = []
 abbrev pub Inside : ℕ → Shown → Type 0
 Inside size (Part start end) = (start ≤ end) × (end ≤ size)
 Inside size Refused = Unit {0}
+
+abbrev pub KeyInside : ℕ → KeyShown → Type 0
+KeyInside size (key.Key start end fields) = (start ≤ end) × (end ≤ size)
+KeyInside size key.Refused = Unit {0}
 
 -- the same part of a longer text, in which this one stands at `by`
 abbrev pub movedBy : ℕ → Shown → Shown

@@ -10,8 +10,9 @@ use lib.Seq.{sets}
 use Rattle.values.specs.Bytes.{Bytes}
 use Rattle.rules.specs.Version.{Version}
 use Rattle.rules.specs.Entry.{Entry}
-use Rattle.rules.specs.Shown.{Part, wellFormed, entryPart, idPart, entryFieldPart}
+use Rattle.rules.specs.Shown.{Part, wellFormed, entryPart, idPart, entryFieldPart, entryKeyPart}
 use Rattle.entries.specs.declared.form.Form.{Form}
+use Rattle.entries.specs.Values.{limitsBy}
 use Rattle.entries.specs.Words.{wordCount, wordsOf, unpacked, isClear}
 
 -- how many entries a table has room for
@@ -78,4 +79,7 @@ abbrev pub shownId : Form → Bytes → List ℕ → ℕ → Option Part
 shownId form h t n = idPart (entryAt form h t n)
 
 abbrev pub shownField : Form → Bytes → List ℕ → ℕ → Version → ℕ → Option Part
-shownField form h t n v i = entryFieldPart h v i (entryAt form h t n)
+shownField form h t n v i = entryFieldPart (limitsBy form .counted) h v i (entryAt form h t n)
+
+abbrev pub shownKey : Form → Bytes → List ℕ → ℕ → Option (Part × ℕ)
+shownKey form h t n = entryKeyPart (limitsBy form .counted) (entryAt form h t n)

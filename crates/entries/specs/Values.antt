@@ -15,12 +15,14 @@ entryOf e = record {
   idLength = e .«id_length»;
   quoted = e .quoted;
   tag = e .tag;
+  keyLength = e .«key_length»;
+  fieldCount = e .«field_count»;
 }
 
 abbrev pub limitsOf : Limits → RuleLimits
-limitsOf l = record { header = l .header; line = l .line }
+limitsOf l = record { header = l .header; line = l .line; counted = l .counted }
 
--- the limits of a header whose entries are stored in this form
+-- what this form sets
 abbrev pub limitsBy : Form → RuleLimits
 limitsBy First = limits
 limitsBy Second = raisedLimits

@@ -1,9 +1,9 @@
--- Document 01, "Entries, most significant bit first", and document 02, §5: how an entry is stored, in two words. Assumes nothing.
+-- Document 01, "Entries, most significant bit first", and document 02, §5 and §10: how an entry is stored, in two words or three. Assumes nothing.
 use Prim.Native.Nat.{ℕ, _+_, _*_, _/_, _%_, _^_}
 use mathlib.Core.Bool.{Bool, true, false, _&&_}
 use mathlib.Core.List.{List, [], _∷_}
 use lib.Dec.{eqb}
-use lib.ListN.{getD}
+use lib.ListN.{getD, take}
 use Rattle.rules.specs.Entry.{Entry}
 use Rattle.entries.specs.declared.form.Form.{Form}
 use Rattle.entries.specs.declared.form.Form.the-variants.{First, Second}
@@ -29,7 +29,7 @@ numbersIn (n ∷ ns) w = w / 2 ^ width ns % 2 ^ n ∷ numbersIn ns w
 
 abbrev pub wordCount : Form → ℕ
 wordCount First = 2
-wordCount Second = 2
+wordCount Second = 3
 
 -- kind, start, length, zero
 abbrev pub bitsOne : Form → List ℕ
@@ -51,18 +51,29 @@ bitsTwo Second = 24 ∷ 24 ∷ 1 ∷ 2 ∷ 13 ∷ []
 abbrev pub numbersTwo : Entry → List ℕ
 numbersTwo e = e .offset ∷ e .idLength ∷ bit (e .quoted) ∷ e .tag ∷ 0 ∷ []
 
+-- key length, field count, zero
+abbrev pub bitsThree : Form → List ℕ
+bitsThree First = []
+bitsThree Second = 24 ∷ 24 ∷ 16 ∷ []
+
+abbrev pub numbersThree : Entry → List ℕ
+numbersThree e = e .keyLength ∷ e .fieldCount ∷ 0 ∷ []
+
 unfoldable pub wordOne : Form → Entry → ℕ
 wordOne form e = packed (bitsOne form) (numbersOne e)
 
 unfoldable pub wordTwo : Form → Entry → ℕ
 wordTwo form e = packed (bitsTwo form) (numbersTwo e)
 
-abbrev pub wordsOf : Form → Entry → List ℕ
-wordsOf form e = wordOne form e ∷ wordTwo form e ∷ []
+unfoldable pub wordThree : Form → Entry → ℕ
+wordThree form e = packed (bitsThree form) (numbersThree e)
 
--- the entry that the numbers of both words tell
-abbrev pub told : List ℕ → List ℕ → Entry
-told ns ms = record {
+abbrev pub wordsOf : Form → Entry → List ℕ
+wordsOf form e = take (wordCount form) (wordOne form e ∷ wordTwo form e ∷ wordThree form e ∷ [])
+
+-- the entry that the numbers of its words tell
+abbrev pub told : List ℕ → List ℕ → List ℕ → Entry
+told ns ms ks = record {
   kind = getD ns 0 0;
   start = getD ns 1 0;
   length = getD ns 2 0;
@@ -70,12 +81,16 @@ told ns ms = record {
   idLength = getD ms 1 0;
   quoted = eqb (getD ms 2 0) 1;
   tag = getD ms 3 0;
+  keyLength = getD ks 0 0;
+  fieldCount = getD ks 1 0;
 }
 
 -- the entry that these words hold
 unfoldable pub unpacked : Form → List ℕ → Entry
-unpacked form ws = told (numbersIn (bitsOne form) (getD ws 0 0)) (numbersIn (bitsTwo form) (getD ws 1 0))
+unpacked form ws = told (numbersIn (bitsOne form) (getD ws 0 0)) (numbersIn (bitsTwo form) (getD ws 1 0)) (numbersIn (bitsThree form) (getD ws 2 0))
 
 -- the bits that no number has are 0
 unfoldable pub isClear : Form → List ℕ → Bool
-isClear form ws = eqb (getD (numbersIn (bitsOne form) (getD ws 0 0)) 3 0) 0 && eqb (getD (numbersIn (bitsTwo form) (getD ws 1 0)) 4 0) 0
+isClear form ws =
+    eqb (getD (numbersIn (bitsOne form) (getD ws 0 0)) 3 0) 0
+    && (eqb (getD (numbersIn (bitsTwo form) (getD ws 1 0)) 4 0) 0 && eqb (getD (numbersIn (bitsThree form) (getD ws 2 0)) 2 0) 0)

@@ -1,6 +1,7 @@
 // The forms in which entries are stored. The caller names one wherever a table is lent.
 use crate::limits::Limits;
 ghost use mathlib.Core.Path.{_≡_};
+ghost use Rattle.rules.specs.Entry.{ifCounted};
 ghost use Rattle.entries.specs.Values.{limitsOf, limitsBy};
 ghost use Rattle.entries.specs.Words.{wordCount};
 
@@ -26,7 +27,17 @@ impl Form {
     {
         match self {
             Form::First => 2,
-            Form::Second => 2,
+            Form::Second => 3,
+        }
+    }
+
+    // A number that only the second form tells.
+    pub fn counted(self, n: usize) -> usize
+        ensures { λ r. ⌜ r ≡ ifCounted (limitsBy self .counted) n ⌝ }
+    {
+        match self {
+            Form::First => 0,
+            Form::Second => n,
         }
     }
 }

@@ -12,15 +12,25 @@ ghost use mathlib.Core.Bool.{_&&_, _||_};
 ghost use lib.Dec.{eqb, leb};
 ghost use lib.ListN.{length};
 ghost use Prim.Native.Nat.{_+_};
-ghost use Rattle.rules.specs.Shown.{saysNoId, hasId, wellFormed, nthFieldPart};
+ghost use Rattle.rules.specs.Shown.{saysNoId, hasId, countsInPlace, wellFormed, nthFieldPart};
 ghost use Rattle.rules.specs.Map.{fieldsAt};
 ghost use Rattle.entries.specs.Values.{entryOf};
-ghost use Rattle.entries.specs.Tables.{entryAt, shownEntry, shownId};
-ghost use Rattle.entries.specs.Shown.{answered, orRefused, entryMeant, bytesOf, Inside};
+ghost use Rattle.entries.specs.Tables.{entryAt, shownEntry, shownId, shownKey};
+ghost use Rattle.entries.specs.Shown.{answered, orRefused, keyAnswered, keyOrRefused, entryMeant, bytesOf, Inside, KeyInside};
 
 // A part of the header, or refusal 29: no such entry, no such field, or an entry that is not well formed.
 pub enum Shown {
     Part { start: usize, end: usize },
+    Refused,
+}
+
+// The part of a key, and how many fields follow it; or refusal 29.
+pub enum KeyShown {
+    Key {
+        start: usize,
+        end: usize,
+        fields: usize,
+    },
     Refused,
 }
 
@@ -77,6 +87,22 @@ fn has_due_id(e: Entry) -> bool
     says_no_id(e)
 }
 
+// A key is counted of records alone, and fields of maps.
+fn has_due_counts(e: Entry) -> bool
+    ensures { λ r. ⌜ r ≡ countsInPlace (entryOf e) ⌝ }
+{
+    if kind::has_id(e.kind) {
+        return true;
+    }
+    if e.field_count != 0 {
+        return false;
+    }
+    if e.kind <= kind::OTHER_TEXT {
+        return true;
+    }
+    e.key_length == 0
+}
+
 // Whether `length` bytes from `start` on are among `size`.
 fn lies_inside(size: usize, start: usize, length: usize) -> bool
     ensures { λ r. ⌜ r ≡ leb (start + length) size ⌝ }
@@ -103,7 +129,10 @@ fn is_well_formed(size: usize, e: Entry) -> bool
     if !lies_inside(size, e.start, e.length) {
         return false;
     }
-    lies_inside(e.length, e.offset, e.id_length)
+    if !lies_inside(e.length, e.offset, e.id_length) {
+        return false;
+    }
+    has_due_counts(e)
 }
 
 // Entry n, from 0, if it lies in the table and is well formed.
@@ -147,6 +176,30 @@ pub fn id(h: &[u8], table: &[u64], form: Form, n: usize) -> Shown
     let start = e.start + e.offset;
     let end = start + e.id_length;
     Shown::Part { start, end }
+}
+
+// The key of entry n, after its `##`, and the number of its fields. The line is not read; the first form does not tell them.
+pub fn key(h: &[u8], table: &[u64], form: Form, n: usize) -> KeyShown
+    ensures shown { λ r. ⌜ keyAnswered r ≡ keyOrRefused (shownKey form (now (h .entry)) (now (table .entry)) n) ⌝ }
+    ensures inside { λ r. ⌜ KeyInside (length (now (h .entry))) r ⌝ }
+{
+    let limits = form.limits();
+    let EntryRead::Entry(e) = entry_at(h, table, form, n) else {
+        return KeyShown::Refused;
+    };
+    if !limits.counted {
+        return KeyShown::Refused;
+    }
+    if kind::OTHER_TEXT < e.kind {
+        return KeyShown::Refused;
+    }
+    if !lies_inside(e.length, 2, e.key_length) {
+        return KeyShown::Refused;
+    }
+    let start = e.start + 2;
+    let end = start + e.key_length;
+    let fields = e.field_count;
+    KeyShown::Key { start, end, fields }
 }
 
 // The bytes of a part, none where it was refused.

@@ -4,6 +4,7 @@ use crate::form::Form;
 use crate::word;
 ghost use mathlib.Core.Path.{_≡_};
 ghost use lib.Dec.{ltb};
+ghost use lib.ListN.{getD};
 ghost use Rattle.entries.specs.Values.{entryOf};
 ghost use Rattle.entries.specs.Tables.{room, put, NextFits, firstEntries, wordsAt, entryIn, wordsClear};
 
@@ -36,15 +37,25 @@ fn words_at(table: &[u64], form: Form, n: usize) -> &[u64]
     &table[at..at + size]
 }
 
+// The third of an entry's words; 0 where there is none.
+fn third(words: &[u64]) -> u64
+    ensures { λ r. ⌜ r ≡ getD (now (words .entry)) 2 0 ⌝ }
+{
+    if words.len() <= 2 {
+        return 0;
+    }
+    words[2]
+}
+
 // Entry n, from 0, well formed or not; past the table one of zeros.
 pub fn get(table: &[u64], form: Form, n: usize) -> Entry
     ensures { λ r. ⌜ entryOf r ≡ entryIn form (now (table .entry)) n ⌝ }
 {
     let words = words_at(table, form, n);
     if words.len() < 2 {
-        return word::unpack(form, 0, 0);
+        return word::unpack(form, 0, 0, 0);
     }
-    word::unpack(form, words[0], words[1])
+    word::unpack(form, words[0], words[1], third(words))
 }
 
 // Whether the bits of entry n that no number has are 0, if there is such an entry.
@@ -55,7 +66,7 @@ pub fn is_clear(table: &[u64], form: Form, n: usize) -> bool
     if words.len() < 2 {
         return false;
     }
-    word::is_clear(form, words[0], words[1])
+    word::is_clear(form, words[0], words[1], third(words))
 }
 
 // Stores entry n, if there is room for it.
@@ -70,5 +81,9 @@ pub fn put(table: &mut [u64], form: Form, n: usize, e: Entry) -> bool
     let at = form.words() * n;
     table[at] = word::word_one(form, e);
     table[at + 1] = word::word_two(form, e);
+    match form {
+        Form::First => {}
+        Form::Second => table[at + 2] = word::word_three(e),
+    }
     true
 }

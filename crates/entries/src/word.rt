@@ -1,11 +1,12 @@
-// The two words of an entry, most significant bit first: numbers too large for their bits lose their upper ones.
+// The words of an entry, most significant bit first, two in the first form and three in the second: numbers too large for their bits lose their upper ones.
 use crate::entry::Entry;
 use crate::form::Form;
 ghost use mathlib.Core.Path.{_≡_};
 ghost use mathlib.Core.List.{[], _∷_};
 ghost use Prim.Native.Nat.{_≤_};
 ghost use Rattle.entries.specs.Values.{entryOf};
-ghost use Rattle.entries.specs.Words.{bit, wordOne, wordTwo, unpacked, isClear};
+ghost use Rattle.entries.specs.Words.{bit, wordOne, wordTwo, wordThree, unpacked, isClear};
+ghost use Rattle.entries.specs.declared.form.Form.the-variants.{Second};
 
 // Kind 4, start 20, length 16, zero 24; in the second form start 24, length 24, zero 12.
 pub fn word_one(form: Form, e: Entry) -> u64
@@ -51,8 +52,17 @@ pub fn word_two(form: Form, e: Entry) -> u64
     }
 }
 
-pub fn unpack(form: Form, w: u64, x: u64) -> Entry
-    ensures { λ r. ⌜ entryOf r ≡ unpacked form (w ∷ x ∷ []) ⌝ }
+// Key length 24, field count 24, zero 16.
+pub fn word_three(e: Entry) -> u64
+    ensures { λ r. ⌜ r ≡ wordThree Second (entryOf e) ⌝ }
+{
+    let length = e.key_length as u64;
+    let fields = e.field_count as u64;
+    length % 0x100_0000 * 0x100_0000_0000 + fields % 0x100_0000 * 0x1_0000
+}
+
+pub fn unpack(form: Form, w: u64, x: u64, y: u64) -> Entry
+    ensures { λ r. ⌜ entryOf r ≡ unpacked form (w ∷ x ∷ y ∷ []) ⌝ }
 {
     let kind = (w / 0x1000_0000_0000_0000 % 0x10) as u8;
     match form {
@@ -64,6 +74,8 @@ pub fn unpack(form: Form, w: u64, x: u64) -> Entry
             id_length: (x / 0x1_0000_0000 % 0x1_0000) as usize,
             quoted: x / 0x8000_0000 % 2 == 1,
             tag: (x / 0x2000_0000 % 4) as u8,
+            key_length: 0,
+            field_count: 0,
         },
         Form::Second => Entry {
             kind,
@@ -73,13 +85,15 @@ pub fn unpack(form: Form, w: u64, x: u64) -> Entry
             id_length: (x / 0x1_0000 % 0x100_0000) as usize,
             quoted: x / 0x8000 % 2 == 1,
             tag: (x / 0x2000 % 4) as u8,
+            key_length: (y / 0x100_0000_0000 % 0x100_0000) as usize,
+            field_count: (y / 0x1_0000 % 0x100_0000) as usize,
         },
     }
 }
 
 // Whether the bits that no number has are 0.
-pub fn is_clear(form: Form, w: u64, x: u64) -> bool
-    ensures { λ r. ⌜ r ≡ isClear form (w ∷ x ∷ []) ⌝ }
+pub fn is_clear(form: Form, w: u64, x: u64, y: u64) -> bool
+    ensures { λ r. ⌜ r ≡ isClear form (w ∷ x ∷ y ∷ []) ⌝ }
 {
     match form {
         Form::First => {
@@ -92,7 +106,10 @@ pub fn is_clear(form: Form, w: u64, x: u64) -> bool
             if w % 0x1000 != 0 {
                 return false;
             }
-            x % 0x2000 == 0
+            if x % 0x2000 != 0 {
+                return false;
+            }
+            y % 0x1_0000 == 0
         }
     }
 }

@@ -10,8 +10,7 @@ use Rattle.values.specs.Written.{onward, Wrote}
 use Rattle.values.specs.declared.string.Text.{Text}
 use Rattle.rules.specs.Answer.{Answer, ok, refuse}
 use Rattle.rules.specs.Version.{Version}
-use Rattle.rules.specs.Record.{Record, fileformat, fields, text, readRecord}
-use Rattle.rules.specs.Reading.{keyOf}
+use Rattle.rules.specs.Record.{Record, fileformat, fields, text, readRecord, keyOf}
 use Rattle.rules.specs.Meaning.{saying}
 use Rattle.rules.specs.House.{nameOfTag, recordOf, writeRecord}
 use Rattle.records.specs.Fields.{meaningIn}

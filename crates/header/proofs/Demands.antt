@@ -11,20 +11,20 @@ use Rattle.values.proofs.Tests.{pass, fail, test}
 use Rattle.values.proofs.Lists.{some-is, none-not}
 use Rattle.rules.specs.Sizes.{Limits}
 use Rattle.rules.specs.Version.{Version}
-use Rattle.rules.specs.Record.{Record}
+use Rattle.rules.specs.Record.{Record, fileformat}
 use Rattle.rules.specs.Columns.{Columns}
 use Rattle.rules.specs.Entry.{Entry, formatKind, columnsKind, sampleKind}
 use Rattle.rules.specs.Reading.{Reading}
 use Rattle.rules.proofs.Refusals.{long-keeps}
 use Rattle.rules.proofs.Stands.{Stands, reading-stands, reading-fits}
-use Rattle.rules.proofs.Demands.{entry-shows, format-shows, column-shows, sample-shows, traced}
+use Rattle.rules.proofs.Demands.{entry-shows, format-shows, format-tells, column-shows, sample-shows, traced}
 use Rattle.entries.specs.declared.form.Form.{Form}
 use Rattle.entries.specs.Values.{limitsBy}
 use Rattle.entries.specs.Tables.{room, entryAt}
 use Rattle.entries.proofs.Stored.{storable, entry-stored}
 use Rattle.header.specs.Parsers.{readInto, ReadCall}
 use Rattle.header.specs.declared.parser.ReadAnswer.{ReadAnswer}
-use Rattle.rules.specs.Claims.{All, SizedOption, Accepted, nth, ShownPlain}
+use Rattle.rules.specs.Claims.{All, SizedOption, Accepted, nth, Tells, ShownPlain}
 use Rattle.header.specs.Calls.{CallsShow, CallsShowPlain}
 
 stands-at : (lim : Limits) (size : ℕ) (es : List Entry) (n : ℕ) {e : Entry} → All (Stands lim size) es → nth es n ≡ some e → Stands lim size e
@@ -54,10 +54,15 @@ module _ {form : Form} {imposed : Option Version} {h : Bytes} {t : List ℕ} {r 
     pub record-called : (i : ℕ) {x : Record} → nth rs i ≡ some x → CallsShow form h v t′ (suc i) x
     record-called i e =
         let s = entry-shows (limitsBy form) imposed sized (room form t) h a i e in
-        record { entry = s .entry; found = call-finds (suc i) (s .is); line = s .line; read = s .read; shows = s .shows }
+        record { entry = s .entry; found = call-finds (suc i) (s .is); line = s .line; read = s .read; shows = s .shows; tells = s .tells }
 
     pub format-called : CallsShowPlain form h v t′ 0 formatKind (traced (limitsBy form) imposed sized (room form t) h a .format)
     format-called = plain (format-shows (limitsBy form) imposed sized (room form t) h a)
+
+    -- under every version the fileformat line's entry tells of it
+    pub format-told : (u : Version) → (e : Entry) × (entryAt form h t′ 0 ≡ some e)
+        × Tells (limitsBy form .counted) h u e (fileformat (traced (limitsBy form) imposed sized (room form t) h a .own))
+    format-told u = let f = format-tells (limitsBy form) imposed sized (room form t) h a u in (f .0, call-finds 0 (f .1), f .2)
 
     pub columns-called : CallsShowPlain form h v t′ (suc (length rs)) columnsKind (traced (limitsBy form) imposed sized (room form t) h a .line)
     columns-called = plain (column-shows (limitsBy form) imposed sized (room form t) h a)

@@ -1,7 +1,7 @@
 -- One line after the other: what is left of the header, read from here, gives the whole. Assumes nothing.
 use Prim.Native.Nat.{ℕ, suc, _+_, _-_, _≤_, _<_}
 use native.Mathlib.Omega.{arith}
-use mathlib.Core.Path.{_≡_, refl, sym, ap, subst, _∙_}
+use mathlib.Core.Path.{_≡_, refl, sym, ap, ap₂, subst, _∙_}
 use mathlib.Core.Bool.{Bool, true, false, not}
 use mathlib.Core.List.{List, [], _∷_, _++_, append-assoc, append-nil}
 use mathlib.Core.Option.{Option, none}
@@ -17,7 +17,7 @@ use Rattle.rules.specs.Sizes.{Limits}
 use Rattle.rules.specs.Version.{Version}
 use Rattle.rules.specs.Lines.{pieces, lineOf}
 use Rattle.rules.specs.Record.{Record}
-use Rattle.rules.specs.Entry.{Entry, formatKind, plainEntry, columnEntries}
+use Rattle.rules.specs.Entry.{Entry, formatKind, plainEntry, ifCounted, withCounts, columnEntries}
 use Rattle.rules.specs.Reading.{State, empty, ready, done, step, Reading, stop, following, atEnd, run, reading}
 use Rattle.rules.proofs.Alls.{all-append, all-left}
 use Rattle.rules.proofs.Firsts.{on-ok}
@@ -43,7 +43,7 @@ use Rattle.columns.proofs.Answers.{columns-room}
 use Rattle.columns.proofs.Stores.{columns-put}
 use Rattle.ids.specs.Marks.{Marked}
 use Rattle.ids.proofs.Markings.{unmarked}
-use Rattle.header.specs.Verdicts.{PhaseIs, ReadyRows, Tabled, Says, New, Ended, Begun, LineJudged}
+use Rattle.header.specs.Verdicts.{formatEntry, PhaseIs, ReadyRows, Tabled, Says, New, Ended, Begun, LineJudged}
 use Rattle.header.specs.Parsers.{answerMeans, readingMeans, readInto, refusedAs, ReadCall, Kept, LineHere, Stops, PartialIs, Bounds, KeepsLine, Parses, Finishes}
 use Rattle.header.specs.declared.verdict.Phase.{Phase}
 use Rattle.header.specs.declared.verdict.Phase.the-variants as phase
@@ -164,14 +164,15 @@ module _ (form : Form) (p : Parser) (h : Bytes) (end next : ℕ) (v : Verdict) (
   pub keep-refused : {x : Refusal} → v ≡ verdict.Refused x → KeepsLine form p h end next v t (partial.Refused x) t
   keep-refused {x} e = record {
     is = λ imposed t₀ ms ms′ k here m s.
-        line-stops form imposed h t₀ ms t p l next k here x (subst (Says h ms′ (step (limitsBy form) imposed (p .at) (k .state) l) (p .at) (k .state) l) e s) refl;
+        line-stops form imposed h t₀ ms t p l next k here x (subst (Says (limitsBy form) h ms′ (step (limitsBy form) imposed (p .at) (k .state) l) (p .at) (k .state) l) e s) refl;
   }
 
-  module _ {f : FileFormat} (e : v ≡ verdict.Begin f) {s : Bytes} (es : s ≡ l) {y : CodeEntry} (ey : entryOf y ≡ plainEntry formatKind (p .at) (length s)) {q : Bool} (a : q ≡ ltb (p .count) (room form t))
+  module _ {f : FileFormat} (e : v ≡ verdict.Begin f) {s : Bytes} (es : s ≡ l) {n : ℕ} (en : n ≡ ifCounted (limitsBy form .counted) 10)
+      {y : CodeEntry} (ey : entryOf y ≡ withCounts (record { keyLength = n; fieldCount = 0 }) (plainEntry formatKind (p .at) (length s))) {q : Bool} (a : q ≡ ltb (p .count) (room form t))
       {t′ : List ℕ} (b : t′ ≡ put form t (p .count) (entryOf y)) where
-    begun : {imposed : Option Version} {t₀ ms : List ℕ} (ms′ : List ℕ) (k : Kept form imposed h t₀ ms t p) → Says h ms′ (step (limitsBy form) imposed (p .at) (k .state) l) (p .at) (k .state) l v
-        → Begun (step (limitsBy form) imposed (p .at) (k .state) l) (p .at) (k .state) l f
-    begun {imposed} ms′ k s = subst (Says h ms′ (step (limitsBy form) imposed (p .at) (k .state) l) (p .at) (k .state) l) e s
+    begun : {imposed : Option Version} {t₀ ms : List ℕ} (ms′ : List ℕ) (k : Kept form imposed h t₀ ms t p) → Says (limitsBy form) h ms′ (step (limitsBy form) imposed (p .at) (k .state) l) (p .at) (k .state) l v
+        → Begun (limitsBy form) (step (limitsBy form) imposed (p .at) (k .state) l) (p .at) (k .state) l f
+    begun {imposed} ms′ k s = subst (Says (limitsBy form) h ms′ (step (limitsBy form) imposed (p .at) (k .state) l) (p .at) (k .state) l) e s
 
     pub begin-full : not q ≡ true → KeepsLine form p h end next v t (partial.Refused TableFull) t′
     begin-full d = record {
@@ -184,9 +185,9 @@ module _ (form : Form) (p : Parser) (h : Bytes) (end next : ℕ) (v : Verdict) (
       is = λ imposed t₀ ms ms′ k here m s.
           let g = begun ms′ k s in
           let none : k .es ≡ [] = subst (λ (x : State). Tabled (limitsBy form) h ms x (k .es)) (g .state) (k .tabled) in
-          let own = plainEntry formatKind (p .at) (length l) in
+          let own = formatEntry (limitsBy form) (p .at) (length l) in
           line-kept form imposed h t₀ ms t p l next k here (g .begins) (omega (arith, some-room form t (p .count) (entryOf y) a b d))
-          (was-put form t (p .count) (entryOf y) a b d ∙ ap (λ (x : Entry). stored form t (p .count) (x ∷ [])) (ey ∙ ap (λ (x : Bytes). plainEntry formatKind (p .at) (length x)) es)) (phase.Ready f) refl
+          (was-put form t (p .count) (entryOf y) a b d ∙ ap (λ (x : Entry). stored form t (p .count) (x ∷ [])) (ey ∙ ap₂ (λ (k : ℕ) (x : Bytes). withCounts (record { keyLength = k; fieldCount = 0 }) (plainEntry formatKind (p .at) (length x))) en es)) (phase.Ready f) refl
           (record {
             own = own;
             rows = [];
@@ -200,9 +201,9 @@ module _ (form : Form) (p : Parser) (h : Bytes) (end next : ℕ) (v : Verdict) (
     }
 
   module _ {y : CodeEntry} (e : v ≡ verdict.Entry y) {q : Bool} (a : q ≡ ltb (p .count) (room form t)) {t′ : List ℕ} (b : t′ ≡ put form t (p .count) (entryOf y)) where
-    entered : {imposed : Option Version} {t₀ ms : List ℕ} (ms′ : List ℕ) (k : Kept form imposed h t₀ ms t p) → Says h ms′ (step (limitsBy form) imposed (p .at) (k .state) l) (p .at) (k .state) l v
-        → New h ms′ (step (limitsBy form) imposed (p .at) (k .state) l) (p .at) (k .state) l (entryOf y)
-    entered {imposed} ms′ k s = subst (Says h ms′ (step (limitsBy form) imposed (p .at) (k .state) l) (p .at) (k .state) l) e s
+    entered : {imposed : Option Version} {t₀ ms : List ℕ} (ms′ : List ℕ) (k : Kept form imposed h t₀ ms t p) → Says (limitsBy form) h ms′ (step (limitsBy form) imposed (p .at) (k .state) l) (p .at) (k .state) l v
+        → New (limitsBy form) h ms′ (step (limitsBy form) imposed (p .at) (k .state) l) (p .at) (k .state) l (entryOf y)
+    entered {imposed} ms′ k s = subst (Says (limitsBy form) h ms′ (step (limitsBy form) imposed (p .at) (k .state) l) (p .at) (k .state) l) e s
 
     pub entry-full : not q ≡ true → KeepsLine form p h end next v t (partial.Refused TableFull) t′
     entry-full d = record {
@@ -237,9 +238,9 @@ module _ (form : Form) (p : Parser) (h : Bytes) (end next : ℕ) (v : Verdict) (
         same-phase (phase.Done f n) v rs ss h = h
 
   module _ {f : FileFormat} {n : ℕ} (e : v ≡ verdict.Columns f n) {m : ℕ} (a : m ≡ room form t) where
-    ended : {imposed : Option Version} {t₀ ms : List ℕ} (ms′ : List ℕ) (k : Kept form imposed h t₀ ms t p) → Says h ms′ (step (limitsBy form) imposed (p .at) (k .state) l) (p .at) (k .state) l v
+    ended : {imposed : Option Version} {t₀ ms : List ℕ} (ms′ : List ℕ) (k : Kept form imposed h t₀ ms t p) → Says (limitsBy form) h ms′ (step (limitsBy form) imposed (p .at) (k .state) l) (p .at) (k .state) l v
         → Ended (step (limitsBy form) imposed (p .at) (k .state) l) (p .at) (k .state) l f n
-    ended {imposed} ms′ k s = subst (Says h ms′ (step (limitsBy form) imposed (p .at) (k .state) l) (p .at) (k .state) l) e s
+    ended {imposed} ms′ k s = subst (Says (limitsBy form) h ms′ (step (limitsBy form) imposed (p .at) (k .state) l) (p .at) (k .state) l) e s
 
     entries-of : {a : Answer (State × List Entry)} {s : State} (g : Ended a (p .at) s l f n) → length (columnEntries (p .at) l (g .c)) ≡ 1 + n
     entries-of g = columns-room (p .at) l (g .c) ∙ ap (1 +_) (g .count)

@@ -1,7 +1,7 @@
 -- What a line is, beside the lines before it. Assumes nothing.
 use Prim.Native.Nat.{ℕ, suc, _+_, _-_, _≤_, _<_}
 use native.Mathlib.Omega.{arith}
-use mathlib.Core.Path.{_≡_, refl, sym, ap, subst, _∙_}
+use mathlib.Core.Path.{_≡_, refl, sym, ap, ap₂, subst, _∙_}
 use mathlib.Core.Bool.{Bool, true, false, not}
 use mathlib.Core.List.{List, [], _∷_, _++_}
 use mathlib.Core.Option.{Option, none, some}
@@ -19,15 +19,15 @@ use Rattle.rules.specs.Sizes.{Limits}
 use Rattle.rules.specs.Version.{Version, v4-5, inForce}
 use Rattle.rules.specs.Known.{kindOf, tagOf}
 use Rattle.rules.specs.Map.{fieldNamed}
-use Rattle.rules.specs.Record.{Record, fileformat, fields, text, readRecord}
+use Rattle.rules.specs.Record.{Record, fileformat, fields, text, readRecord, keyOf}
 use Rattle.rules.specs.Columns.{Columns, readColumns}
-use Rattle.rules.specs.Entry.{Entry, mapKind, textKind, plainEntry, mapEntry, fieldsStart, textNamed, recordEntry}
-use Rattle.rules.specs.Reading.{keyOf, clash, State, empty, ready, done, begin, enter, finish, isDone, stepText, step}
+use Rattle.rules.specs.Entry.{Entry, formatKind, mapKind, textKind, recordKind, plainEntry, fieldsStart, textNamed, lineEntry, ifCounted, countsOf, withCounts, recordEntry}
+use Rattle.rules.specs.Reading.{clash, State, empty, ready, done, begin, enter, finish, isDone, stepText, step}
 use Rattle.rules.specs.House.{writeRecord}
 use Rattle.rules.proofs.Firsts.{on-ok, judged-zero}
 use Rattle.rules.proofs.Records.{GoodRecord, Entered, record-good}
 use Rattle.rules.proofs.Texts.{LineOf, record-in}
-use Rattle.rules.proofs.Shows.{Both, AnyAt, named-text, line-fields}
+use Rattle.rules.proofs.Shows.{Both, AnyAt, named-text, line-fields, entry-placed}
 use Rattle.records.specs.Formats.{versionOf}
 use Rattle.records.specs.Refusals.{number}
 use Rattle.records.specs.Keys.{kindBy, Named}
@@ -38,6 +38,7 @@ use Rattle.records.specs.declared.file_format.FileFormat.{FileFormat}
 use Rattle.records.specs.declared.refusal.Refusal.{Refusal}
 use Rattle.records.specs.declared.refusal.Refusal.the-variants.{ExpectedEof, LineTooLong, InvalidUtf8, MissingFileFormat, UnexpectedFileFormat, DuplicateId, MixedValues, DuplicateOtherId, InvalidHeader, DuplicateSampleName}
 use Rattle.records.specs.declared.map.Slot.the-variants as slot
+use Rattle.records.specs.declared.map.Tally.{Tally}
 use Rattle.records.specs.declared.record.MapRecord.{MapRecord}
 use Rattle.records.specs.declared.record.RecordRead.{RecordRead}
 use Rattle.records.specs.declared.record.RecordRead.the-variants as read
@@ -57,7 +58,7 @@ use Rattle.ids.specs.declared.scan.Clash.the-variants as clashes
 use Rattle.ids.proofs.KeyKinds.{number-small}
 use Rattle.ids.proofs.Clashes.{found-clash}
 use Rattle.ids.proofs.Markings.{entry-length, entry-own, all-kept, clash-sure}
-use Rattle.header.specs.Verdicts.{imposedOf, PhaseIs, isDonePhase, Says, MarksKept, Scene, Unchecked, FirstSays, FirstJudged, IdJudged, MapJudged, RecordJudged, ColumnsSay, ColumnsJudged, TextJudged, Utf8Told, LineJudged}
+use Rattle.header.specs.Verdicts.{imposedOf, PhaseIs, isDonePhase, formatEntry, Says, MarksKept, Scene, Unchecked, FirstSays, FirstJudged, IdJudged, MapJudged, RecordJudged, ColumnsSay, ColumnsJudged, TextJudged, Utf8Told, LineJudged}
 use Rattle.header.specs.declared.file_format_option.FileFormatOption.{FileFormatOption}
 use Rattle.header.specs.declared.file_format_option.FileFormatOption.the-variants as option
 use Rattle.header.specs.declared.verdict.Phase.{Phase}
@@ -86,24 +87,34 @@ imposed-sized (option.Some f) parts = let p = parts f refl in sizes f (p .0) (p 
 
 -- The first line
 
+none-counted : (counted : Bool) → ifCounted counted 0 ≡ 0
+none-counted true = refl
+none-counted false = refl
+
+format-entry : (lim : Limits) (v : Version) (start : ℕ) (l : Bytes) → recordEntry (lim .counted) v start l (fileformat v) ≡ formatEntry lim start (length l)
+unfolding recordEntry lineEntry countsOf
+format-entry lim v start l = ap (λ (n : ℕ). withCounts (record { keyLength = ifCounted (lim .counted) 10; fieldCount = n }) (plainEntry formatKind start (length l))) (none-counted (lim .counted))
+
 module _ (imposed : Option Version) (l : Bytes) (x : RecordRead) (a : ParsesRecord v4-5 l x) where
-  first-is : {r : Record} → readRecord v4-5 l ≡ ok r → (start : ℕ) → stepText imposed start empty l ≡ begin imposed start l r
+  first-is : {r : Record} → readRecord v4-5 l ≡ ok r → (lim : Limits) (start : ℕ) → stepText (lim .counted) imposed start empty l ≡ begin (lim .counted) imposed start l r
   unfolding stepText
-  first-is e start = rw e
+  first-is e lim start = rw e
 
   pub first-format : {w : FileFormat} → x ≡ read.FileFormat w → (f : FileFormat) → versionOf f ≡ inForce imposed (versionOf w) → Sized (versionOf f) → FirstJudged imposed l (verdict.Begin f)
-  unfolding recordEntry
-  first-format e f g s = record { is = λ start. record { state = refl; sized = s; begins = first-is (subst (RecordIs v4-5 l) e (a .is)) start ∙ rw (← g) } }
+  first-format {w} e f g s = record {
+    is = λ lim start.
+        record { state = refl; sized = s; begins = first-is (subst (RecordIs v4-5 l) e (a .is)) lim start ∙ rw (← g) (ap (λ (y : Entry). ok (ready (versionOf f) [], y ∷ [])) (format-entry lim (versionOf w) start l)) };
+  }
 
   pub first-map : {m : MapRecord} → x ≡ read.Map m → FirstJudged imposed l (verdict.Refused MissingFileFormat)
-  first-map e = record { is = λ start. first-is (subst (RecordIs v4-5 l) e (a .is) .3) start }
+  first-map e = record { is = λ lim start. first-is (subst (RecordIs v4-5 l) e (a .is) .3) lim start }
 
   pub first-text : {at : ℕ} → x ≡ read.Text at → FirstJudged imposed l (verdict.Refused MissingFileFormat)
-  first-text e = record { is = λ start. first-is (subst (RecordIs v4-5 l) e (a .is) .1) start }
+  first-text e = record { is = λ lim start. first-is (subst (RecordIs v4-5 l) e (a .is) .1) lim start }
 
   pub first-refused : {y : Refusal} → x ≡ read.Refused y → FirstJudged imposed l (verdict.Refused y)
   unfolding stepText
-  first-refused e = record { is = λ start. let h = subst (RecordIs v4-5 l) e (a .is) in rw h }
+  first-refused e = record { is = λ lim start. let h = subst (RecordIs v4-5 l) e (a .is) in rw h }
 
 pub ruleset firsts = (first-format, first-map, first-text, first-refused)
 
@@ -118,36 +129,34 @@ marks-more h ms e a = rw a (record { long = entry-length h e ms; all = λ es b. 
 judged-by : {n m : ℕ} (x : State × List Entry) → m ≡ n → {k : ℕ} → m ≡ suc k → judged n x ≡ refuse (suc k)
 judged-by x e f = rw (← e, f)
 
-enter-judged : (v : Version) (rs : List Record) (start : ℕ) (l : Bytes) (x : Record) → Entered v x
-    → enter v rs start l x ≡ judged (clash v x rs) (ready v (rs ++ x ∷ []), recordEntry v start l x ∷ [])
-enter-judged v rs start l (fileformat w) g = absurd g
-enter-judged v rs start l (fields k fs) g = refl
-enter-judged v rs start l (text k t) g = refl
-
-map-entry-kind : (kind start len : ℕ) (o : Option (Bytes × Text)) → mapEntry kind start len o .kind ≡ kind
-map-entry-kind kind start len none = refl
-map-entry-kind kind start len (some p) = refl
+enter-judged : (counted : Bool) (v : Version) (rs : List Record) (start : ℕ) (l : Bytes) (x : Record) → Entered v x
+    → enter counted v rs start l x ≡ judged (clash v x rs) (ready v (rs ++ x ∷ []), recordEntry counted v start l x ∷ [])
+enter-judged counted v rs start l (fileformat w) g = absurd g
+enter-judged counted v rs start l (fields k fs) g = refl
+enter-judged counted v rs start l (text k t) g = refl
 
 -- a record's entry is of kind 2 or more
-kind-two : (v : Version) (start : ℕ) (l : Bytes) (x : Record) → Entered v x → 2 ≤ recordEntry v start l x .kind
-unfolding recordEntry
-kind-two v start l (fileformat w) g = absurd g
-kind-two v start l (fields k fs) g = omega (arith, map-entry-kind (mapKind (kindOf k)) start (length l) (textNamed v k (ascii "ID") (fieldsStart k) fs), number-small (kindOf k) .0)
-kind-two v start l (text k t) g = omega arith
+kind-two : (counted : Bool) (v : Version) (start : ℕ) (l : Bytes) (x : Record) → Entered v x → 2 ≤ recordEntry counted v start l x .kind
+kind-two counted v start l x g = rw (entry-placed counted v start l x .is-kind) (two x g)
+  where
+    two : (x : Record) → Entered v x → 2 ≤ recordKind x
+    two (fileformat w) g = absurd g
+    two (fields k fs) g = number-small (kindOf k) .0
+    two (text k t) g = omega arith
 
-module _ (h : Bytes) (es : List Entry) (ms prefix : Bytes) (e : CodeEntry) {a : Clash} (ea : a ≡ clashFound h es ms prefix (entryOf e)) {ms′ : Bytes} (em : ms′ ≡ markEntry h (entryOf e) ms) where
-  found : {lim : Limits} {l : Bytes} {start : ℕ} {v : Version} {rs : List Record} (x : Record) → Scene lim h ms es start l (ready v rs) → readRecord v l ≡ ok x → Entered v x
-      → prefix ≡ prefixOf (keyOf x) → entryOf e ≡ recordEntry v start l x → clashNumber a ≡ clash v x rs
-  found {lim} {l} {start} {v} {rs} x s r g p q =
+module _ (lim : Limits) (h : Bytes) (es : List Entry) (ms prefix : Bytes) (e : CodeEntry) {a : Clash} (ea : a ≡ clashFound h es ms prefix (entryOf e)) {ms′ : Bytes} (em : ms′ ≡ markEntry h (entryOf e) ms) where
+  found : {l : Bytes} {start : ℕ} {v : Version} {rs : List Record} (x : Record) → Scene lim h ms es start l (ready v rs) → readRecord v l ≡ ok x → Entered v x
+      → prefix ≡ prefixOf (keyOf x) → entryOf e ≡ recordEntry (lim .counted) v start l x → clashNumber a ≡ clash v x rs
+  found {l} {start} {v} {rs} x s r g p q =
       let t = s .tabled in
-      let two : 2 ≤ entryOf e .kind = subst (λ (y : Entry). 2 ≤ y .kind) (sym q) (kind-two v start l x g) in
+      let two : 2 ≤ entryOf e .kind = subst (λ (y : Entry). 2 ≤ y .kind) (sym q) (kind-two (lim .counted) v start l x g) in
       ap clashNumber (ea ∙ clash-sure h es ms prefix (entryOf e) two (t .marked))
       ∙ rw (p, t .is) (found-clash lim h v (t .own) (t .kind) (t .rows) rs (t .all) (t .good) (entryOf e) x (record { start = start; line = l; there = s .there; read = r; entry = q }) g)
 
-  pub id-free : a ≡ clashes.Free → IdJudged h es ms prefix (entryOf e) (verdict.Entry e) ms′
+  pub id-free : a ≡ clashes.Free → IdJudged lim h es ms prefix (entryOf e) (verdict.Entry e) ms′
   id-free f = record {
     marks = marks-more h ms (entryOf e) em;
-    is = λ lim l start v rs x s r g p q.
+    is = λ l start v rs x s r g p q.
         let z = sym (found x s r g p q) ∙ ap clashNumber f in
         record {
           v = v;
@@ -158,25 +167,25 @@ module _ (h : Bytes) (es : List Entry) (ms prefix : Bytes) (e : CodeEntry) {a : 
           fresh = z;
           entered = g;
           entry = q;
-          enters = enter-judged v rs start l x g ∙ judged-zero (ready v (rs ++ x ∷ []), recordEntry v start l x ∷ []) z ∙ ap (λ (y : Entry). ok (ready v (rs ++ x ∷ []), y ∷ [])) (sym q);
+          enters = enter-judged (lim .counted) v rs start l x g ∙ judged-zero (ready v (rs ++ x ∷ []), recordEntry (lim .counted) v start l x ∷ []) z ∙ ap (λ (y : Entry). ok (ready v (rs ++ x ∷ []), y ∷ [])) (sym q);
           marked = subst (λ (y : Bytes). Marked h y (entryOf e)) (sym em) (entry-own h (entryOf e) ms);
         };
   }
 
-  id-clash : (y : Refusal) {b : Clash} → a ≡ b → {n : ℕ} → clashNumber b ≡ suc n → number y ≡ suc n → IdJudged h es ms prefix (entryOf e) (verdict.Refused y) ms′
+  id-clash : (y : Refusal) {b : Clash} → a ≡ b → {n : ℕ} → clashNumber b ≡ suc n → number y ≡ suc n → IdJudged lim h es ms prefix (entryOf e) (verdict.Refused y) ms′
   id-clash y f g i = record {
     marks = marks-more h ms (entryOf e) em;
-    is = λ lim l start v rs x s r d p q.
-        enter-judged v rs start l x d ∙ judged-by (ready v (rs ++ x ∷ []), recordEntry v start l x ∷ []) (found x s r d p q) (ap clashNumber f ∙ g) ∙ ap refuse (sym i);
+    is = λ l start v rs x s r d p q.
+        enter-judged (lim .counted) v rs start l x d ∙ judged-by (ready v (rs ++ x ∷ []), recordEntry (lim .counted) v start l x ∷ []) (found x s r d p q) (ap clashNumber f ∙ g) ∙ ap refuse (sym i);
   }
 
-  pub id-twice : a ≡ clashes.TypedId → IdJudged h es ms prefix (entryOf e) (verdict.Refused DuplicateId) ms′
+  pub id-twice : a ≡ clashes.TypedId → IdJudged lim h es ms prefix (entryOf e) (verdict.Refused DuplicateId) ms′
   id-twice f = id-clash DuplicateId f refl refl
 
-  pub id-mixed : a ≡ clashes.Mixed → IdJudged h es ms prefix (entryOf e) (verdict.Refused MixedValues) ms′
+  pub id-mixed : a ≡ clashes.Mixed → IdJudged lim h es ms prefix (entryOf e) (verdict.Refused MixedValues) ms′
   id-mixed f = id-clash MixedValues f refl refl
 
-  pub id-other : a ≡ clashes.OtherId → IdJudged h es ms prefix (entryOf e) (verdict.Refused DuplicateOtherId) ms′
+  pub id-other : a ≡ clashes.OtherId → IdJudged lim h es ms prefix (entryOf e) (verdict.Refused DuplicateOtherId) ms′
   id-other f = id-clash DuplicateOtherId f refl refl
 
 pub ruleset ids = (id-free, id-twice, id-mixed, id-other)
@@ -218,82 +227,94 @@ text-inside l (some f) (some p) u {k} {id} e =
     subst (λ (x : Text). (x .start ≤ x .end) × (x .end ≤ length l)) t (u .ordered, u .inside)
 
 -- the entry that the code makes of a map
-abbrev madeEntry : ℕ → ℕ → ℕ → Text → ℕ → ℕ → Entry
-madeEntry kind start len id n tag = record { kind = kind; start = start; length = len; offset = id .start; idLength = n; quoted = id .quoted; tag = tag }
+abbrev madeEntry : ℕ → ℕ → ℕ → Text → ℕ → ℕ → ℕ → ℕ → Entry
+madeEntry kind start len id n tag key count =
+    record { kind = kind; start = start; length = len; offset = id .start; idLength = n; quoted = id .quoted; tag = tag; keyLength = key; fieldCount = count }
 
 module _ (v : Version) (l k : Bytes) (fs : List Field) (line : l ≡ writeRecord (fields k fs)) (id : Text) (tag : ℕ) (e : slotted (textNamed v k (ascii "ID") (fieldsStart k) fs) ≡ slot.Filled id tag) where
   id-both : Both l (fieldNamed v k (ascii "ID") fs) (textNamed v k (ascii "ID") (fieldsStart k) fs)
   id-both = named-text v k (ascii "ID") l (fieldsStart k) fs (subst (λ (x : Bytes). AnyAt x (fieldsStart k) fs) (sym line) (line-fields k fs))
 
-  made-is : {kind : ℕ} → kind ≡ mapKind (kindOf k) → (start : ℕ) {name : Bytes} → name ≡ textIn l id → madeEntry kind start (length l) id (length name) tag ≡ recordEntry v start l (fields k fs)
-  unfolding recordEntry
-  made-is {kind} ek start {name} n =
+  made-is : (counted : Bool) {kind : ℕ} → kind ≡ mapKind (kindOf k) → (start : ℕ) {name : Bytes} → name ≡ textIn l id
+      → {key count : ℕ} → key ≡ ifCounted counted (length k) → count ≡ ifCounted counted (length fs)
+      → madeEntry kind start (length l) id (length name) tag key count ≡ recordEntry counted v start l (fields k fs)
+  unfolding recordEntry lineEntry countsOf
+  made-is counted {kind} ek start {name} n {key} {count} ck cf =
       let x = kept-is (textNamed v k (ascii "ID") (fieldsStart k) fs) e in
       let i = text-inside l (fieldNamed v k (ascii "ID") fs) (textNamed v k (ascii "ID") (fieldsStart k) fs) id-both (x .is) in
       let d = length-drop (id .start) l in
       let m : length name ≡ id .end - id .start = ap length n ∙ length-take (id .end - id .start) (drop (id .start) l) ∙ omega (arith, i .0, i .1) in
-      rw (x .is, ek, m) (ap (madeEntry (mapKind (kindOf k)) start (length l) id (id .end - id .start)) (sym (x .tagged)))
+      rw (x .is, ek, m, ck, cf)
+      (ap (λ (g : ℕ). madeEntry (mapKind (kindOf k)) start (length l) id (id .end - id .start) g (ifCounted counted (length k)) (ifCounted counted (length fs))) (sym (x .tagged)))
 
-module _ (h : Bytes) (es : List Entry) (ms : Bytes) (start end : ℕ) (m : MapRecord) {l : Bytes} (el : l ≡ part h start end)
-    {prefix : Bytes} (a : prefix ≡ take (m .value - 0) (drop 0 l)) {name : Bytes} (b : name ≡ textIn l (m .id)) {kind : ℕ} (d : kind ≡ mapKind (kindBy (m .key))) where
-  pub map-judged : (r : Verdict) {ms′ : Bytes} → IdJudged h es ms prefix (madeEntry kind start (length l) (m .id) (length name) (m .tag)) r ms′ → MapJudged h es ms start end m r ms′
+module _ (lim : Limits) (h : Bytes) (es : List Entry) (ms : Bytes) (start end : ℕ) (m : MapRecord) {l : Bytes} (el : l ≡ part h start end)
+    {prefix : Bytes} (a : prefix ≡ take (m .value - 0) (drop 0 l)) {name : Bytes} (b : name ≡ textIn l (m .id)) {kind : ℕ} (d : kind ≡ mapKind (kindBy (m .key)))
+    {at key count : ℕ} (ea : at ≡ m .value - 3) (ek : key ≡ ifCounted (lim .counted) at) (ec : count ≡ ifCounted (lim .counted) (m .tally .fields)) where
+  pub map-judged : (r : Verdict) {ms′ : Bytes} → IdJudged lim h es ms prefix (madeEntry kind start (length l) (m .id) (length name) (m .tag) key count) r ms′
+      → MapJudged lim h es ms start end m r ms′
   map-judged r {ms′} j = record {
     marks = j .marks;
-    is = λ lim l′ el′ v rs fs s named at read held.
-        subst (λ (y : Bytes). Says h ms′ (enter v rs start y (fields (keyIn y) fs)) start (ready v rs) y r) (el ∙ sym el′)
-        (go lim v rs fs (subst (λ (y : Bytes). Scene lim h ms es start y (ready v rs)) (el′ ∙ sym el) s) (subst (λ (y : Bytes). Named (keyIn y) (m .key)) (el′ ∙ sym el) named)
+    is = λ l′ el′ v rs fs s named at read held tally.
+        subst (λ (y : Bytes). Says lim h ms′ (enter (lim .counted) v rs start y (fields (keyIn y) fs)) start (ready v rs) y r) (el ∙ sym el′)
+        (go v rs fs (subst (λ (y : Bytes). Scene lim h ms es start y (ready v rs)) (el′ ∙ sym el) s) (subst (λ (y : Bytes). Named (keyIn y) (m .key)) (el′ ∙ sym el) named)
         (at ∙ ap valueStart (el′ ∙ sym el)) (subst (λ (y : Bytes). readRecord v y ≡ ok (fields (keyIn y) fs)) (el′ ∙ sym el) read)
-        (subst (λ (y : Bytes). slotted (textNamed v (keyIn y) (ascii "ID") (fieldsStart (keyIn y)) fs) ≡ slot.Filled (m .id) (m .tag)) (el′ ∙ sym el) held));
+        (subst (λ (y : Bytes). slotted (textNamed v (keyIn y) (ascii "ID") (fieldsStart (keyIn y)) fs) ≡ slot.Filled (m .id) (m .tag)) (el′ ∙ sym el) held)
+        (ap (λ (t : Tally). t .fields) tally));
   }
     where
-      go : (lim : Limits) (v : Version) (rs : List Record) (fs : List Field) → Scene lim h ms es start l (ready v rs) → Named (keyIn l) (m .key) → m .value ≡ valueStart l
+      go : (v : Version) (rs : List Record) (fs : List Field) → Scene lim h ms es start l (ready v rs) → Named (keyIn l) (m .key) → m .value ≡ valueStart l
           → readRecord v l ≡ ok (fields (keyIn l) fs) → slotted (textNamed v (keyIn l) (ascii "ID") (fieldsStart (keyIn l)) fs) ≡ slot.Filled (m .id) (m .tag)
-          → Says h ms′ (enter v rs start l (fields (keyIn l) fs)) start (ready v rs) l r
-      go lim v rs fs s named at read held =
+          → m .tally .fields ≡ length fs → Says lim h ms′ (enter (lim .counted) v rs start l (fields (keyIn l) fs)) start (ready v rs) l r
+      go v rs fs s named place read held many =
           let k = keyIn l in
           let g : Entered v (fields k fs) = line-good v l (fields k fs) read (s .there .utf8) (s .line) in
-          let i : m .value - 0 ≡ 2 + length k + 1 = omega (arith, at) in
-          j .is lim l start v rs (fields k fs) s read g
+          let i : m .value - 0 ≡ 2 + length k + 1 = omega (arith, place) in
+          let n : at ≡ length k = omega (arith, ea, place) in
+          j .is l start v rs (fields k fs) s read g
           (a ∙ ap (λ (n : ℕ). take n l) i ∙ line-prefix v l (fields k fs) read g)
-          (made-is v l k fs (on-ok (LineOf l) (record-in v l) read) (m .id) (m .tag) held (d ∙ ap mapKind (sym (named .kind ∙ kind-by-case (m .key)))) start b)
+          (made-is v l k fs (on-ok (LineOf l) (record-in v l) read) (m .id) (m .tag) held (lim .counted) (d ∙ ap mapKind (sym (named .kind ∙ kind-by-case (m .key)))) start b
+          (ek ∙ ap (ifCounted (lim .counted)) n) (ec ∙ ap (ifCounted (lim .counted)) many))
 
 -- A record
 
-module _ (h : Bytes) (es : List Entry) (ms : Bytes) (start end : ℕ) {l : Bytes} (el : l ≡ part h start end) (v : Version) (x : RecordRead) (a : ParsesRecord v l x) where
+module _ (lim : Limits) (h : Bytes) (es : List Entry) (ms : Bytes) (start end : ℕ) {l : Bytes} (el : l ≡ part h start end) (v : Version) (x : RecordRead) (a : ParsesRecord v l x) where
   -- the line is the one that the code read
-  placed : (r : Verdict) {ms′ : Bytes} → ((lim : Limits) (rs : List Record) → Scene lim h ms es start l (ready v rs) → Says h ms′ (readRecord v l >>= enter v rs start l) start (ready v rs) l r)
-      → MarksKept h ms ms′ → RecordJudged h es ms v start end r ms′
+  placed : (r : Verdict) {ms′ : Bytes} → ((rs : List Record) → Scene lim h ms es start l (ready v rs) → Says lim h ms′ (readRecord v l >>= enter (lim .counted) v rs start l) start (ready v rs) l r)
+      → MarksKept h ms ms′ → RecordJudged lim h es ms v start end r ms′
   placed r {ms′} f m = record {
     marks = m;
-    is = λ lim l′ el′ rs s.
-        subst (λ (y : Bytes). Says h ms′ (readRecord v y >>= enter v rs start y) start (ready v rs) y r) (el ∙ sym el′) (f lim rs (subst (λ (y : Bytes). Scene lim h ms es start y (ready v rs)) (el′ ∙ sym el) s));
+    is = λ l′ el′ rs s.
+        subst (λ (y : Bytes). Says lim h ms′ (readRecord v y >>= enter (lim .counted) v rs start y) start (ready v rs) y r) (el ∙ sym el′) (f rs (subst (λ (y : Bytes). Scene lim h ms es start y (ready v rs)) (el′ ∙ sym el) s));
   }
 
-  record-is : {y : Record} → readRecord v l ≡ ok y → (rs : List Record) → (readRecord v l >>= enter v rs start l) ≡ enter v rs start l y
+  record-is : {y : Record} → readRecord v l ≡ ok y → (rs : List Record) → (readRecord v l >>= enter (lim .counted) v rs start l) ≡ enter (lim .counted) v rs start l y
   record-is e rs = rw e
 
-  pub record-format : {w : FileFormat} → x ≡ read.FileFormat w → RecordJudged h es ms v start end (verdict.Refused UnexpectedFileFormat) ms
-  record-format e = placed (verdict.Refused UnexpectedFileFormat) (λ lim rs s. record-is (subst (RecordIs v l) e (a .is)) rs) (marks-same h ms)
+  pub record-format : {w : FileFormat} → x ≡ read.FileFormat w → RecordJudged lim h es ms v start end (verdict.Refused UnexpectedFileFormat) ms
+  record-format e = placed (verdict.Refused UnexpectedFileFormat) (λ rs s. record-is (subst (RecordIs v l) e (a .is)) rs) (marks-same h ms)
 
-  pub record-refused : {y : Refusal} → x ≡ read.Refused y → RecordJudged h es ms v start end (verdict.Refused y) ms
-  record-refused {y} e = placed (verdict.Refused y) (λ lim rs s. ap (λ (z : Answer Record). z >>= enter v rs start l) (subst (RecordIs v l) e (a .is))) (marks-same h ms)
+  pub record-refused : {y : Refusal} → x ≡ read.Refused y → RecordJudged lim h es ms v start end (verdict.Refused y) ms
+  record-refused {y} e = placed (verdict.Refused y) (λ rs s. ap (λ (z : Answer Record). z >>= enter (lim .counted) v rs start l) (subst (RecordIs v l) e (a .is))) (marks-same h ms)
 
-  pub record-map : {y : MapRecord} → x ≡ read.Map y → (r : Verdict) {ms′ : Bytes} → MapJudged h es ms start end y r ms′ → RecordJudged h es ms v start end r ms′
-  record-map e r {ms′} j = placed r (λ lim rs s.
+  pub record-map : {y : MapRecord} → x ≡ read.Map y → (r : Verdict) {ms′ : Bytes} → MapJudged lim h es ms start end y r ms′ → RecordJudged lim h es ms v start end r ms′
+  record-map e r {ms′} j = placed r (λ rs s.
       let m = subst (RecordIs v l) e (a .is) in
-      subst (λ (y : Answer (State × List Entry)). Says h ms′ y start (ready v rs) l r) (sym (record-is (m .3) rs)) (j .is lim l el v rs (m .0) s (m .1) (m .2) (m .3) (m .4)))
+      subst (λ (y : Answer (State × List Entry)). Says lim h ms′ y start (ready v rs) l r) (sym (record-is (m .3) rs)) (j .is l el v rs (m .0) s (m .1) (m .2) (m .3) (m .4) (m .5)))
       (j .marks)
 
-  pub record-text : {at : ℕ} → x ≡ read.Text at → {prefix : Bytes} → prefix ≡ take (at - 0) (drop 0 l) → {e : Entry} → e ≡ plainEntry textKind start (length l) → (r : Verdict) {ms′ : Bytes}
-      → IdJudged h es ms prefix e r ms′ → RecordJudged h es ms v start end r ms′
-  unfolding recordEntry
-  record-text {at} e p q r {ms′} j = placed r (λ lim rs s.
+  pub record-text : {at : ℕ} → x ≡ read.Text at → {prefix : Bytes} → prefix ≡ take (at - 0) (drop 0 l) → {n key : ℕ} → n ≡ at - 3 → key ≡ ifCounted (lim .counted) n
+      → {e : Entry} → e ≡ withCounts (record { keyLength = key; fieldCount = 0 }) (plainEntry textKind start (length l)) → (r : Verdict) {ms′ : Bytes}
+      → IdJudged lim h es ms prefix e r ms′ → RecordJudged lim h es ms v start end r ms′
+  unfolding recordEntry lineEntry countsOf
+  record-text {at} e p {n} {key} en ek q r {ms′} j = placed r (λ rs s.
       let m = subst (RecordIs v l) e (a .is) in
       let t = text (keyIn l) (drop at l) in
       let g : Entered v t = line-good v l t (m .1) (s .there .utf8) (s .line) in
       let i : at - 0 ≡ 2 + length (keyIn l) + 1 = omega (arith, m .0) in
-      subst (λ (y : Answer (State × List Entry)). Says h ms′ y start (ready v rs) l r) (sym (record-is (m .1) rs))
-      (j .is lim l start v rs t s (m .1) g (p ∙ ap (λ (n : ℕ). take n l) i ∙ line-prefix v l t (m .1) g) q))
+      let c : n ≡ length (keyIn l) = omega (arith, en, m .0) in
+      let made = q ∙ ap₂ (λ (k f : ℕ). withCounts (record { keyLength = k; fieldCount = f }) (plainEntry textKind start (length l))) (ek ∙ ap (ifCounted (lim .counted)) c) (sym (none-counted (lim .counted))) in
+      subst (λ (y : Answer (State × List Entry)). Says lim h ms′ y start (ready v rs) l r) (sym (record-is (m .1) rs))
+      (j .is l start v rs t s (m .1) g (p ∙ ap (λ (n : ℕ). take n l) i ∙ line-prefix v l t (m .1) g) made))
       (j .marks)
 
 pub ruleset records = (record-format, record-refused, record-map, record-text)
@@ -319,71 +340,71 @@ pub ruleset all-columns = (columns-good, columns-wrong, columns-twice)
 
 -- A line, by its phase
 
-first-says : (imposed : Option Version) (h ms l : Bytes) (start : ℕ) (r : Verdict) → FirstSays imposed l r → Says h ms (stepText imposed start empty l) start empty l r
-first-says imposed h ms l start (verdict.Begin f) j = j start
-first-says imposed h ms l start (verdict.Entry e) j = absurd j
-first-says imposed h ms l start (verdict.Columns f n) j = absurd j
-first-says imposed h ms l start (verdict.Refused x) j = j start
+first-says : (lim : Limits) (imposed : Option Version) (h ms l : Bytes) (start : ℕ) (r : Verdict) → FirstSays imposed l r → Says lim h ms (stepText (lim .counted) imposed start empty l) start empty l r
+first-says lim imposed h ms l start (verdict.Begin f) j = j lim start
+first-says lim imposed h ms l start (verdict.Entry e) j = absurd j
+first-says lim imposed h ms l start (verdict.Columns f n) j = absurd j
+first-says lim imposed h ms l start (verdict.Refused x) j = j lim start
 
-columns-say : (h ms l : Bytes) (f : FileFormat) (start : ℕ) (rs : List Record) (r : Verdict) → ColumnsSay l f r
-    → Says h ms (readColumns l >>= finish (versionOf f) rs start l) start (ready (versionOf f) rs) l r
-columns-say h ms l f start rs (verdict.Begin g) j = absurd j
-columns-say h ms l f start rs (verdict.Entry e) j = absurd j
-columns-say h ms l f start rs (verdict.Columns g n) j = j start rs
-columns-say h ms l f start rs (verdict.Refused x) j = j start rs
+columns-say : (lim : Limits) (h ms l : Bytes) (f : FileFormat) (start : ℕ) (rs : List Record) (r : Verdict) → ColumnsSay l f r
+    → Says lim h ms (readColumns l >>= finish (versionOf f) rs start l) start (ready (versionOf f) rs) l r
+columns-say lim h ms l f start rs (verdict.Begin g) j = absurd j
+columns-say lim h ms l f start rs (verdict.Entry e) j = absurd j
+columns-say lim h ms l f start rs (verdict.Columns g n) j = j start rs
+columns-say lim h ms l f start rs (verdict.Refused x) j = j start rs
 
-module _ (h : Bytes) (es : List Entry) (ms : Bytes) (start end : ℕ) {l : Bytes} (el : l ≡ part h start end) (imposed : Option Version) (p : Phase) where
-  here : (r : Verdict) {ms′ : Bytes} → ((lim : Limits) (s : State) → PhaseIs p s → Scene lim h ms es start l s → Says h ms′ (stepText imposed start s l) start s l r)
-      → MarksKept h ms ms′ → TextJudged h es ms start end p imposed r ms′
+module _ (lim : Limits) (h : Bytes) (es : List Entry) (ms : Bytes) (start end : ℕ) {l : Bytes} (el : l ≡ part h start end) (imposed : Option Version) (p : Phase) where
+  here : (r : Verdict) {ms′ : Bytes} → ((s : State) → PhaseIs p s → Scene lim h ms es start l s → Says lim h ms′ (stepText (lim .counted) imposed start s l) start s l r)
+      → MarksKept h ms ms′ → TextJudged lim h es ms start end p imposed r ms′
   here r {ms′} f m = record {
     marks = m;
-    is = λ lim l′ el′ s q c.
-        subst (λ (y : Bytes). Says h ms′ (stepText imposed start s y) start s y r) (el ∙ sym el′) (f lim s q (subst (λ (y : Bytes). Scene lim h ms es start y s) (el′ ∙ sym el) c));
+    is = λ l′ el′ s q c.
+        subst (λ (y : Bytes). Says lim h ms′ (stepText (lim .counted) imposed start s y) start s y r) (el ∙ sym el′) (f s q (subst (λ (y : Bytes). Scene lim h ms es start y s) (el′ ∙ sym el) c));
   }
 
-  pub text-first : p ≡ phase.Empty → (r : Verdict) → FirstJudged imposed l r → TextJudged h es ms start end p imposed r ms
-  text-first e r j = here r (λ lim s q c. go s (subst (λ (x : Phase). PhaseIs x s) e q)) (marks-same h ms)
+  pub text-first : p ≡ phase.Empty → (r : Verdict) → FirstJudged imposed l r → TextJudged lim h es ms start end p imposed r ms
+  text-first e r j = here r (λ s q c. go s (subst (λ (x : Phase). PhaseIs x s) e q)) (marks-same h ms)
     where
-      go : (s : State) → PhaseIs phase.Empty s → Says h ms (stepText imposed start s l) start s l r
-      go empty q = first-says imposed h ms l start r (j .is)
+      go : (s : State) → PhaseIs phase.Empty s → Says lim h ms (stepText (lim .counted) imposed start s l) start s l r
+      go empty q = first-says lim imposed h ms l start r (j .is)
       go (ready v rs) q = absurd q
       go (done v rs c) q = absurd q
 
-  pub text-done : {f : FileFormat} {n : ℕ} → p ≡ phase.Done f n → TextJudged h es ms start end p imposed (verdict.Refused ExpectedEof) ms
+  pub text-done : {f : FileFormat} {n : ℕ} → p ≡ phase.Done f n → TextJudged lim h es ms start end p imposed (verdict.Refused ExpectedEof) ms
   unfolding stepText
-  text-done {f} {n} e = here (verdict.Refused ExpectedEof) (λ lim s q c. go s (subst (λ (x : Phase). PhaseIs x s) e q)) (marks-same h ms)
+  text-done {f} {n} e = here (verdict.Refused ExpectedEof) (λ s q c. go s (subst (λ (x : Phase). PhaseIs x s) e q)) (marks-same h ms)
     where
-      go : (s : State) → PhaseIs (phase.Done f n) s → stepText imposed start s l ≡ refuse 1
+      go : (s : State) → PhaseIs (phase.Done f n) s → stepText (lim .counted) imposed start s l ≡ refuse 1
       go empty q = absurd q
       go (ready v rs) q = absurd q
       go (done v rs c) q = refl
 
   module _ {f : FileFormat} (e : p ≡ phase.Ready f) {q : Bool} (a : q ≡ starts (ascii "#CHROM") l) where
     in-ready : (r : Verdict) {ms′ : Bytes}
-        → ((lim : Limits) (rs : List Record) → Scene lim h ms es start l (ready (versionOf f) rs) → Says h ms′ (stepText imposed start (ready (versionOf f) rs) l) start (ready (versionOf f) rs) l r)
-        → MarksKept h ms ms′ → TextJudged h es ms start end p imposed r ms′
-    in-ready r {ms′} j m = here r (λ lim s x c. go lim s (subst (λ (y : Phase). PhaseIs y s) e x) c) m
+        → ((rs : List Record) → Scene lim h ms es start l (ready (versionOf f) rs) → Says lim h ms′ (stepText (lim .counted) imposed start (ready (versionOf f) rs) l) start (ready (versionOf f) rs) l r)
+        → MarksKept h ms ms′ → TextJudged lim h es ms start end p imposed r ms′
+    in-ready r {ms′} j m = here r (λ s x c. go s (subst (λ (y : Phase). PhaseIs y s) e x) c) m
       where
-        go : (lim : Limits) (s : State) → PhaseIs (phase.Ready f) s → Scene lim h ms es start l s → Says h ms′ (stepText imposed start s l) start s l r
-        go lim empty x c = absurd x
-        go lim (ready v rs) x c =
-            subst (λ (w : Version). Scene lim h ms es start l (ready w rs) → Says h ms′ (stepText imposed start (ready w rs) l) start (ready w rs) l r) (sym x) (j lim rs) c
-        go lim (done v rs k) x c = absurd x
+        go : (s : State) → PhaseIs (phase.Ready f) s → Scene lim h ms es start l s → Says lim h ms′ (stepText (lim .counted) imposed start s l) start s l r
+        go empty x c = absurd x
+        go (ready v rs) x c =
+            subst (λ (w : Version). Scene lim h ms es start l (ready w rs) → Says lim h ms′ (stepText (lim .counted) imposed start (ready w rs) l) start (ready w rs) l r) (sym x) (j rs) c
+        go (done v rs k) x c = absurd x
 
-    ready-columns : q ≡ true → (rs : List Record) → stepText imposed start (ready (versionOf f) rs) l ≡ (readColumns l >>= finish (versionOf f) rs start l)
+    ready-columns : q ≡ true → (rs : List Record) → stepText (lim .counted) imposed start (ready (versionOf f) rs) l ≡ (readColumns l >>= finish (versionOf f) rs start l)
     unfolding stepText
     ready-columns b rs = rw (stepText, sym a ∙ b)
 
-    ready-record : q ≡ false → (rs : List Record) → stepText imposed start (ready (versionOf f) rs) l ≡ (readRecord (versionOf f) l >>= enter (versionOf f) rs start l)
+    ready-record : q ≡ false → (rs : List Record) → stepText (lim .counted) imposed start (ready (versionOf f) rs) l ≡ (readRecord (versionOf f) l >>= enter (lim .counted) (versionOf f) rs start l)
     unfolding stepText
     ready-record b rs = rw (stepText, sym a ∙ b)
 
-    pub text-columns : q ≡ true → (r : Verdict) → ColumnsJudged l f r → TextJudged h es ms start end p imposed r ms
-    text-columns b r j = in-ready r (λ lim rs c. subst (λ (y : Answer (State × List Entry)). Says h ms y start (ready (versionOf f) rs) l r) (sym (ready-columns b rs)) (columns-say h ms l f start rs r (j .is)))
+    pub text-columns : q ≡ true → (r : Verdict) → ColumnsJudged l f r → TextJudged lim h es ms start end p imposed r ms
+    text-columns b r j = in-ready r (λ rs c. subst (λ (y : Answer (State × List Entry)). Says lim h ms y start (ready (versionOf f) rs) l r) (sym (ready-columns b rs)) (columns-say lim h ms l f start rs r (j .is)))
         (marks-same h ms)
 
-    pub text-record : q ≡ false → (r : Verdict) {ms′ : Bytes} → RecordJudged h es ms (versionOf f) start end r ms′ → TextJudged h es ms start end p imposed r ms′
-    text-record b r {ms′} j = in-ready r (λ lim rs c. subst (λ (y : Answer (State × List Entry)). Says h ms′ y start (ready (versionOf f) rs) l r) (sym (ready-record b rs)) (j .is lim l el rs c)) (j .marks)
+    pub text-record : q ≡ false → (r : Verdict) {ms′ : Bytes} → RecordJudged lim h es ms (versionOf f) start end r ms′ → TextJudged lim h es ms start end p imposed r ms′
+    text-record b r {ms′} j = in-ready r (λ rs c. subst (λ (y : Answer (State × List Entry)). Says lim h ms′ y start (ready (versionOf f) rs) l r) (sym (ready-record b rs)) (j .is l el rs c)) (j .marks)
 
 pub ruleset texts = (text-first, text-done, text-columns, text-record)
 
@@ -421,7 +442,7 @@ module _ (lim : Limits) (h : Bytes) (es : List Entry) (ms : Bytes) (plain : Bool
     line-long n = record { marks = marks-same h ms; is = λ l′ el′ s x u. rw (step, phase-done p s x ∙ sym a ∙ e, lt-leb (length l′) (lim .line) (subst (λ (y : Bytes). lim .line < length y) (el ∙ sym el′) (rw (← most) n))) }
 
     module _ (n : length l ≤ given .line) {q : Bool} (b : Utf8Told plain l q) where
-      stepped : (s : State) → PhaseIs p s → step lim imposed start s l ≡ elim (isUtf8 l) [ true ↦ stepText imposed start s l | false ↦ refuse 3 ]
+      stepped : (s : State) → PhaseIs p s → step lim imposed start s l ≡ elim (isUtf8 l) [ true ↦ stepText (lim .counted) imposed start s l | false ↦ refuse 3 ]
       unfolding step
       stepped s x = rw (step, phase-done p s x ∙ sym a ∙ e, le-leb (length l) (lim .line) (rw (← most) n))
 
@@ -434,16 +455,16 @@ module _ (lim : Limits) (h : Bytes) (es : List Entry) (ms : Bytes) (plain : Bool
             subst (λ (y : Bytes). step lim imposed start s y ≡ refuse 3) (el ∙ sym el′) (stepped s x ∙ rw z);
       }
 
-      pub line-text : not q ≡ false → (r : Verdict) {ms′ : Bytes} → TextJudged h es ms start end p imposed r ms′ → LineJudged lim h es ms plain start end p imposed r ms′
+      pub line-text : not q ≡ false → (r : Verdict) {ms′ : Bytes} → TextJudged lim h es ms start end p imposed r ms′ → LineJudged lim h es ms plain start end p imposed r ms′
       line-text f r {ms′} j = record {
         marks = j .marks;
         is = λ l′ el′ s x u.
             let w = subst (λ (y : Bytes). Unchecked lim h ms plain es start y s) (el′ ∙ sym el) u in
             let z : isUtf8 l ≡ true = sym (b .is (w .utf8)) ∙ not-false q f in
-            let c : step lim imposed start s l ≡ stepText imposed start s l = stepped s x ∙ rw z in
-            subst (λ (y : Bytes). Says h ms′ (step lim imposed start s y) start s y r) (el ∙ sym el′)
-            (subst (λ (y : Answer (State × List Entry)). Says h ms′ y start s l r) (sym c)
-            (j .is lim l el s x (record { there = record { here = w .here; inside = w .inside; short = rw (← most) n; utf8 = z }; line = w .line; tabled = w .tabled })));
+            let c : step lim imposed start s l ≡ stepText (lim .counted) imposed start s l = stepped s x ∙ rw z in
+            subst (λ (y : Bytes). Says lim h ms′ (step lim imposed start s y) start s y r) (el ∙ sym el′)
+            (subst (λ (y : Answer (State × List Entry)). Says lim h ms′ y start s l r) (sym c)
+            (j .is l el s x (record { there = record { here = w .here; inside = w .inside; short = rw (← most) n; utf8 = z }; line = w .line; tabled = w .tabled })));
       }
 
 pub ruleset all-lines = (line-done, line-long, line-bytes, line-text)

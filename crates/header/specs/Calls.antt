@@ -9,8 +9,9 @@ use Rattle.rules.specs.Version.{Version}
 use Rattle.rules.specs.Record.{Record, readRecord}
 use Rattle.rules.specs.Entry.{Entry}
 use Rattle.entries.specs.declared.form.Form.{Form}
+use Rattle.entries.specs.Values.{limitsBy}
 use Rattle.entries.specs.Tables.{entryAt}
-use Rattle.rules.specs.Claims.{Shows, ShowsPlain}
+use Rattle.rules.specs.Claims.{Shows, ShowsPlain, Tells}
 
 -- what the calls find under n in the table is the entry of the record r, and shows it
 pub record CallsShow (form : Form) (h : Bytes) (v : Version) (t : List ℕ) (n : ℕ) (r : Record) : Type 0 where
@@ -18,7 +19,8 @@ pub record CallsShow (form : Form) (h : Bytes) (v : Version) (t : List ℕ) (n :
   pub found : entryAt form h t n ≡ some entry
   pub line : Bytes
   pub read : readRecord v line ≡ ok r
-  pub shows : Shows h v line entry r
+  pub shows : Shows (limitsBy form .counted) h v line entry r
+  pub tells : Tells (limitsBy form .counted) h v entry r
 
 -- the same for an entry of a kind without an ID, which shows these bytes
 pub record CallsShowPlain (form : Form) (h : Bytes) (v : Version) (t : List ℕ) (n kind : ℕ) (x : Bytes) : Type 0 where

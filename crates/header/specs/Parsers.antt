@@ -112,7 +112,7 @@ pub record Bounds (form : Form) (h t : List ℕ) (p : Parser) : Type 0 where
 pub record KeepsLine (form : Form) (p : Parser) (h : Bytes) (end next : ℕ) (v : Verdict) (t : List ℕ) (r : Partial) (t′ : List ℕ) : Type 0 where
   pub is : (imposed : Option Version) (t₀ ms ms′ : List ℕ) (k : Kept form imposed h t₀ ms t p)
       → LineHere h (p .at) (part h (p .at) end) next → MarksKept h ms ms′
-      → Says h ms′ (step (limitsBy form) imposed (p .at) (k .state) (part h (p .at) end)) (p .at) (k .state) (part h (p .at) end) v → PartialIs form imposed h t₀ p r ms′ t′
+      → Says (limitsBy form) h ms′ (step (limitsBy form) imposed (p .at) (k .state) (part h (p .at) end)) (p .at) (k .state) (part h (p .at) end) v → PartialIs form imposed h t₀ p r ms′ t′
 
 -- plain: the header is known to be ASCII
 pub record Parses (form : Form) (imposed : Option Version) (plain : Bool) (p : Parser) (h ms t : List ℕ) (r : Partial) (ms′ t′ : List ℕ) : Type 0 where

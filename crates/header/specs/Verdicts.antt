@@ -11,16 +11,16 @@ use Rattle.values.specs.Field.{Field}
 use Rattle.rules.specs.Answer.{Answer, ok, refuse, _>>=_}
 use Rattle.rules.specs.Sizes.{Limits}
 use Rattle.rules.specs.Version.{Version}
-use Rattle.rules.specs.Record.{Record, fields, readRecord}
+use Rattle.rules.specs.Record.{Record, fields, readRecord, keyOf}
 use Rattle.rules.specs.Columns.{Columns, readColumns}
-use Rattle.rules.specs.Entry.{Entry, formatKind, plainEntry, fieldsStart, recordEntry, columnEntries}
-use Rattle.rules.specs.Reading.{keyOf, clash, State, empty, ready, done, enter, finish, stepText, step}
+use Rattle.rules.specs.Entry.{Entry, formatKind, plainEntry, ifCounted, withCounts, fieldsStart, recordEntry, columnEntries}
+use Rattle.rules.specs.Reading.{clash, State, empty, ready, done, enter, finish, stepText, step}
 use Rattle.rules.proofs.Records.{Entered}
 use Rattle.rules.proofs.Sound.{Good}
 use Rattle.records.specs.Formats.{versionOf}
 use Rattle.records.specs.Refusals.{number}
 use Rattle.records.specs.Keys.{Named}
-use Rattle.records.specs.Maps.{idSlot}
+use Rattle.records.specs.Maps.{idSlot, tallyOf}
 use Rattle.records.specs.Records.{valueStart}
 use Rattle.records.specs.declared.file_format.FileFormat.{FileFormat}
 use Rattle.records.specs.declared.map.Slot.the-variants as slot
@@ -74,13 +74,17 @@ Tabled lim h ms (done v rs c) es = Unit {0}
 
 -- What a verdict says: a is what the rules answer of the line l, which stands at start, in the state s; ms are the marks after it
 
-pub record Begun (a : Answer (State × List Entry)) (start : ℕ) (s : State) (l : Bytes) (f : FileFormat) : Type 0 where
+-- the entry of a fileformat line, whose key has ten bytes
+abbrev pub formatEntry : Limits → ℕ → ℕ → Entry
+formatEntry lim start len = withCounts (record { keyLength = ifCounted (lim .counted) 10; fieldCount = 0 }) (plainEntry formatKind start len)
+
+pub record Begun (lim : Limits) (a : Answer (State × List Entry)) (start : ℕ) (s : State) (l : Bytes) (f : FileFormat) : Type 0 where
   pub state : s ≡ empty
   pub sized : Sized (versionOf f)
-  pub begins : a ≡ ok (ready (versionOf f) [], plainEntry formatKind start (length l) ∷ [])
+  pub begins : a ≡ ok (ready (versionOf f) [], formatEntry lim start (length l) ∷ [])
 
 -- a record that goes with those before it
-pub record New (h ms : Bytes) (a : Answer (State × List Entry)) (start : ℕ) (s : State) (l : Bytes) (e : Entry) : Type 0 where
+pub record New (lim : Limits) (h ms : Bytes) (a : Answer (State × List Entry)) (start : ℕ) (s : State) (l : Bytes) (e : Entry) : Type 0 where
   pub v : Version
   pub rs : List Record
   pub r : Record
@@ -88,7 +92,7 @@ pub record New (h ms : Bytes) (a : Answer (State × List Entry)) (start : ℕ) (
   pub read : readRecord v l ≡ ok r
   pub fresh : clash v r rs ≡ 0
   pub entered : Entered v r
-  pub entry : e ≡ recordEntry v start l r
+  pub entry : e ≡ recordEntry (lim .counted) v start l r
   pub enters : a ≡ ok (ready v (rs ++ r ∷ []), e ∷ [])
   pub marked : Marked h ms e
 
@@ -100,11 +104,11 @@ pub record Ended (a : Answer (State × List Entry)) (start : ℕ) (s : State) (l
   pub count : length (c .samples) ≡ n
   pub ends : a ≡ ok (done (versionOf f) rs c, columnEntries start l c)
 
-abbrev pub Says : Bytes → Bytes → Answer (State × List Entry) → ℕ → State → Bytes → Verdict → Type 0
-Says h ms a start s l (verdict.Begin f) = Begun a start s l f
-Says h ms a start s l (verdict.Entry e) = New h ms a start s l (entryOf e)
-Says h ms a start s l (verdict.Columns f n) = Ended a start s l f n
-Says h ms a start s l (verdict.Refused x) = a ≡ refuse (number x)
+abbrev pub Says : Limits → Bytes → Bytes → Answer (State × List Entry) → ℕ → State → Bytes → Verdict → Type 0
+Says lim h ms a start s l (verdict.Begin f) = Begun lim a start s l f
+Says lim h ms a start s l (verdict.Entry e) = New lim h ms a start s l (entryOf e)
+Says lim h ms a start s l (verdict.Columns f n) = Ended a start s l f n
+Says lim h ms a start s l (verdict.Refused x) = a ≡ refuse (number x)
 
 -- what was marked stays so
 pub record MarksKept (h ms ms′ : Bytes) : Type 0 where
@@ -129,33 +133,33 @@ pub record Unchecked (lim : Limits) (h ms : Bytes) (plain : Bool) (es : List Ent
 
 -- the first line: no record, and no column line
 abbrev pub FirstSays : Option Version → Bytes → Verdict → Type 0
-FirstSays imposed l (verdict.Begin f) = (start : ℕ) → Begun (stepText imposed start empty l) start empty l f
+FirstSays imposed l (verdict.Begin f) = (lim : Limits) (start : ℕ) → Begun lim (stepText (lim .counted) imposed start empty l) start empty l f
 FirstSays imposed l (verdict.Entry e) = ⊥
 FirstSays imposed l (verdict.Columns f n) = ⊥
-FirstSays imposed l (verdict.Refused x) = (start : ℕ) → stepText imposed start empty l ≡ refuse (number x)
+FirstSays imposed l (verdict.Refused x) = (lim : Limits) (start : ℕ) → stepText (lim .counted) imposed start empty l ≡ refuse (number x)
 
 pub record FirstJudged (imposed : Option Version) (l : Bytes) (r : Verdict) : Type 0 where
   pub is : FirstSays imposed l r
 
 -- a new record, whose entry is e and whose line begins with the prefix
-pub record IdJudged (h : Bytes) (es : List Entry) (ms prefix : Bytes) (e : Entry) (r : Verdict) (ms′ : Bytes) : Type 0 where
+pub record IdJudged (lim : Limits) (h : Bytes) (es : List Entry) (ms prefix : Bytes) (e : Entry) (r : Verdict) (ms′ : Bytes) : Type 0 where
   pub marks : MarksKept h ms ms′
-  pub is : (lim : Limits) (l : Bytes) (start : ℕ) (v : Version) (rs : List Record) (x : Record) → Scene lim h ms es start l (ready v rs)
+  pub is : (l : Bytes) (start : ℕ) (v : Version) (rs : List Record) (x : Record) → Scene lim h ms es start l (ready v rs)
       → readRecord v l ≡ ok x → Entered v x
-      → prefix ≡ prefixOf (keyOf x) → e ≡ recordEntry v start l x → Says h ms′ (enter v rs start l x) start (ready v rs) l r
+      → prefix ≡ prefixOf (keyOf x) → e ≡ recordEntry (lim .counted) v start l x → Says lim h ms′ (enter (lim .counted) v rs start l x) start (ready v rs) l r
 
 -- a map that was read
-pub record MapJudged (h : Bytes) (es : List Entry) (ms : Bytes) (start end : ℕ) (m : MapRecord) (r : Verdict) (ms′ : Bytes) : Type 0 where
+pub record MapJudged (lim : Limits) (h : Bytes) (es : List Entry) (ms : Bytes) (start end : ℕ) (m : MapRecord) (r : Verdict) (ms′ : Bytes) : Type 0 where
   pub marks : MarksKept h ms ms′
-  pub is : (lim : Limits) (l : Bytes) → l ≡ part h start end → (v : Version) (rs : List Record) (fs : List Field) → Scene lim h ms es start l (ready v rs)
+  pub is : (l : Bytes) → l ≡ part h start end → (v : Version) (rs : List Record) (fs : List Field) → Scene lim h ms es start l (ready v rs)
       → Named (keyIn l) (m .key) → m .value ≡ valueStart l
       → readRecord v l ≡ ok (fields (keyIn l) fs) → idSlot v (keyIn l) (fieldsStart (keyIn l)) fs ≡ slot.Filled (m .id) (m .tag)
-      → Says h ms′ (enter v rs start l (fields (keyIn l) fs)) start (ready v rs) l r
+      → m .tally ≡ tallyOf v (keyIn l) fs → Says lim h ms′ (enter (lim .counted) v rs start l (fields (keyIn l) fs)) start (ready v rs) l r
 
-pub record RecordJudged (h : Bytes) (es : List Entry) (ms : Bytes) (v : Version) (start end : ℕ) (r : Verdict) (ms′ : Bytes) : Type 0 where
+pub record RecordJudged (lim : Limits) (h : Bytes) (es : List Entry) (ms : Bytes) (v : Version) (start end : ℕ) (r : Verdict) (ms′ : Bytes) : Type 0 where
   pub marks : MarksKept h ms ms′
-  pub is : (lim : Limits) (l : Bytes) → l ≡ part h start end → (rs : List Record) → Scene lim h ms es start l (ready v rs)
-      → Says h ms′ (readRecord v l >>= enter v rs start l) start (ready v rs) l r
+  pub is : (l : Bytes) → l ≡ part h start end → (rs : List Record) → Scene lim h ms es start l (ready v rs)
+      → Says lim h ms′ (readRecord v l >>= enter (lim .counted) v rs start l) start (ready v rs) l r
 
 -- the column line
 abbrev pub ColumnsSay : Bytes → FileFormat → Verdict → Type 0
@@ -168,11 +172,11 @@ ColumnsSay l f (verdict.Refused x) = (start : ℕ) (rs : List Record) → (readC
 pub record ColumnsJudged (l : Bytes) (f : FileFormat) (r : Verdict) : Type 0 where
   pub is : ColumnsSay l f r
 
-pub record TextJudged (h : Bytes) (es : List Entry) (ms : Bytes) (start end : ℕ) (p : Phase) (imposed : Option Version) (r : Verdict) (ms′ : Bytes) :
+pub record TextJudged (lim : Limits) (h : Bytes) (es : List Entry) (ms : Bytes) (start end : ℕ) (p : Phase) (imposed : Option Version) (r : Verdict) (ms′ : Bytes) :
     Type 0 where
   pub marks : MarksKept h ms ms′
-  pub is : (lim : Limits) (l : Bytes) → l ≡ part h start end → (s : State) → PhaseIs p s → Scene lim h ms es start l s
-      → Says h ms′ (stepText imposed start s l) start s l r
+  pub is : (l : Bytes) → l ≡ part h start end → (s : State) → PhaseIs p s → Scene lim h ms es start l s
+      → Says lim h ms′ (stepText (lim .counted) imposed start s l) start s l r
 
 -- whether the line is UTF-8, where it is so in an ASCII header
 pub record Utf8Told (plain : Bool) (l : Bytes) (r : Bool) : Type 0 where
@@ -183,4 +187,4 @@ pub record LineJudged (lim : Limits) (h : Bytes) (es : List Entry) (ms : Bytes) 
     (r : Verdict) (ms′ : Bytes) : Type 0 where
   pub marks : MarksKept h ms ms′
   pub is : (l : Bytes) → l ≡ part h start end → (s : State) → PhaseIs p s → Unchecked lim h ms plain es start l s
-      → Says h ms′ (step lim imposed start s l) start s l r
+      → Says lim h ms′ (step lim imposed start s l) start s l r

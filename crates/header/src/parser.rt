@@ -80,7 +80,7 @@ impl Parser {
                     table,
                     form,
                     count,
-                    Entry::plain(kind::FILE_FORMAT, start, l.len()),
+                    Entry::keyed(kind::FILE_FORMAT, start, l.len(), form.counted(10)),
                 ) {
                     return Partial::Refused(Refusal::TableFull);
                 }

@@ -1,52 +1,50 @@
 // The calls on an entry number: parts of the header, for any table words and any numbers. Refused is refusal 29.
+use alone::read;
+use alone::read::Alone;
+use entries::entry::Entry;
 use entries::form::Form;
 use entries::kind;
+use entries::part;
 use entries::shown;
 use entries::shown::EntryRead;
+pub use entries::shown::KeyShown;
 pub use entries::shown::Shown;
 pub use entries::shown::bytes_of;
 pub use entries::shown::entry;
 pub use entries::shown::id;
+pub use entries::shown::key;
 use records::file_format::FileFormat;
-use records::record;
-use records::record::RecordRead;
-use values::bytes;
-use values::utf8;
 ghost use mathlib.Core.Path.{_≡_};
 ghost use lib.ListN.{length};
+ghost use Rattle.rules.specs.Shown.{lineIn};
 ghost use Rattle.records.specs.Formats.{versionOf};
+ghost use Rattle.entries.specs.Values.{entryOf, limitsBy};
 ghost use Rattle.entries.specs.Tables.{shownField};
 ghost use Rattle.entries.specs.Shown.{answered, orRefused, shownAs, Inside};
 ghost use Rattle.header.specs.Fields.{fieldIn, FieldAt};
 
-// Field i of a line, read alone, if it is a record of this kind.
-fn line_field(l: &[u8], kind: u8, version: FileFormat, i: usize) -> Shown
-    ensures shown { λ r. ⌜ r ≡ shownAs (fieldIn (versionOf version) (now (l .entry)) kind i) ⌝ }
-    ensures inside { λ r. ⌜ Inside (length (now (l .entry))) r ⌝ }
+// Field i of an entry's line, read alone, as a part of that line.
+fn line_field(h: &[u8], form: Form, e: Entry, version: FileFormat, i: usize) -> Shown
+    ensures shown { λ r. ⌜ r ≡ shownAs (fieldIn (limitsBy form .counted) (now (h .entry)) (versionOf version) (entryOf e) i) ⌝ }
+    ensures inside { λ r. ⌜ Inside (length (lineIn (now (h .entry)) (entryOf e))) r ⌝ }
 {
-    if !utf8::utf8(l) {
-        return Shown::Refused;
-    }
-    match record::parse_record(l, version) {
-        RecordRead::FileFormat(_) => Shown::Refused,
-        RecordRead::Map(map) => {
+    match read::read_entry(h, form, e, version) {
+        Alone::Map(map) => {
+            let l = part::line_part(h, e);
             let key = map.key;
-            if key.kind() != kind {
-                return Shown::Refused;
-            }
             shown::nth_field(l, map.value + 1, key.has_brackets(version), i)
         }
-        RecordRead::Text(_) => Shown::Refused,
-        RecordRead::Refused(_) => Shown::Refused,
+        Alone::Plain(_) => Shown::Refused,
+        Alone::Refused => Shown::Refused,
     }
 }
 
-// Field i of the line that stands at `at` and ends before `end`, if it is a record of this kind.
-fn field_at(h: &[u8], at: usize, end: usize, kind: u8, version: FileFormat, i: usize) -> Shown
-    ensures { λ r. ⌜ FieldAt (versionOf version) (now (h .entry)) at end kind i r ⌝ }
+// The same as a part of the header.
+fn field_at(h: &[u8], form: Form, e: Entry, version: FileFormat, i: usize) -> Shown
+    ensures { λ r. ⌜ FieldAt (limitsBy form .counted) (now (h .entry)) (versionOf version) (entryOf e) i r ⌝ }
 {
-    let l = bytes::part(h, at, end);
-    match line_field(l, kind, version, i) {
+    let at = e.start;
+    match line_field(h, form, e, version, i) {
         Shown::Part { start, end } => Shown::Part {
             start: at + start,
             end: at + end,
@@ -66,5 +64,5 @@ pub fn field(h: &[u8], table: &[u64], form: Form, n: usize, version: FileFormat,
     if !kind::has_id(e.kind) {
         return Shown::Refused;
     }
-    field_at(h, e.start, e.start + e.length, e.kind, version, i)
+    field_at(h, form, e, version, i)
 }

@@ -82,7 +82,7 @@ fn judge_id(
     prefix: &[u8],
     new: Entry,
 ) -> Verdict
-    ensures { λ r. ⌜ IdJudged (now (h .entry)) (entriesIn form (now (kept .entry))) (now (marks .entry)) (now (prefix .entry)) (entryOf new) r
+    ensures { λ r. ⌜ IdJudged (limitsBy form) (now (h .entry)) (entriesIn form (now (kept .entry))) (now (marks .entry)) (now (prefix .entry)) (entryOf new) r
         (now (marks .exit)) ⌝ }
 {
     match scan::find_clash(h, kept, form, marks, prefix, new) {
@@ -101,13 +101,14 @@ fn judge_map(
     at: Place,
     map: MapRecord,
 ) -> Verdict
-    ensures { λ r. ⌜ MapJudged (now (h .entry)) (entriesIn form (now (kept .entry))) (now (marks .entry)) (at .start) (at .end) map r (now (marks .exit)) ⌝ }
+    ensures { λ r. ⌜ MapJudged (limitsBy form) (now (h .entry)) (entriesIn form (now (kept .entry))) (now (marks .entry)) (at .start) (at .end) map r (now (marks .exit)) ⌝ }
 {
     let l = bytes::part(h, at.start, at.end);
     let key = map.key;
     let id = map.id;
     let prefix = bytes::part(l, 0, map.value);
     let name = bytes::part(l, id.start, id.end);
+    let tally = map.tally;
     let new = Entry {
         kind: key.kind(),
         start: at.start,
@@ -116,6 +117,8 @@ fn judge_map(
         id_length: name.len(),
         quoted: id.quoted,
         tag: map.tag,
+        key_length: form.counted(record::key_length(map.value)),
+        field_count: form.counted(tally.fields),
     };
     judge_id(h, kept, form, marks, prefix, new)
 }
@@ -128,7 +131,7 @@ fn judge_record(
     at: Place,
     version: FileFormat,
 ) -> Verdict
-    ensures { λ r. ⌜ RecordJudged (now (h .entry)) (entriesIn form (now (kept .entry))) (now (marks .entry)) (versionOf version) (at .start) (at .end) r
+    ensures { λ r. ⌜ RecordJudged (limitsBy form) (now (h .entry)) (entriesIn form (now (kept .entry))) (now (marks .entry)) (versionOf version) (at .start) (at .end) r
         (now (marks .exit)) ⌝ }
 {
     let l = bytes::part(h, at.start, at.end);
@@ -136,7 +139,8 @@ fn judge_record(
         RecordRead::FileFormat(_) => Verdict::Refused(Refusal::UnexpectedFileFormat),
         RecordRead::Map(map) => judge_map(h, kept, form, marks, at, map),
         RecordRead::Text(value) => {
-            let new = Entry::plain(kind::OTHER_TEXT, at.start, l.len());
+            let key_length = form.counted(record::key_length(value));
+            let new = Entry::keyed(kind::OTHER_TEXT, at.start, l.len(), key_length);
             judge_id(h, kept, form, marks, bytes::part(l, 0, value), new)
         }
         RecordRead::Refused(x) => Verdict::Refused(x),
@@ -168,7 +172,7 @@ fn judge_text(
     phase: Phase,
     imposed: FileFormatOption,
 ) -> Verdict
-    ensures { λ r. ⌜ TextJudged (now (h .entry)) (entriesIn form (now (kept .entry))) (now (marks .entry)) (at .start) (at .end) phase (imposedOf imposed)
+    ensures { λ r. ⌜ TextJudged (limitsBy form) (now (h .entry)) (entriesIn form (now (kept .entry))) (now (marks .entry)) (at .start) (at .end) phase (imposedOf imposed)
         r (now (marks .exit)) ⌝ }
 {
     let l = bytes::part(h, at.start, at.end);

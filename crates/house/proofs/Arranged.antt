@@ -10,10 +10,9 @@ use Rattle.values.proofs.Sames.{same-sound, same-sym}
 use Rattle.rules.specs.Sizes.{Limits}
 use Rattle.rules.specs.Version.{Version}
 use Rattle.rules.specs.Known.{isIn, isTyped, typedKeys}
-use Rattle.rules.specs.Record.{Record, fileformat}
+use Rattle.rules.specs.Record.{Record, fileformat, keyOf}
 use Rattle.rules.specs.Columns.{Columns}
-use Rattle.rules.specs.Entry.{Entry, formatKind, columnsKind, plainEntry, recordEntry, columnEntries}
-use Rattle.rules.specs.Reading.{keyOf}
+use Rattle.rules.specs.Entry.{Entry, formatKind, columnsKind, plainEntry, countsOf, lineEntry, recordEntry, columnEntries}
 use Rattle.rules.specs.Meaning.{under, without, otherKeys, headerMeaning}
 use Rattle.rules.specs.House.{writeRecord, writeColumns, houseLines}
 use Rattle.rules.proofs.Firsts.{on-ok}
@@ -258,7 +257,7 @@ form-lines v rs c = house-lines v rs c ∙ ap (λ (ls : List Bytes). writeRecord
 module _ (lim : Limits) (imposed : Option Version) (h : Bytes) (v : Version) (rs : List Record) (c : Columns) (entries : List Entry)
     (t : TracedHeader lim imposed h v rs c entries) (good : All (Entered v) rs) where
   abbrev own : Entry
-  own = plainEntry formatKind 0 (length (t .format))
+  own = recordEntry (lim .counted) (t .own) 0 (t .format) (fileformat (t .own))
 
   abbrev rest : List Entry
   rest = columnEntries (t .start) (t .line) c
@@ -271,9 +270,9 @@ module _ (lim : Limits) (imposed : Option Version) (h : Bytes) (v : Version) (rs
   last-line = line-of lim h (t .start) (t .line) (t .last) (plainEntry columnsKind (t .start) (length (t .line))) refl refl
 
   pub form-is : FormIs v h rs c entries
-  unfolding formLines recordEntry
+  unfolding formLines recordEntry lineEntry
   form-is =
-      let aside = format-aside 0 (length (t .format)) in
+      let aside = format-aside (countsOf (lim .counted) (fileformat (t .own))) 0 (length (t .format)) in
       let are = rows-are lim v h (t .rows) rs (t .all) good in
       let asides = columns-aside (t .start) (t .line) c in
       let column : columnLine h (own ∷ (t .rows ++ rest)) ≡ writeColumns (c .format) (c .samples)

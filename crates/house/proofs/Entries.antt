@@ -1,31 +1,29 @@
 -- What an accepted header's entries tell: of each record its key and its line. Assumes nothing.
 use Prim.Native.Nat.{ℕ, _+_, _-_, _≤_}
 use native.Mathlib.Omega.{arith}
-use mathlib.Core.Path.{_≡_, refl, sym, ap, _∙_}
+use mathlib.Core.Path.{_≡_, refl, sym, ap, subst, _∙_}
 use mathlib.Core.Bool.{true, false, not, _&&_}
 use mathlib.Core.List.{List, [], _∷_, _++_}
-use mathlib.Core.Option.{Option, none, some}
 use lib.Dec.{eqb, ltb}
 use lib.ListN.{length}
 use lib.Seq.{take-append-add}
 use borrow.Author.Tests.{lt-ltb, le-ltb, ne-eqb, ltb-true, ltb-false}
 use Rattle.values.specs.Bytes.{Bytes, ascii, is, any, same}
-use Rattle.values.specs.declared.string.Text.{Text}
 use Rattle.values.proofs.Tests.{pass, fail, test, or-l}
 use Rattle.values.proofs.Lists.{before-stop}
 use Rattle.rules.specs.Answer.{ok}
 use Rattle.rules.specs.Sizes.{Limits}
 use Rattle.rules.specs.Version.{Version}
 use Rattle.rules.specs.Known.{kindOf, isTyped}
-use Rattle.rules.specs.Record.{Record, fileformat, fields, text, readRecord}
+use Rattle.rules.specs.Record.{Record, fileformat, fields, text, readRecord, keyOf}
 use Rattle.rules.specs.Columns.{Columns}
-use Rattle.rules.specs.Entry.{Entry, formatKind, mapKind, columnsKind, plainEntry, mapEntry, fieldsStart, textNamed, recordEntry, sampleEntries, columnEntries}
+use Rattle.rules.specs.Entry.{Entry, Counts, formatKind, mapKind, textKind, columnsKind, plainEntry, withCounts, sampleEntries, columnEntries}
 use Rattle.rules.specs.Shown.{lineIn}
-use Rattle.rules.specs.Reading.{keyOf}
 use Rattle.rules.specs.House.{writeFields, writeRecord}
 use Rattle.rules.proofs.Firsts.{on-ok}
 use Rattle.rules.proofs.Records.{Entered}
 use Rattle.rules.proofs.Texts.{LineOf, record-in}
+use Rattle.rules.proofs.Shows.{Placed, entry-placed}
 use Rattle.ids.specs.Clashes.{prefixOf}
 use Rattle.ids.proofs.Clashes.{prefix-starts}
 use Rattle.ids.proofs.KeyKinds.{typed-below, number-small}
@@ -91,30 +89,21 @@ other-typed kind l = elim (test (ltb kind 7)) [
   | fail e ↦ rw (e, lt-ltb 6 kind (omega (arith, ltb-false kind 7 e)), lt-ltb kind 9 (omega arith))
 ]
 
-module _ (kind start len : ℕ) (o : Option (Bytes × Text)) where
-  map-parts : (mapEntry kind start len o .kind ≡ kind) × (mapEntry kind start len o .start ≡ start) × (mapEntry kind start len o .length ≡ len)
-  map-parts = go o
-    where
-      go : (o : Option (Bytes × Text)) → (mapEntry kind start len o .kind ≡ kind) × (mapEntry kind start len o .start ≡ start) × (mapEntry kind start len o .length ≡ len)
-      go none = (refl, refl, refl)
-      go (some p) = (refl, refl, refl)
-
 pub row-is : (lim : Limits) (v : Version) (h : Bytes) (e : Entry) (r : Record) → Row lim h v e r → Entered v r → RowIs v h e r
-unfolding recordEntry writeRecord
+unfolding writeRecord
 row-is lim v h e (fileformat u) row g = absurd g
 row-is lim v h e (fields k fs) row g =
     let kind = mapKind (kindOf k) in
     let n = number-small (kindOf k) in
-    let d = map-parts kind (row .start) (length (row .line)) (textNamed v k (ascii "ID") (fieldsStart k) fs) in
-    let is-kind : e .kind ≡ kind = ap (λ (x : Entry). x .kind) (row .entry) ∙ d .0 in
-    let is-line = line-of lim h (row .start) (row .line) (row .there) e (ap (λ (x : Entry). x .start) (row .entry) ∙ d .1) (ap (λ (x : Entry). x .length) (row .entry) ∙ d .2) in
+    let d = subst (Placed kind (row .start) (length (row .line))) (sym (row .entry)) (entry-placed (lim .counted) v (row .start) (row .line) (fields k fs)) in
+    let is-line = line-of lim h (row .start) (row .line) (row .there) e (d .is-start) (d .is-length) in
     row-of v h e (fields k fs) (60 ∷ (writeFields fs ++ 62 ∷ [])) (row .line) is-line (on-ok (LineOf (row .line)) (record-in v (row .line)) (row .read)) (g .key .plain)
-    kind is-kind (n .0) (omega (arith, n .1)) (rw is-kind (other-typed kind (omega (arith, n .1)) ∙ ap not (sym (typed-below k)))) (row .read) tt
+    kind (d .is-kind) (n .0) (omega (arith, n .1)) (rw (d .is-kind) (other-typed kind (omega (arith, n .1)) ∙ ap not (sym (typed-below k)))) (row .read) tt
 row-is lim v h e (text k t) row g =
-    let is-kind = ap (λ (x : Entry). x .kind) (row .entry) in
-    let is-line = line-of lim h (row .start) (row .line) (row .there) e (ap (λ (x : Entry). x .start) (row .entry)) (ap (λ (x : Entry). x .length) (row .entry)) in
+    let d = subst (Placed textKind (row .start) (length (row .line))) (sym (row .entry)) (entry-placed (lim .counted) v (row .start) (row .line) (text k t)) in
+    let is-line = line-of lim h (row .start) (row .line) (row .there) e (d .is-start) (d .is-length) in
     row-of v h e (text k t) t (row .line) is-line (on-ok (LineOf (row .line)) (record-in v (row .line)) (row .read)) (g .key .plain)
-    8 is-kind (omega arith) (omega arith) (rw (is-kind, or-l (isTyped k) _ (g .noMap))) (row .read) tt
+    8 (d .is-kind) (omega arith) (omega arith) (rw (d .is-kind, or-l (isTyped k) _ (g .noMap))) (row .read) tt
 
 -- entries and the records that they are
 abbrev pub Are : Version → Bytes → List Entry → List Record → Type 0
@@ -131,8 +120,8 @@ rows-are lim v h (e ∷ es) (r ∷ rs) a g = (row-is lim v h e r (a .0) (g .0), 
 
 -- The other entries
 
-pub format-aside : (start len : ℕ) → Aside (plainEntry formatKind start len)
-format-aside start len = record { unrecorded = refl; not-other = refl }
+pub format-aside : (c : Counts) (start len : ℕ) → Aside (withCounts c (plainEntry formatKind start len))
+format-aside c start len = record { unrecorded = refl; not-other = refl }
 
 samples-aside : (at : ℕ) (xs : List Bytes) → All Aside (sampleEntries at xs)
 unfolding sampleEntries

@@ -14,21 +14,21 @@ use Rattle.rules.specs.Answer.{first}
 use Rattle.rules.specs.Sizes.{Limits}
 use Rattle.rules.specs.Version.{Version}
 use Rattle.rules.specs.Known.{other, isTyped, kindOf}
-use Rattle.rules.specs.Record.{Record, fileformat, fields, text}
+use Rattle.rules.specs.Record.{Record, fileformat, fields, text, keyOf}
 use Rattle.rules.specs.Map.{valueNamed}
-use Rattle.rules.specs.Entry.{Entry, formatKind, mapKind, textKind, recordEntry}
+use Rattle.rules.specs.Entry.{Entry, formatKind, mapKind, textKind, recordKind}
 use Rattle.rules.specs.Shown.{lineIn, idMeaning}
-use Rattle.rules.specs.Reading.{keyOf, idOf, isFields, besideOf, beside, clash}
+use Rattle.rules.specs.Reading.{idOf, isFields, besideOf, beside, clash}
 use Rattle.rules.specs.House.{writeFields, writeRecord}
 use Rattle.rules.proofs.Firsts.{on-ok}
 use Rattle.rules.proofs.Groups.{Apart}
 use Rattle.rules.proofs.Records.{Entered}
 use Rattle.rules.proofs.Sound.{Good}
 use Rattle.rules.proofs.Texts.{LineOf, record-in}
-use Rattle.rules.proofs.Shows.{shows-map, shows-plain}
+use Rattle.rules.proofs.Shows.{shows-map, shows-text}
 use Rattle.ids.specs.Clashes.{clashNumber, hasKey, keySeen, isOfKey, isOfId, idSeen, clashBy, clashIn, prefixOf}
 use Rattle.ids.proofs.KeyKinds.{typed-below, number-small, untyped-number, one-key}
-use Rattle.rules.specs.Claims.{All, Row, Rows, ShowsPlain}
+use Rattle.rules.specs.Claims.{All, Row, Rows}
 
 -- a line begins `##k=` where its key is k, since no key holds `=`
 key-starts : (k j rest : Bytes) → any (is 61) k ≡ false → any (is 61) j ≡ false → starts (k ++ 61 ∷ []) (j ++ 61 ∷ rest) ≡ same j k
@@ -48,21 +48,15 @@ pub prefix-starts : (k j rest : Bytes) → any (is 61) k ≡ false → any (is 6
 unfolding starts
 prefix-starts k j rest a b = key-starts k j rest a b
 
--- the kind of a record's entry
-abbrev kindOfRecord : Record → ℕ
-kindOfRecord (fileformat w) = formatKind
-kindOfRecord (fields k fs) = mapKind (kindOf k)
-kindOfRecord (text k t) = textKind
-
 -- what an entry tells of its record
 record Kept (h : Bytes) (v : Version) (e : Entry) (s : Record) : Type 0 where
-  kind : e .kind ≡ kindOfRecord s
+  kind : e .kind ≡ recordKind s
   line : (k : Bytes) → any (is 61) k ≡ false → starts (prefixOf k) (lineIn h e) ≡ same (keyOf s) k
   id : isFields s ≡ true → idMeaning h e ≡ idOf v s
 
 module _ (lim : Limits) (h : Bytes) (v : Version) (e : Entry) where
   kept : (s : Record) → Row lim h v e s → Entered v s → Kept h v e s
-  unfolding writeRecord recordEntry
+  unfolding writeRecord
   kept (fileformat w) row g = absurd g
   kept (fields k fs) row g =
       let d = shows-map lim h v k fs e row (g .fine .whole) in
@@ -73,7 +67,7 @@ module _ (lim : Limits) (h : Bytes) (v : Version) (e : Entry) where
         id = λ q. d .id;
       }
   kept (text k t) row g =
-      let d : ShowsPlain h textKind (row .line) e = rw (row .entry) (shows-plain lim h v textKind (row .start) (row .line) refl refl (row .there .here) (row .there .inside)) in
+      let d = shows-text lim h v k t e row in
       let l : row .line ≡ writeRecord (text k t) = on-ok (LineOf (row .line)) (record-in v (row .line)) (row .read) in
       record {
         kind = d .is-kind;

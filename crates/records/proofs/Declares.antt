@@ -284,7 +284,7 @@ pub reserved-asked : (v : Version) (key : MapKey) (s : Bytes) (id number kind : 
     → Declared v key s id number kind r
 unfolding misdeclared reserved
 reserved-asked v key s id number kind {n} {x} {y} i j l d m {r} z = record {
-  is = λ at tag odd t.
+  is = λ at tag tally t.
       let row : reserved v (kindOf (caseBytes key)) (valueNamed v (caseBytes key) (ascii "ID") (t .fs)) ≡ reserved v (kindBy key) (meaning (id .quoted) n)
       = ap₂ (reserved v) (kind-by-case key) (t .id-is ∙ ap (meaning (id .quoted)) (sym i)) in
       rw (misdeclared, row) (ap (λ (b : Bool). unless b 18) (

@@ -11,11 +11,11 @@ use Rattle.values.proofs.Tests.{never}
 use Rattle.rules.specs.Version.{Version}
 use Rattle.rules.specs.Known.{Kind, INFO, FILTER, FORMAT, ALT, contig, other, KnownField, kindOf}
 use Rattle.rules.specs.Entry.{fieldsStart, textNamed}
-use Rattle.rules.specs.Spelling.{hasOdd}
 use Rattle.records.specs.Formats.{versionOf, formatOf}
 use Rattle.records.specs.Keys.{caseBytes, Named}
 use Rattle.records.specs.Tags.{tagRow, nameIn, tagName}
-use Rattle.records.specs.Maps.{slotted}
+use Rattle.records.specs.Maps.{slotted, tallyOf}
+use Rattle.records.specs.declared.map.Tally.{Tally}
 use Rattle.rules.specs.Claims.{keyIn}
 use Rattle.records.specs.Records.{RecordIs, ParsesRecord}
 use Rattle.records.specs.declared.key.MapKey.{MapKey}
@@ -58,8 +58,8 @@ named-one i j a b = sym (key-of i a) ∙ key-of j b
 pub filled-one : {s t : Text} {m n : ℕ} → slot.Filled s m ≡ slot.Filled t n → (s ≡ t) × (m ≡ n)
 filled-one e = (cc, cc)
 
-abbrev mapWith : MapKey → ℕ → Bool → Text → ℕ → RecordRead
-mapWith key value odd id tag = read.Map (record { key = key; value = value; id = id; tag = tag; odd = odd })
+abbrev mapWith : MapKey → ℕ → Tally → Text → ℕ → RecordRead
+mapWith key value tally id tag = read.Map (record { key = key; value = value; id = id; tag = tag; tally = tally })
 
 record-one : (v : Version) (s : Bytes) (a b : RecordRead) → RecordIs v s a → RecordIs v s b → a ≡ b
 record-one v s (read.FileFormat w) (read.FileFormat x) p q = let z : versionOf w ≡ versionOf x = cc in ap (λ (y : Version). read.FileFormat (formatOf y)) z
@@ -71,10 +71,10 @@ record-one v s (read.Map m) (read.Map m′) p q =
     let k = named-one (m .key) (m′ .key) (p .1) (q .1) in
     let fs : p .0 ≡ q .0 = cc in
     let x = filled-one (sym (p .4) ∙ ap (λ (gs : List Field). slotted (textNamed v (keyIn s) (ascii "ID") (fieldsStart (keyIn s)) gs)) fs ∙ q .4) in
-    ap (λ (j : MapKey). mapWith j (m .value) (m .odd) (m .id) (m .tag)) k
-    ∙ ap (λ (i : ℕ). mapWith (m′ .key) i (m .odd) (m .id) (m .tag)) (p .2 ∙ sym (q .2))
-    ∙ ap (λ (o : Bool). mapWith (m′ .key) (m′ .value) o (m .id) (m .tag)) (p .5 ∙ ap (hasOdd v (keyIn s)) fs ∙ sym (q .5))
-    ∙ ap₂ (mapWith (m′ .key) (m′ .value) (m′ .odd)) (x .0) (x .1)
+    ap (λ (j : MapKey). mapWith j (m .value) (m .tally) (m .id) (m .tag)) k
+    ∙ ap (λ (i : ℕ). mapWith (m′ .key) i (m .tally) (m .id) (m .tag)) (p .2 ∙ sym (q .2))
+    ∙ ap (λ (t : Tally). mapWith (m′ .key) (m′ .value) t (m .id) (m .tag)) (p .5 ∙ ap (tallyOf v (keyIn s)) fs ∙ sym (q .5))
+    ∙ ap₂ (mapWith (m′ .key) (m′ .value) (m′ .tally)) (x .0) (x .1)
 record-one v s (read.Map m) (read.Text i′) p q = never cc
 record-one v s (read.Map m) (read.Refused x) p q = never cc
 record-one v s (read.Text i) (read.FileFormat w) p q = never cc

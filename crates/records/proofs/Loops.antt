@@ -1,14 +1,16 @@
 -- The fields of a map, one after the other. Assumes nothing.
-use Prim.Native.Nat.{ℕ, _+_, _-_, _≤_, _<_}
+use Prim.Native.Nat.{ℕ, _+_, _*_, _-_, _^_, _≤_, _<_}
 use native.Mathlib.Omega.{arith}
-use mathlib.Core.Path.{_≡_, refl, sym, ap, subst, _∙_}
+use mathlib.Core.Path.{_≡_, refl, sym, ap, ap₂, subst, _∙_}
 use mathlib.Core.Bool.{Bool, true, false, not, _||_}
 use mathlib.Core.List.{List, [], _∷_, _++_}
 use lib.Dec.{eqb}
-use lib.ListN.{length, drop, getD, drop-of-length-le}
+use lib.ListN.{length, drop, getD, drop-of-length-le, length-append}
 use borrow.Author.Tests.{eqb-true}
+use mir.Syntax.{w64}
+use mir.Val.{Fits}
 use Rattle.values.specs.Bytes.{Bytes, is, empty, begins}
-use Rattle.values.specs.Field.{Field}
+use Rattle.values.specs.Field.{Field, writtenField}
 use Rattle.values.specs.declared.cursor.Cursor.{Cursor}
 use Rattle.values.proofs.Tests.{and-r, not-true, not-false}
 use Rattle.values.proofs.Lists.{here}
@@ -20,7 +22,7 @@ use Rattle.rules.specs.Entry.{textNamed}
 use Rattle.records.specs.Formats.{versionOf}
 use Rattle.records.specs.Keys.{caseBytes, contextOf, versionIn, keyBytes}
 use Rattle.rules.specs.Spelling.{hasOdd}
-use Rattle.records.specs.Maps.{get, noSlots, closesAsMap, closesAt, bareAt, Held, Walk, scannedFrom, StepIs, StepMoves, ReadsField, WalksFields, fieldsAfter, ReadsFields}
+use Rattle.records.specs.Maps.{FieldsFrom, get, noSlots, closesAsMap, closesAt, bareAt, Held, Walk, tallied, scannedFrom, StepIs, StepMoves, ReadsField, WalksFields, fieldsAfter, ReadsFields}
 use Rattle.records.specs.declared.file_format.FileFormat.{FileFormat}
 use Rattle.records.specs.declared.key.MapKey.{MapKey}
 use Rattle.records.specs.declared.key.MapContext.{MapContext}
@@ -51,21 +53,33 @@ none-held : (v : Version) (k : Bytes) (start : ℕ) → Held v k start [] noSlot
 unfolding textNamed hasOdd
 none-held v k start = record { each = λ t e i. no-slot t; plainly = refl; spelling = refl }
 
--- the fields before the cursor
-pub record Walking (x : MapContext) (s : Bytes) (at : ℕ) (slots : Slots) : Type 0 where
+-- fields stand one after the other, so that there are no more than bytes
+few-fields : (m : Bool) (s : Bytes) (at : ℕ) (fs : List Field) (upto : ℕ) → FieldsFrom m s at fs upto → at + length fs ≤ upto
+few-fields m s at [] upto h = omega (arith, h)
+few-fields m s at (f ∷ fs) upto h = let d = few-fields m s (at + length (writtenField f) + 1) fs upto (h .1) in omega (arith, d)
+
+-- the fields before the cursor, and the number of the one at it
+pub record Walking (x : MapContext) (s : Bytes) (at : ℕ) (slots : Slots) (fields : ℕ) : Type 0 where
   pub before : List Field
   pub walk : Walk x s before at slots
+  pub count : fields ≡ length before + 1
 
-pub walk-start : (x : MapContext) (s : Bytes) {slots : Slots} → slots ≡ noSlots → Walking x s (x .start) slots
+pub walk-start : (x : MapContext) (s : Bytes) {slots : Slots} → slots ≡ noSlots → Walking x s (x .start) slots 1
 unfolding checkFields
-walk-start x s e = record { before = []; walk = record { fields = refl; fine = refl; held = rw e (none-held (versionIn x) (keyBytes x) (x .start)) } }
+walk-start x s e = record { before = []; walk = record { fields = refl; fine = refl; held = rw e (none-held (versionIn x) (keyBytes x) (x .start)) }; count = refl }
 
-module _ {x : MapContext} {s : Bytes} {at : ℕ} {slots : Slots} (g : Walking x s at slots) {r : FieldStep} (a : ReadsField x s at slots r) where
+module _ {x : MapContext} {s : Bytes} {at : ℕ} {slots : Slots} {n : ℕ} (g : Walking x s at slots n) {r : FieldStep} (a : ReadsField x s at slots r) where
   stepped : {y : FieldStep} → r ≡ y → StepIs x s (g .before) at y
   stepped e = subst (StepIs x s (g .before) at) e (a .is (g .before) (g .walk))
 
-  pub walk-next : {d : Cursor} {kept : Slots} → r ≡ step.Next d kept → Walking x s (d .at) kept
-  walk-next e = let y = stepped e in record { before = g .before ++ y .0 ∷ []; walk = y .1 }
+  pub walk-next : {d : Cursor} {kept : Slots} → r ≡ step.Next d kept → Walking x s (d .at) kept (n + 1)
+  walk-next e = let y = stepped e in record { before = g .before ++ y .0 ∷ []; walk = y .1; count = ap (_+ 1) (g .count ∙ sym (length-append (g .before) (y .0 ∷ []))) }
+
+  pub walk-counts : length s * 1 < 2 ^ 63 → {d : Cursor} {kept : Slots} → r ≡ step.Next d kept → Fits w64 (n + 1)
+  walk-counts few e =
+      let y = subst (StepMoves s at) e (a .moves) in
+      let b = few-fields (x .brackets) s (x .start) (g .before) at (g .walk .fields) in
+      omega (arith, y, b, g .count)
 
   pub walk-less : {d : Cursor} {kept : Slots} → r ≡ step.Next d kept → length s - d .at < length s - at
   walk-less e = let y = subst (StepMoves s at) e (a .moves) in omega arith
@@ -76,17 +90,18 @@ module _ {x : MapContext} {s : Bytes} {at : ℕ} {slots : Slots} (g : Walking x 
   pub walk-refused : {y : Refusal} → r ≡ step.Refused y → WalksFields x s (fields.Refused y)
   walk-refused e = record { is = let z = scanned in rw (z .2) (stepped e (z .0) (z .1)) }
 
-  pub walk-last : {kept : Slots} → r ≡ step.Last kept → WalksFields x s (fields.Fields kept)
+  pub walk-last : {kept : Slots} → r ≡ step.Last kept → WalksFields x s (fields.Fields kept (tallied (kept .odd) n))
   unfolding first
   walk-last e = record {
     is =
         let z = scanned in
         let y = stepped e in
         let w = y .3 (z .0) (z .1) in
-        rw (z .2, w) (rw (y .2), y .1);
+        let c : n ≡ length (g .before ++ y .0 ∷ []) = g .count ∙ sym (length-append (g .before) (y .0 ∷ [])) in
+        rw (z .2, w) (rw (y .2), y .1, ap₂ tallied (y .1 .spelling) c);
   }
 
-pub ruleset walks = (walk-start, walk-next, walk-less, walk-refused, walk-last)
+pub ruleset walks = (walk-start, walk-next, walk-counts, walk-less, walk-refused, walk-last)
 
 -- No field at all
 
@@ -132,9 +147,9 @@ module _ (version : FileFormat) (key : MapKey) (s : Bytes) (c : Cursor) {q : Boo
         let b = sym a ∙ not-false q e in
         rw (readFields, b) (ap noField (closed-after (drop (c .at) s) (and-r (not (alwaysMap (caseBytes key))) _ b)))
 
-    pub fields-none : {x : Bool} → x ≡ closesAt s (c .at) → x ≡ true → {slots : Slots} → slots ≡ noSlots → ReadsFields (versionOf version) key s (c .at) (fields.Fields slots)
-    unfolding first checkFields
-    fields-none f g h = record { is = rw (bare, sym f ∙ g) (refl, rw h (none-held (versionOf version) (caseBytes key) (c .at))) }
+    pub fields-none : {x : Bool} → x ≡ closesAt s (c .at) → x ≡ true → {slots : Slots} → slots ≡ noSlots → ReadsFields (versionOf version) key s (c .at) (fields.Fields slots (tallied false 0))
+    unfolding first checkFields hasOdd
+    fields-none f g h = record { is = rw (bare, sym f ∙ g) (refl, rw h (none-held (versionOf version) (caseBytes key) (c .at)), refl) }
 
     pub fields-unclosed : {x : Bool} → x ≡ closesAt s (c .at) → x ≡ false → ReadsFields (versionOf version) key s (c .at) (fields.Refused InvalidMap)
     unfolding first checkFields

@@ -23,6 +23,7 @@ use Rattle.records.specs.Keys.{caseBytes}
 use Rattle.records.specs.Tags.{tagName}
 use Rattle.records.specs.Fields.{textIn, meaningIn}
 use Rattle.records.specs.Maps.{get, slotted, OpenIs, OpensMap, Full, ParsesTyped, Identified, Described}
+use Rattle.records.specs.declared.map.Tally.{Tally}
 use Rattle.records.specs.declared.key.MapKey.{MapKey}
 use Rattle.records.specs.declared.key.MapKey.the-variants as key
 use Rattle.records.specs.declared.refusal.Refusal.{Refusal}
@@ -53,7 +54,7 @@ module _ (s : Bytes) (x : Text) (g : ℕ) where
   text-raw P (some f) (some p) u h e =
       h .0 ∙ ap u64Read (ap textOf (sym (u .value)) ∙ text-by (p .1 .quoted) (part s (p .1 .start) (p .1 .end)) ∙ ap (textIn s) (filled-one e .0))
 
-module _ {v : Version} {k s : Bytes} {at : ℕ} {slots : Slots} (f : Fielded v k s at slots) (t : Tag) (a : Keeps k t) {x : Text} {g : ℕ} (e : get t slots ≡ slot.Filled x g) where
+module _ {v : Version} {k s : Bytes} {at : ℕ} {slots : Slots} {tally : Tally} (f : Fielded v k s at slots tally) (t : Tag) (a : Keeps k t) {x : Text} {g : ℕ} (e : get t slots ≡ slot.Filled x g) where
   value-is : valueNamed v k (tagName t) (f .fs) ≡ meaningIn s x
   value-is = text-means s x g (fieldNamed v k (tagName t) (f .fs)) (textNamed v k (tagName t) (at + 1) (f .fs)) (named-text v k (tagName t) s (at + 1) (f .fs) (f .stand)) (holds f t a e)
 
@@ -75,9 +76,9 @@ module _ (v : Version) (key : MapKey) (s : Bytes) (c : Cursor) {r : FieldsRead} 
   pub typed-refused : {x : Refusal} → r ≡ fields.Refused x → Full key → ParsesTyped v key s (c .at) (typed.Refused x)
   typed-refused e full = record { is = subst (OpenIs v (caseBytes key) s (c .at)) e (o .is) }
 
-  module _ {slots : Slots} (e : r ≡ fields.Fields slots) where
-    abbrev f : Fielded v (caseBytes key) s (c .at) slots
-    f = fielded v (caseBytes key) s (c .at) slots (subst (OpenIs v (caseBytes key) s (c .at)) e (o .is))
+  module _ {slots : Slots} {tally : Tally} (e : r ≡ fields.Fields slots tally) where
+    abbrev f : Fielded v (caseBytes key) s (c .at) slots tally
+    f = fielded v (caseBytes key) s (c .at) slots tally (subst (OpenIs v (caseBytes key) s (c .at)) e (o .is))
 
     pub no-id : slots .id ≡ slot.Empty → Full key → ParsesTyped v key s (c .at) (typed.Refused MissingId)
     no-id i full = record { is = lacks f (asks-of f (full .needs) ∙ asked-first (isSome (fieldNamed v (caseBytes key) (ascii "ID") (f .fs))) 13 _ (has f Id (keeps-id (caseBytes key)) i)) }
@@ -103,7 +104,7 @@ module _ (v : Version) (key : MapKey) (s : Bytes) (c : Cursor) {r : FieldsRead} 
           pub no-description : slots .description ≡ slot.Empty → Full key → ParsesTyped v key s (c .at) (typed.Refused MissingDescription)
           no-description d full = record { is = lacks f (past-type full ∙ asked-first (isSome (fieldNamed v (caseBytes key) (ascii "Description") (f .fs))) 16 _ (has f Description (refl, full .described) d)) }
 
-          pub all-given : {de : Text} {l : ℕ} → slots .description ≡ slot.Filled de l → Full key → ParsesTyped v key s (c .at) (typed.Typed id g nr ty (slots .odd))
+          pub all-given : {de : Text} {l : ℕ} → slots .description ≡ slot.Filled de l → Full key → ParsesTyped v key s (c .at) (typed.Typed id g nr ty tally)
           unfolding first
           all-given d full = record {
             is = record {
@@ -114,7 +115,7 @@ module _ (v : Version) (key : MapKey) (s : Bytes) (c : Cursor) {r : FieldsRead} 
               number-is = value-is f Number (refl, full .numbered) n;
               kind-is = value-is f ValueType (refl, full .typed) t;
               raw = value-raw f Number (refl, full .numbered) n;
-              spelling = f .held .spelling;
+              tallied = f .tallied;
             };
           }
 

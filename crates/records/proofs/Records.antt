@@ -21,9 +21,10 @@ use Rattle.rules.specs.Entry.{fieldsStart, textNamed}
 use Rattle.rules.specs.Record.{fields, text, looksMap, isMap, fileformatRead, readRecordValue, readKeyed, readRecord}
 use Rattle.records.specs.Formats.{formatRead}
 use Rattle.records.specs.Keys.{caseBytes, keyNamed, Named}
-use Rattle.records.specs.Maps.{slotted, MapIs, ParsesMap, Full, TypedIs, ParsesTyped, Typed, Declared}
+use Rattle.records.specs.Maps.{slotted, tallied, MapIs, ParsesMap, Full, TypedIs, ParsesTyped, Typed, Declared}
 use Rattle.rules.specs.Claims.{keyIn}
 use Rattle.records.specs.Records.{ValueIs, ParsesValue, KeyedIs, versionRecord, RecordIs, ParsesRecord}
+use Rattle.records.specs.declared.map.Tally.{Tally}
 use Rattle.records.specs.declared.file_format.FileFormat.{FileFormat}
 use Rattle.records.specs.declared.file_format.FileFormatRead.{FileFormatRead}
 use Rattle.records.specs.declared.file_format.FileFormatRead.the-variants as version
@@ -55,15 +56,15 @@ module _ (v : Version) (key : MapKey) (s : Bytes) (c : Cursor) {r : TypedRead} (
   pub typed-unread : {x : Refusal} → r ≡ typed.Refused x → Full key → ParsesMap v key s (c .at) (maps.Refused x)
   typed-unread e full = record { is = subst (TypedIs v (caseBytes key) s (c .at)) e (o full .is) }
 
-  module _ {id : Text} {g : ℕ} {n t : Text} {odd : Bool} (e : r ≡ typed.Typed id g n t odd) {q : Bool} (d : Declared v key s id n t q) where
-    as-typed : Full key → Typed v (caseBytes key) s (c .at) id g n t odd
+  module _ {id : Text} {g : ℕ} {n t : Text} {tally : Tally} (e : r ≡ typed.Typed id g n t tally) {q : Bool} (d : Declared v key s id n t q) where
+    as-typed : Full key → Typed v (caseBytes key) s (c .at) id g n t tally
     as-typed full = subst (TypedIs v (caseBytes key) s (c .at)) e (o full .is)
 
     pub typed-otherwise : not q ≡ true → Full key → ParsesMap v key s (c .at) (maps.Refused DefinitionMismatch)
-    typed-otherwise f full = record { is = let y = as-typed full in y .read ∙ judged-otherwise (y .fs) (d .is (c .at) g odd y) (not-true q f) }
+    typed-otherwise f full = record { is = let y = as-typed full in y .read ∙ judged-otherwise (y .fs) (d .is (c .at) g tally y) (not-true q f) }
 
-    pub typed-defined : not q ≡ false → Full key → ParsesMap v key s (c .at) (maps.Map id g odd)
-    typed-defined f full = record { is = let y = as-typed full in (y .fs, y .read ∙ judged-unless (y .fs) (d .is (c .at) g odd y) (not-false q f), y .named, y .spelling) }
+    pub typed-defined : not q ≡ false → Full key → ParsesMap v key s (c .at) (maps.Map id g tally)
+    typed-defined f full = record { is = let y = as-typed full in (y .fs, y .read ∙ judged-unless (y .fs) (d .is (c .at) g tally y) (not-false q f), y .named, y .tallied) }
 
 pub ruleset with-definition = (typed-unread, typed-otherwise, typed-defined)
 
@@ -138,11 +139,11 @@ module _ (v : Version) (key : MapKey) (s : Bytes) (c : Cursor) {m : Bool} (b : m
     pub map-unread : {x : Refusal} → r ≡ maps.Refused x → ParsesValue v key s (c .at) (value.Refused x)
     map-unread i = record { is = λ k n. mapped k n (subst (MapIs v (caseBytes key) s (c .at)) i (h .is)) }
 
-    pub map-given : {id : Text} {t : ℕ} {o : Bool} → r ≡ maps.Map id t o → ParsesValue v key s (c .at) (value.Map id t o)
+    pub map-given : {id : Text} {t : ℕ} {o : Tally} → r ≡ maps.Map id t o → ParsesValue v key s (c .at) (value.Map id t o)
     map-given i = record {
       is = λ k n.
           let y = subst (MapIs v (caseBytes key) s (c .at)) i (h .is) in
-          (y .0, mapped k n (y .1), ap slotted (text-by-case v k key n (ascii "ID") (c .at + 1) (y .0)) ∙ y .2, y .3 ∙ sym (odd-by-case v k key n (y .0)));
+          (y .0, mapped k n (y .1), ap slotted (text-by-case v k key n (ascii "ID") (c .at + 1) (y .0)) ∙ y .2, y .3 ∙ sym (ap (λ (b : Bool). tallied b (length (y .0))) (odd-by-case v k key n (y .0))));
     }
 
 pub ruleset values = (a-text, map-unread, map-given)
@@ -225,7 +226,7 @@ module _ (v : Version) (s : Bytes) {q : Bool} (a : q ≡ starts (ascii "##") s) 
       pub record-refused : {z : Refusal} → y ≡ value.Refused z → ParsesRecord v s (read.Refused z)
       record-refused w = record { is = key-is .2 v ∙ parsed w }
 
-      pub record-map : {id : Text} {t : ℕ} {o : Bool} → y ≡ value.Map id t o → ParsesRecord v s (read.Map (record { key = j; value = d .at; id = id; tag = t; odd = o }))
+      pub record-map : {id : Text} {t : ℕ} {o : Tally} → y ≡ value.Map id t o → ParsesRecord v s (read.Map (record { key = j; value = d .at; id = id; tag = t; tally = o }))
       record-map w = let m = parsed w in
           let e : d .at + 1 ≡ fieldsStart (keyIn s) = ap (_+ 1) (key-is .1) ∙ omega arith in
           record { is = (m .0, key-is .0, key-is .1, key-is .2 v ∙ m .1, ap (λ (i : ℕ). slotted (textNamed v (keyIn s) (ascii "ID") i (m .0))) (sym e) ∙ m .2, m .3) }

@@ -13,7 +13,7 @@ use Rattle.values.specs.declared.cursor.Cursor.{Cursor}
 use Rattle.values.specs.declared.string.Text.{Text}
 use Rattle.values.proofs.Tests.{pass, fail, test, never}
 use Rattle.rules.specs.Answer.{refuse, unless, first, judged}
-use Rattle.rules.specs.Version.{Version, v4-3, since}
+use Rattle.rules.specs.Version.{Version}
 use Rattle.rules.specs.Known.{kindOf, KnownField, idField, rows, rowNamed, nameOf, required, alwaysMap}
 use Rattle.rules.specs.Reserved.{reservedPages}
 use Rattle.rules.proofs.Fits.{reserved-none}
@@ -27,7 +27,8 @@ use Rattle.values.proofs.Lists.{on-some}
 use Rattle.values.proofs.Raws.{Raw, field-raw}
 use Rattle.records.specs.Keys.{caseBytes}
 use Rattle.records.specs.Tags.{tagRow, isKept, tagName}
-use Rattle.records.specs.Maps.{get, slotted, opened, opensAt, Held, scanRefusal, ScanIs, fieldsAfter, ReadsFields, OpenIs, OpensMap, ParsesMap, Identified, Described}
+use Rattle.records.specs.Maps.{get, slotted, opened, opensAt, Held, scanRefusal, tallyOf, ScanIs, fieldsAfter, ReadsFields, OpenIs, OpensMap, ParsesMap, Identified, Described}
+use Rattle.records.specs.declared.map.Tally.{Tally}
 use Rattle.records.specs.declared.key.MapKey.{MapKey}
 use Rattle.records.specs.declared.refusal.Refusal.{Refusal}
 use Rattle.records.specs.declared.refusal.Refusal.the-variants.{InvalidMap, MissingId, MissingDescription}
@@ -88,7 +89,7 @@ module _ (v : Version) (key : MapKey) (s : Bytes) (c : Cursor) {r : Prefix} (a :
       o = is-open (c .at) (begins 60 (drop (c .at) s)) (sym a ∙ e)
 
       go : (x : FieldsRead) → ScanIs v (caseBytes key) (c .at + 1) (fieldsAfter v (caseBytes key) s (c .at + 1)) x → OpenIs v (caseBytes key) s (c .at) x
-      go (fields.Fields slots) h = (o .0, h)
+      go (fields.Fields slots tally) h = (o .0, h)
       go (fields.Refused y) h =
           let z = fieldsAfter v (caseBytes key) s (c .at + 1) in
           let m = number-suc y in
@@ -186,21 +187,23 @@ begins-inside c (b ∷ s) zero e = omega arith
 begins-inside c (b ∷ s) (suc at) e = let h = begins-inside c s at e in omega arith
 
 -- a map whose fields were read
-pub record Fielded (v : Version) (k s : Bytes) (at : ℕ) (slots : Slots) : Type 0 where
+pub record Fielded (v : Version) (k s : Bytes) (at : ℕ) (slots : Slots) (tally : Tally) : Type 0 where
   pub fs : List Field
   pub read : readMap v k (drop at s) ≡ judged (first (missing v k fs ∷ misdeclared v k fs ∷ [])) fs
   pub held : Held v k (at + 1) fs slots
+  pub tallied : tally ≡ tallyOf v k fs
   pub stand : AnyAt s (at + 1) fs
   pub raw : All RawField fs
 
-module _ (v : Version) (k s : Bytes) (at : ℕ) (slots : Slots) where
-  pub fielded : OpenIs v k s at (fields.Fields slots) → Fielded v k s at slots
+module _ (v : Version) (k s : Bytes) (at : ℕ) (slots : Slots) (tally : Tally) where
+  pub fielded : OpenIs v k s at (fields.Fields slots tally) → Fielded v k s at slots tally
   fielded o =
       let z = fieldsAfter v k s (at + 1) in
       record {
         fs = z .0;
         read = map-read v k s at (o .0) ∙ ap (λ (n : ℕ). judged n (z .0)) (judged-first v k z (o .1 .0));
         held = o .1 .1;
+        tallied = o .1 .2;
         stand = any-at s (at + 1) (z .0) (fields-in (isMeta v k) (alwaysMap k) (drop (at + 1) s) (first-pair (checkFields v k [] (z .0)) (z .1) (o .1 .0) .1)) (begins-inside 60 s at (o .0));
         raw = fields-raw (isMeta v k) (alwaysMap k) (drop (at + 1) s);
       }
@@ -209,7 +212,7 @@ module _ (v : Version) (k s : Bytes) (at : ℕ) (slots : Slots) where
 abbrev pub Keeps : Bytes → Tag → Type 0
 Keeps k t = (isKept t ≡ true) × (rowNamed (tagName t) (rows (kindOf k)) ≡ tagRow t)
 
-module _ {v : Version} {k s : Bytes} {at : ℕ} {slots : Slots} (f : Fielded v k s at slots) where
+module _ {v : Version} {k s : Bytes} {at : ℕ} {slots : Slots} {tally : Tally} (f : Fielded v k s at slots tally) where
   pub holds : (t : Tag) → Keeps k t → {x : Slot} → get t slots ≡ x → slotted (textNamed v k (tagName t) (at + 1) (f .fs)) ≡ x
   holds t a e = sym (f .held .each t (a .0) (a .1)) ∙ e
 
@@ -238,9 +241,9 @@ module _ (v : Version) (key : MapKey) (s : Bytes) (c : Cursor) {r : FieldsRead} 
   pub map-refused : {x : Refusal} → r ≡ fields.Refused x → ParsesMap v key s (c .at) (maps.Refused x)
   map-refused e = record { is = subst (OpenIs v (caseBytes key) s (c .at)) e (o .is) }
 
-  module _ {slots : Slots} (e : r ≡ fields.Fields slots) where
-    abbrev f : Fielded v (caseBytes key) s (c .at) slots
-    f = fielded v (caseBytes key) s (c .at) slots (subst (OpenIs v (caseBytes key) s (c .at)) e (o .is))
+  module _ {slots : Slots} {tally : Tally} (e : r ≡ fields.Fields slots tally) where
+    abbrev f : Fielded v (caseBytes key) s (c .at) slots tally
+    f = fielded v (caseBytes key) s (c .at) slots tally (subst (OpenIs v (caseBytes key) s (c .at)) e (o .is))
 
     no-id : slots .id ≡ slot.Empty → {rs : List KnownField} → required (kindOf (caseBytes key)) ≡ idField ∷ rs → ParsesMap v key s (c .at) (maps.Refused MissingId)
     no-id i {rs} q = record { is = lacks f (asks-of f q ∙ asked-first (isSome (fieldNamed v (caseBytes key) (ascii "ID") (f .fs))) 13 _ (has f Id (keeps-id (caseBytes key)) i)) }
@@ -255,12 +258,12 @@ module _ (v : Version) (key : MapKey) (s : Bytes) (c : Cursor) {r : FieldsRead} 
       past-id : {rs : List KnownField} → required (kindOf (caseBytes key)) ≡ idField ∷ rs → missing v (caseBytes key) (f .fs) ≡ first (map (asks v (caseBytes key) (f .fs)) rs)
       past-id q = asks-of f q ∙ asked-later (isSome (fieldNamed v (caseBytes key) (ascii "ID") (f .fs))) 14 _ (has f Id (keeps-id (caseBytes key)) i)
 
-      given : missing v (caseBytes key) (f .fs) ≡ 0 → reservedPages (kindOf (caseBytes key)) ≡ [] → ParsesMap v key s (c .at) (maps.Map id g (slots .odd))
+      given : missing v (caseBytes key) (f .fs) ≡ 0 → reservedPages (kindOf (caseBytes key)) ≡ [] → ParsesMap v key s (c .at) (maps.Map id g tally)
       given m t = record {
-        is = (f .fs, whole f m ∙ ap (λ (n : ℕ). judged n (f .fs)) (misdeclared-not v (caseBytes key) (f .fs) t), holds f Id (keeps-id (caseBytes key)) i, f .held .spelling);
+        is = (f .fs, whole f m ∙ ap (λ (n : ℕ). judged n (f .fs)) (misdeclared-not v (caseBytes key) (f .fs) t), holds f Id (keeps-id (caseBytes key)) i, f .tallied);
       }
 
-      pub id-given : Identified key → ParsesMap v key s (c .at) (maps.Map id g (slots .odd))
+      pub id-given : Identified key → ParsesMap v key s (c .at) (maps.Map id g tally)
       unfolding first
       id-given d = given (past-id (d .needs)) (d .free)
 
@@ -269,7 +272,7 @@ module _ (v : Version) (key : MapKey) (s : Bytes) (c : Cursor) {r : FieldsRead} 
         is = lacks f (past-id (d .needs) ∙ asked-first (isSome (fieldNamed v (caseBytes key) (ascii "Description") (f .fs))) 16 [] (has f Description (refl, d .known) x));
       }
 
-      pub description-given : {t : Text} {h : ℕ} → slots .description ≡ slot.Filled t h → Described key → ParsesMap v key s (c .at) (maps.Map id g (slots .odd))
+      pub description-given : {t : Text} {h : ℕ} → slots .description ≡ slot.Filled t h → Described key → ParsesMap v key s (c .at) (maps.Map id g tally)
       unfolding first
       description-given x d =
           given (past-id (d .needs) ∙ asked-later (isSome (fieldNamed v (caseBytes key) (ascii "Description") (f .fs))) 17 [] (has f Description (refl, d .known) x)) (d .free)

@@ -40,6 +40,7 @@ use Rattle.records.specs.declared.map.FieldTaken.{FieldTaken}
 use Rattle.records.specs.declared.map.FieldTaken.the-variants as taken
 use Rattle.records.specs.declared.map.FieldStep.{FieldStep}
 use Rattle.records.specs.declared.map.FieldStep.the-variants as step
+use Rattle.records.specs.declared.map.Tally.{Tally}
 use Rattle.records.specs.declared.map.FieldsRead.{FieldsRead}
 use Rattle.records.specs.declared.map.FieldsRead.the-variants as fields
 use Rattle.records.specs.declared.map.MapRead.{MapRead}
@@ -228,9 +229,16 @@ pub record ReadsField (x : MapContext) (s : Bytes) (at : ℕ) (slots : Slots) (r
   pub moves : StepMoves s at r
   pub is : (before : List Field) → Walk x s before at slots → StepIs x s before at r
 
+abbrev pub tallied : Bool → ℕ → Tally
+tallied odd n = record { odd = odd; fields = n }
+
+-- what the fields of a map tell together
+abbrev pub tallyOf : Version → Bytes → List Field → Tally
+tallyOf v k fs = tallied (hasOdd v k fs) (length fs)
+
 -- the fields of a map, and what is kept of them
 abbrev pub ScanIs : Version → Bytes → ℕ → Scan → FieldsRead → Type 0
-ScanIs v k start x (fields.Fields slots) = (scanRefusal v k x ≡ 0) × Held v k start (x .0) slots
+ScanIs v k start x (fields.Fields slots tally) = (scanRefusal v k x ≡ 0) × Held v k start (x .0) slots × (tally ≡ tallyOf v k (x .0))
 ScanIs v k start x (fields.Refused y) = scanRefusal v k x ≡ number y
 
 -- one field or more were read
@@ -249,7 +257,7 @@ pub record ReadsFields (v : Version) (key : MapKey) (s : Bytes) (start : ℕ) (r
   pub is : ScanIs v (caseBytes key) start (fieldsAfter v (caseBytes key) s start) r
 
 abbrev pub OpenIs : Version → Bytes → Bytes → ℕ → FieldsRead → Type 0
-OpenIs v k s at (fields.Fields slots) = (begins 60 (drop at s) ≡ true) × ScanIs v k (at + 1) (fieldsAfter v k s (at + 1)) (fields.Fields slots)
+OpenIs v k s at (fields.Fields slots tally) = (begins 60 (drop at s) ≡ true) × ScanIs v k (at + 1) (fieldsAfter v k s (at + 1)) (fields.Fields slots tally)
 OpenIs v k s at (fields.Refused x) = readMap v k (drop at s) ≡ refuse (number x)
 
 -- a map was read from its `<` on, before the required fields and the reserved IDs are looked at
@@ -257,7 +265,7 @@ pub record OpensMap (v : Version) (key : MapKey) (s : Bytes) (at : ℕ) (r : Fie
   pub is : OpenIs v (caseBytes key) s at r
 
 abbrev pub MapIs : Version → Bytes → Bytes → ℕ → MapRead → Type 0
-MapIs v k s at (maps.Map id tag odd) = (fs : List Field) × (readMap v k (drop at s) ≡ ok fs) × (idSlot v k (at + 1) fs ≡ slot.Filled id tag) × (odd ≡ hasOdd v k fs)
+MapIs v k s at (maps.Map id tag tally) = (fs : List Field) × (readMap v k (drop at s) ≡ ok fs) × (idSlot v k (at + 1) fs ≡ slot.Filled id tag) × (tally ≡ tallyOf v k fs)
 MapIs v k s at (maps.Refused x) = readMap v k (drop at s) ≡ refuse (number x)
 
 -- a map under a key of this case was parsed: the place of its ID, and which name stands for it
@@ -282,7 +290,7 @@ pub record Full (key : MapKey) : Type 0 where
   pub described : rowNamed (ascii "Description") (rows (kindOf (caseBytes key))) ≡ some descriptionField
 
 -- an INFO or FORMAT map whose fields are all there: where its ID, Number and Type stand; its definition is still to be looked at
-pub record Typed (v : Version) (k s : Bytes) (at : ℕ) (id : Text) (tag : ℕ) (number kind : Text) (odd : Bool) : Type 0 where
+pub record Typed (v : Version) (k s : Bytes) (at : ℕ) (id : Text) (tag : ℕ) (number kind : Text) (tally : Tally) : Type 0 where
   pub fs : List Field
   pub read : readMap v k (drop at s) ≡ judged (misdeclared v k fs) fs
   pub named : idSlot v k (at + 1) fs ≡ slot.Filled id tag
@@ -290,10 +298,10 @@ pub record Typed (v : Version) (k s : Bytes) (at : ℕ) (id : Text) (tag : ℕ) 
   pub number-is : valueNamed v k (ascii "Number") fs ≡ meaningIn s number
   pub kind-is : valueNamed v k (ascii "Type") fs ≡ meaningIn s kind
   pub raw : u64Read (valueNamed v k (ascii "Number") fs) ≡ u64Read (textIn s number)
-  pub spelling : odd ≡ hasOdd v k fs
+  pub tallied : tally ≡ tallyOf v k fs
 
 abbrev pub TypedIs : Version → Bytes → Bytes → ℕ → TypedRead → Type 0
-TypedIs v k s at (typed.Typed id tag number kind odd) = Typed v k s at id tag number kind odd
+TypedIs v k s at (typed.Typed id tag number kind tally) = Typed v k s at id tag number kind tally
 TypedIs v k s at (typed.Refused x) = readMap v k (drop at s) ≡ refuse (number x)
 
 -- an INFO or FORMAT map was parsed
@@ -302,4 +310,4 @@ pub record ParsesTyped (v : Version) (key : MapKey) (s : Bytes) (at : ℕ) (r : 
 
 -- whether a definition is the one that its ID asks for
 pub record Declared (v : Version) (key : MapKey) (s : Bytes) (id number kind : Text) (r : Bool) : Type 0 where
-  pub is : (at tag : ℕ) (odd : Bool) (t : Typed v (caseBytes key) s at id tag number kind odd) → misdeclared v (caseBytes key) (t .fs) ≡ unless r 18
+  pub is : (at tag : ℕ) (tally : Tally) (t : Typed v (caseBytes key) s at id tag number kind tally) → misdeclared v (caseBytes key) (t .fs) ≡ unless r 18

@@ -11,7 +11,6 @@ use Rattle.values.specs.Field.{Field}
 use Rattle.rules.specs.Answer.{ok, refuse}
 use Rattle.rules.specs.Version.{Version, readVersion}
 use Rattle.rules.specs.Entry.{fieldsStart}
-use Rattle.rules.specs.Spelling.{hasOdd}
 use Rattle.rules.specs.Record.{fileformat, fields, text, readRecordValue, readRecord}
 use Rattle.rules.specs.Record.{fileformatRead as versionRead}
 use Rattle.rules.specs.Claims.{keyIn}
@@ -19,7 +18,7 @@ use Rattle.records.specs.Formats.{versionOf, formatOf}
 use Rattle.records.specs.Refusals.{number}
 use Rattle.records.specs.Keys.{Named}
 use Rattle.records.specs.Numbers.{isNumberOf, typeName}
-use Rattle.records.specs.Maps.{idSlot}
+use Rattle.records.specs.Maps.{idSlot, tallyOf}
 use Rattle.records.specs.declared.key.MapKey.{MapKey}
 use Rattle.records.specs.declared.refusal.Refusal.the-variants.{InvalidFileFormat}
 use Rattle.records.specs.declared.definition.Definition.{Definition}
@@ -39,8 +38,8 @@ fits (definition.Of x y) n nq t tq = isNumberOf x n nq && same (typeName y) (mea
 
 -- the value of a record under the key k, which stands at a place of its line
 abbrev pub ValueIs : Version → Bytes → Bytes → ℕ → ValueParsed → Type 0
-ValueIs v k s at (value.Map id tag odd) =
-    (fs : List Field) × (readRecordValue v k (drop at s) ≡ ok (fields k fs)) × (idSlot v k (at + 1) fs ≡ slot.Filled id tag) × (odd ≡ hasOdd v k fs)
+ValueIs v k s at (value.Map id tag tally) =
+    (fs : List Field) × (readRecordValue v k (drop at s) ≡ ok (fields k fs)) × (idSlot v k (at + 1) fs ≡ slot.Filled id tag) × (tally ≡ tallyOf v k fs)
 ValueIs v k s at value.Text = readRecordValue v k (drop at s) ≡ ok (text k (drop at s))
 ValueIs v k s at (value.Refused x) = readRecordValue v k (drop at s) ≡ refuse (number x)
 
@@ -56,7 +55,7 @@ abbrev pub RecordIs : Version → Bytes → RecordRead → Type 0
 RecordIs v s (read.FileFormat w) = readRecord v s ≡ ok (fileformat (versionOf w))
 RecordIs v s (read.Map m) =
     (fs : List Field) × Named (keyIn s) (m .key) × (m .value ≡ valueStart s) × (readRecord v s ≡ ok (fields (keyIn s) fs))
-    × (idSlot v (keyIn s) (fieldsStart (keyIn s)) fs ≡ slot.Filled (m .id) (m .tag)) × (m .odd ≡ hasOdd v (keyIn s) fs)
+    × (idSlot v (keyIn s) (fieldsStart (keyIn s)) fs ≡ slot.Filled (m .id) (m .tag)) × (m .tally ≡ tallyOf v (keyIn s) fs)
 RecordIs v s (read.Text at) = (at ≡ valueStart s) × (readRecord v s ≡ ok (text (keyIn s) (drop at s)))
 RecordIs v s (read.Refused x) = readRecord v s ≡ refuse (number x)
 

@@ -79,20 +79,26 @@ pub enum FieldStep {
     Refused(Refusal),
 }
 
+// What the fields of a map tell together: whether a number among them was not plainly spelled, and how many they are.
+pub struct Tally {
+    pub odd: bool,
+    pub fields: usize,
+}
+
 pub enum FieldsRead {
-    Fields(Slots),
+    Fields(Slots, Tally),
     Refused(Refusal),
 }
 
-// The ID of a map, which name stands for it, and whether a number in it was not plainly spelled.
+// The ID of a map, which name stands for it, and what its fields tell together.
 pub enum MapRead {
-    Map(Text, u8, bool),
+    Map(Text, u8, Tally),
     Refused(Refusal),
 }
 
-// The ID of an INFO or FORMAT map, which name stands for it, its Number and its Type, and whether a number was not plainly spelled.
+// The ID of an INFO or FORMAT map, which name stands for it, its Number and its Type, and what its fields tell together.
 pub enum TypedRead {
-    Typed(Text, u8, Text, Text, bool),
+    Typed(Text, u8, Text, Text, Tally),
     Refused(Refusal),
 }
 
@@ -400,13 +406,18 @@ fn walk_fields(s: &[u8], map: MapContext) -> FieldsRead
 {
     let mut c = Cursor { at: map.start };
     let mut slots = Slots::empty();
+    let mut fields: usize = 1;
     loop {
         match read_field(s, map, c, slots) {
             FieldStep::Next(d, kept) => {
                 c = d;
                 slots = kept;
+                fields += 1;
             }
-            FieldStep::Last(kept) => return FieldsRead::Fields(kept),
+            FieldStep::Last(kept) => {
+                let odd = kept.odd;
+                return FieldsRead::Fields(kept, Tally { odd, fields });
+            }
             FieldStep::Refused(x) => return FieldsRead::Refused(x),
         }
     }
@@ -435,7 +446,13 @@ pub fn parse_fields(s: &[u8], c: Cursor, key: MapKey, version: FileFormat) -> Fi
         return walk_fields(s, map);
     }
     if consume_suffix(s, c) {
-        return FieldsRead::Fields(Slots::empty());
+        return FieldsRead::Fields(
+            Slots::empty(),
+            Tally {
+                odd: false,
+                fields: 0,
+            },
+        );
     }
     FieldsRead::Refused(Refusal::InvalidMap)
 }
@@ -456,12 +473,12 @@ pub fn parse_identified(s: &[u8], c: Cursor, key: MapKey, version: FileFormat) -
 {
     match parse_map(s, c, key, version) {
         FieldsRead::Refused(x) => MapRead::Refused(x),
-        FieldsRead::Fields(slots) => {
+        FieldsRead::Fields(slots, tally) => {
             let named = slots.id;
             let Slot::Filled(id, tag) = named else {
                 return MapRead::Refused(Refusal::MissingId);
             };
-            MapRead::Map(id, tag, slots.odd)
+            MapRead::Map(id, tag, tally)
         }
     }
 }
@@ -472,7 +489,7 @@ pub fn parse_described(s: &[u8], c: Cursor, key: MapKey, version: FileFormat) ->
 {
     match parse_map(s, c, key, version) {
         FieldsRead::Refused(x) => MapRead::Refused(x),
-        FieldsRead::Fields(slots) => {
+        FieldsRead::Fields(slots, tally) => {
             let named = slots.id;
             let Slot::Filled(id, tag) = named else {
                 return MapRead::Refused(Refusal::MissingId);
@@ -481,7 +498,7 @@ pub fn parse_described(s: &[u8], c: Cursor, key: MapKey, version: FileFormat) ->
             let Slot::Filled(_, _) = described else {
                 return MapRead::Refused(Refusal::MissingDescription);
             };
-            MapRead::Map(id, tag, slots.odd)
+            MapRead::Map(id, tag, tally)
         }
     }
 }

@@ -4,12 +4,14 @@ use crate::file_format::FileFormat;
 use crate::file_format::FileFormatRead;
 use crate::key;
 use crate::key::MapKey;
+use crate::map::Tally;
 use crate::refusal::Refusal;
 use crate::value;
 use crate::value::ValueParsed;
 use values::bytes;
 use values::cursor::Cursor;
 use values::string::Text;
+ghost use Prim.Native.Nat.{_-_};
 ghost use mathlib.Core.Path.{_≡_};
 ghost use mathlib.Core.Bool.{true};
 ghost use lib.ListN.{drop};
@@ -25,13 +27,13 @@ pub enum KeyParsed {
     Refused,
 }
 
-// A map: its key, where its value stands, its ID and which name stands for that; `odd`: a number in it was not plainly spelled.
+// A map: its key, where its value stands, its ID and which name stands for that, and what its fields tell together.
 pub struct MapRecord {
     pub key: MapKey,
     pub value: usize,
     pub id: Text,
     pub tag: u8,
-    pub odd: bool,
+    pub tally: Tally,
 }
 
 // A text has the place of its value.
@@ -40,6 +42,16 @@ pub enum RecordRead {
     Map(MapRecord),
     Text(usize),
     Refused(Refusal),
+}
+
+// The length of the key before a value that stands here.
+pub fn key_length(value: usize) -> usize
+    ensures { λ r. ⌜ r ≡ value - 3 ⌝ }
+{
+    if value < 3 {
+        return 0;
+    }
+    value - 3
 }
 
 fn consume_prefix(s: &[u8]) -> bool
@@ -87,12 +99,12 @@ pub fn parse_record(s: &[u8], version: FileFormat) -> RecordRead
     match parse_key(s) {
         KeyParsed::FileFormat(next) => parse_version(s, next),
         KeyParsed::Map(key, next) => match value::parse_value(s, next, key, version) {
-            ValueParsed::Map(id, tag, odd) => RecordRead::Map(MapRecord {
+            ValueParsed::Map(id, tag, tally) => RecordRead::Map(MapRecord {
                 key,
                 value: next.at,
                 id,
                 tag,
-                odd,
+                tally,
             }),
             ValueParsed::Text => RecordRead::Text(next.at),
             ValueParsed::Refused(x) => RecordRead::Refused(x),

@@ -15,7 +15,7 @@ pub fn parse_typed(s: &[u8], c: Cursor, key: MapKey, version: FileFormat) -> Typ
 {
     match map::parse_map(s, c, key, version) {
         FieldsRead::Refused(x) => TypedRead::Refused(x),
-        FieldsRead::Fields(slots) => {
+        FieldsRead::Fields(slots, tally) => {
             let named = slots.id;
             let Slot::Filled(id, tag) = named else {
                 return TypedRead::Refused(Refusal::MissingId);
@@ -32,7 +32,7 @@ pub fn parse_typed(s: &[u8], c: Cursor, key: MapKey, version: FileFormat) -> Typ
             let Slot::Filled(_, _) = described else {
                 return TypedRead::Refused(Refusal::MissingDescription);
             };
-            TypedRead::Typed(id, tag, number, kind, slots.odd)
+            TypedRead::Typed(id, tag, number, kind, tally)
         }
     }
 }

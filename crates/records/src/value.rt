@@ -8,6 +8,7 @@ use crate::filter;
 use crate::key::MapKey;
 use crate::map;
 use crate::map::MapRead;
+use crate::map::Tally;
 use crate::map::TypedRead;
 use crate::other;
 use crate::refusal::Refusal;
@@ -23,9 +24,9 @@ ghost use Rattle.records.specs.Keys.{caseBytes};
 ghost use Rattle.records.specs.Maps.{Declared, Full, ParsesMap};
 ghost use Rattle.records.specs.Records.{fits, ParsesValue};
 
-// A map has its ID, which name stands for it, and whether a number in it was not plainly spelled.
+// A map has its ID, which name stands for it, and what its fields tell together.
 pub enum ValueParsed {
-    Map(Text, u8, bool),
+    Map(Text, u8, Tally),
     Text,
     Refused(Refusal),
 }
@@ -66,11 +67,11 @@ fn parse_typed_value(s: &[u8], c: Cursor, key: MapKey, version: FileFormat) -> M
 {
     match typed::parse_typed(s, c, key, version) {
         TypedRead::Refused(x) => MapRead::Refused(x),
-        TypedRead::Typed(id, tag, number, kind, odd) => {
+        TypedRead::Typed(id, tag, number, kind, tally) => {
             if !validate_definition(s, version, key, id, number, kind) {
                 return MapRead::Refused(Refusal::DefinitionMismatch);
             }
-            MapRead::Map(id, tag, odd)
+            MapRead::Map(id, tag, tally)
         }
     }
 }
@@ -111,14 +112,14 @@ pub fn parse_value(s: &[u8], c: Cursor, key: MapKey, version: FileFormat) -> Val
     }
     match parse_map_value(s, c, key, version) {
         // Field by field: a copy of the whole text drags its padding along, and reading that back stalls the processor.
-        MapRead::Map(id, tag, odd) => ValueParsed::Map(
+        MapRead::Map(id, tag, tally) => ValueParsed::Map(
             Text {
                 start: id.start,
                 end: id.end,
                 quoted: id.quoted,
             },
             tag,
-            odd,
+            tally,
         ),
         MapRead::Refused(x) => ValueParsed::Refused(x),
     }

@@ -2,12 +2,12 @@
 use Prim.Native.Nat.{ℕ, _+_}
 use mathlib.Core.Path.{_≡_, refl, sym, ap, ap₂, _∙_}
 use mathlib.Core.Bool.{true, false}
-use mathlib.Core.List.{List, [], _∷_, _++_, tail}
+use mathlib.Core.List.{List, [], _∷_, _++_, map, tail}
 use mathlib.Core.Option.{Option}
 use lib.Dec.{eqb}
 use lib.ListN.{length}
 use borrow.Author.Tests.{eq-eqb}
-use Rattle.values.specs.Bytes.{Bytes, ascii, is, any, same, starts}
+use Rattle.values.specs.Bytes.{Bytes, ascii, any, same, starts}
 use Rattle.values.specs.Field.{Field}
 use Rattle.values.proofs.Tests.{pass, fail, test, and-off}
 use Rattle.values.proofs.Sames.{same-sound}
@@ -18,7 +18,7 @@ use Rattle.rules.specs.Known.{kindOf, alwaysMap, namesId, nameOf}
 use Rattle.rules.specs.Map.{fieldNamed, valueNamed, fieldKeyed, fieldsAt}
 use Rattle.rules.specs.Record.{Record, fileformat, fields, text, readRecord}
 use Rattle.rules.specs.Columns.{Columns}
-use Rattle.rules.specs.Entry.{Entry, mapKind, formatKind, plainEntry, fieldsStart, recordEntry, sampleEntries, columnEntries}
+use Rattle.rules.specs.Entry.{Entry, Counts, withCounts, mapKind, fieldsStart, lineEntry, recordEntry, sampleEntries, columnEntries}
 use Rattle.rules.specs.Shown.{lineIn, idIn}
 use Rattle.rules.specs.House.{writeFields, writeRecord}
 use Rattle.rules.proofs.Firsts.{on-ok}
@@ -96,7 +96,7 @@ module _ (lim : Limits) (h : Bytes) (v : Version) (line : ℕ) (e : Entry) where
     ]
 
   row-cell : (r : Record) → Row lim h v e r → Entered v r → (cs : List Cell) → cellsBy (isCell h e) (cellIn h line e) cs ≡ declared v line (e .start) r ++ cs
-  unfolding declared hasKey recordEntry
+  unfolding declared hasKey recordEntry lineEntry
   row-cell (fileformat w) row g cs = absurd g
   row-cell (text k t) row g cs = let k : e .kind ≡ 8 = ap (λ (x : Entry). x .kind) (row .entry) in rw k
   row-cell (fields k fs) row g cs = map-cell k fs row g cs
@@ -136,7 +136,13 @@ columns-aside start l c = (refl, samples-aside _ (c .samples))
 -- the cells of the entries of an accepted header
 pub header-cells : (lim : Limits) (imposed : Option Version) (h : Bytes) (v : Version) (rs : List Record) (c : Columns) (es : List Entry) → TracedHeader lim imposed h v rs c es → All (Entered v) rs
     → cellsIn h 1 es ≡ cells v 2 (tail es) rs
-unfolding recordEntry
+unfolding recordEntry lineEntry
 header-cells lim imposed h v rs c es t g =
-    rw (t .these) (no-cell h 1 (plainEntry formatKind 0 (length (t .format))) _ refl
+    rw (t .these) (no-cell h 1 (recordEntry (lim .counted) (t .own) 0 (t .format) (fileformat (t .own))) _ refl
     ∙ rows-cells lim h v 2 (t .rows) (columnEntries (t .start) (t .line) c) rs (t .all) g (columns-aside (t .start) (t .line) c))
+
+-- the cells are those of the entries whatever these tell of keys and fields, so in either form
+pub cells-uncounted : (h : Bytes) (line : ℕ) (counts : Entry → Counts) (es : List Entry) → cellsIn h line (map (λ (e : Entry). withCounts (counts e) e) es) ≡ cellsIn h line es
+unfolding cellsIn hasKey constantAt lineIn idIn
+cells-uncounted h line counts [] = refl
+cells-uncounted h line counts (e ∷ es) = ap (cellsBy (isCell h e) (cellIn h line e)) (cells-uncounted h (line + 1) counts es)

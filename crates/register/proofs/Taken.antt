@@ -1,6 +1,7 @@
 -- The lines of an accepted header, each with the record that it is read as. Assumes nothing.
 use Prim.Native.Nat.{ℕ, suc, _+_}
 use mathlib.Core.Path.{_≡_, refl, sym, ap, subst, _∙_}
+use mathlib.Core.Bool.{Bool}
 use mathlib.Core.List.{List, [], _∷_, _++_, append-assoc, append-nil}
 use mathlib.Core.Option.{Option}
 use lib.Dec.{leb}
@@ -35,11 +36,11 @@ record Begun (imposed : Option Version) (l : Bytes) (s : State) : Type 0 where
   read : readRecord v4-5 l ≡ ok (fileformat own)
   is : s ≡ ready (inForce imposed own) []
 
-text-begun : (imposed : Option Version) (start : ℕ) (l : Bytes) → OnOk (λ q. Begun imposed l (q .0)) (stepText imposed start empty l)
+text-begun : (counted : Bool) (imposed : Option Version) (start : ℕ) (l : Bytes) → OnOk (λ q. Begun imposed l (q .0)) (stepText counted imposed start empty l)
 unfolding stepText
-text-begun imposed start l = elim (see (readRecord v4-5 l)) [ was r e ↦ rw e (go r e) | not-read m e ↦ rw e tt ]
+text-begun counted imposed start l = elim (see (readRecord v4-5 l)) [ was r e ↦ rw e (go r e) | not-read m e ↦ rw e tt ]
   where
-    go : (r : Record) → readRecord v4-5 l ≡ ok r → OnOk (λ (q : State × List Entry). Begun imposed l (q .0)) (begin imposed start l r)
+    go : (r : Record) → readRecord v4-5 l ≡ ok r → OnOk (λ (q : State × List Entry). Begun imposed l (q .0)) (begin counted imposed start l r)
     go (fileformat w) e = record { own = w; read = e; is = refl }
     go (fields k fs) e = tt
     go (text k t) e = tt
@@ -67,21 +68,21 @@ pub run-took : (lim : Limits) (imposed : Option Version) (room n start count : �
 unfolding run
 run-took lim imposed room n start count v rs [] z {w} {rs′} {c} a =
     let f = first-taken lim imposed room n start count (ready v rs) z [] a in
-    go (f .after) (on-ok (Stepped imposed v rs start (lineOf z)) (text-steps imposed start v rs (lineOf z)) (f .line .2)) (f .rest)
+    go (f .after) (on-ok (Stepped (lim .counted) imposed v rs start (lineOf z)) (text-steps (lim .counted) imposed start v rs (lineOf z)) (f .line .2)) (f .rest)
   where
-    go : (q : State × List Entry) → Stepped imposed v rs start (lineOf z) q → Accepted w rs′ c (run lim imposed room (suc n) (start + length z) (count + length (q .1)) (q .0) []) → Took v rs [] w rs′
+    go : (q : State × List Entry) → Stepped (lim .counted) imposed v rs start (lineOf z) q → Accepted w rs′ c (run lim imposed room (suc n) (start + length z) (count + length (q .1)) (q .0) []) → Took v rs [] w rs′
     go q (entered r x e y more) b = ready-not (rw e at (b .state))
     go q (finished d x e) b = let i = done-parts (rw e at (b .state)) in record { version = i .0; new = []; records = sym (i .1) ∙ sym (append-nil rs); reads = tt; apart = λ g. subst (Apart v) (i .1) g }
 run-took lim imposed room n start count v rs (p ∷ ps) z {w} {rs′} {c} a =
     let f = first-taken lim imposed room n start count (ready v rs) p (ps ++ z ∷ []) a in
-    go (f .after) (on-ok (Stepped imposed v rs start (lineOf p)) (text-steps imposed start v rs (lineOf p)) (f .line .2)) (f .rest)
+    go (f .after) (on-ok (Stepped (lim .counted) imposed v rs start (lineOf p)) (text-steps (lim .counted) imposed start v rs (lineOf p)) (f .line .2)) (f .rest)
     (λ r m b. run-took lim imposed room (suc n) (start + length p) m v (rs ++ r ∷ []) ps z b)
   where
     last : (m : ℕ) (d : Columns) (ps : List Bytes) → Accepted w rs′ c (run lim imposed room (suc n) (start + length p) m (done v rs d) (ps ++ z ∷ [])) → Took v rs (p ∷ ps) w rs′
     last m d [] b = done-more lim imposed room (suc n) (start + length p) m v rs d z [] b
     last m d (x ∷ xs) b = done-more lim imposed room (suc n) (start + length p) m v rs d x (xs ++ z ∷ []) b
 
-    go : (q : State × List Entry) → Stepped imposed v rs start (lineOf p) q → Accepted w rs′ c (run lim imposed room (suc n) (start + length p) (count + length (q .1)) (q .0) (ps ++ z ∷ []))
+    go : (q : State × List Entry) → Stepped (lim .counted) imposed v rs start (lineOf p) q → Accepted w rs′ c (run lim imposed room (suc n) (start + length p) (count + length (q .1)) (q .0) (ps ++ z ∷ []))
         → ((r : Record) (m : ℕ) → Accepted w rs′ c (run lim imposed room (suc n) (start + length p) m (ready v (rs ++ r ∷ [])) (ps ++ z ∷ [])) → Took v (rs ++ r ∷ []) ps w rs′) → Took v rs (p ∷ ps) w rs′
     go q (entered r x e y again) b more =
         let t = more r (count + 1) (rw e at b) in
@@ -106,7 +107,7 @@ lines-took : (lim : Limits) (imposed : Option Version) (room : ℕ) (f : Bytes) 
     → Accepted v rs c (run lim imposed room 0 0 0 empty (f ∷ (ps ++ z ∷ []))) → Lines imposed f ps v rs
 lines-took lim imposed room f ps z {v} {rs} {c} a =
     let t = first-taken lim imposed room 0 0 0 empty f (ps ++ z ∷ []) a in
-    go (t .after) (on-ok (λ q. Begun imposed (lineOf f) (q .0)) (text-begun imposed 0 (lineOf f)) (t .line .2)) (t .rest)
+    go (t .after) (on-ok (λ q. Begun imposed (lineOf f) (q .0)) (text-begun (lim .counted) imposed 0 (lineOf f)) (t .line .2)) (t .rest)
   where
     go : (q : State × List Entry) → Begun imposed (lineOf f) (q .0) → Accepted v rs c (run lim imposed room 1 (0 + length f) (0 + length (q .1)) (q .0) (ps ++ z ∷ [])) → Lines imposed f ps v rs
     go q b a =
@@ -151,7 +152,7 @@ header-splits lim imposed room h {v} {rs} {c} a = elim (test (leb (length h) (li
     go [] e a = empty-not (a .state)
     go (f ∷ []) e a =
         let t = first-taken lim imposed room 0 0 0 empty f [] a in
-        one f (t .after) (on-ok (λ q. Begun imposed (lineOf f) (q .0)) (text-begun imposed 0 (lineOf f)) (t .line .2)) (t .rest)
+        one f (t .after) (on-ok (λ q. Begun imposed (lineOf f) (q .0)) (text-begun (lim .counted) imposed 0 (lineOf f)) (t .line .2)) (t .rest)
     go (f ∷ p ∷ ps) e a = let d = last-of [] p ps in record { first = f; records = d .0; last = d .1; is = e ∙ ap (f ∷_) (d .2) }
 
 pub header-apart : (lim : Limits) (imposed : Option Version) (room : ℕ) (h : Bytes) {v : Version} {rs : List Record} {c : Columns}

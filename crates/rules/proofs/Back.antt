@@ -2,7 +2,7 @@
 use Prim.Native.Nat.{ℕ, suc, _+_, _≤_}
 use native.Mathlib.Omega.{arith}
 use mathlib.Core.Path.{_≡_, refl, ap, _∙_}
-use mathlib.Core.Bool.{false}
+use mathlib.Core.Bool.{Bool, false}
 use mathlib.Core.List.{List, [], _∷_, _++_, map, append-assoc, append-nil}
 use mathlib.Core.Option.{Option, none}
 use lib.ListN.{length}
@@ -33,29 +33,29 @@ pub record Line (lim : Limits) (l : Bytes) : Type 0 where
   pub pure : Pure l
 
 step-line : (lim : Limits) (start : ℕ) (s : State) (l : Bytes) → Line lim l → isDone s ≡ false
-    → step lim none start s (lineOf (writeLine l)) ≡ stepText none start s l
+    → step lim none start s (lineOf (writeLine l)) ≡ stepText (lim .counted) none start s l
 step-line lim start s l h d = ap (step lim none start s) (written l [] (h .pure .line) .line) ∙ step-text lim none start s l (h .short) (h .pure .utf8) d
 
-enter-ok : (v : Version) (seen : List Record) (start : ℕ) (l : Bytes) (x : Record) → Entered v x → clash v (tidied v x) seen ≡ 0
-    → enter v seen start l (tidied v x) ≡ ok (ready v (seen ++ tidied v x ∷ []), recordEntry v start l (tidied v x) ∷ [])
+enter-ok : (counted : Bool) (v : Version) (seen : List Record) (start : ℕ) (l : Bytes) (x : Record) → Entered v x → clash v (tidied v x) seen ≡ 0
+    → enter counted v seen start l (tidied v x) ≡ ok (ready v (seen ++ tidied v x ∷ []), recordEntry counted v start l (tidied v x) ∷ [])
 unfolding saying recordOf
-enter-ok v seen start l (fileformat w) g c = absurd g
-enter-ok v seen start l (fields k fs) g c = rw c
-enter-ok v seen start l (text k t) g c = rw c
+enter-ok counted v seen start l (fileformat w) g c = absurd g
+enter-ok counted v seen start l (fields k fs) g c = rw c
+enter-ok counted v seen start l (text k t) g c = rw c
 
-text-record : (v : Version) (seen : List Record) (start : ℕ) (x : Record) → Entered v x → clash v (tidied v x) seen ≡ 0
-    → stepText none start (ready v seen) (writeRecord (tidied v x)) ≡ ok (ready v (seen ++ tidied v x ∷ []), recordEntry v start (writeRecord (tidied v x)) (tidied v x) ∷ [])
+text-record : (counted : Bool) (v : Version) (seen : List Record) (start : ℕ) (x : Record) → Entered v x → clash v (tidied v x) seen ≡ 0
+    → stepText counted none start (ready v seen) (writeRecord (tidied v x)) ≡ ok (ready v (seen ++ tidied v x ∷ []), recordEntry counted v start (writeRecord (tidied v x)) (tidied v x) ∷ [])
 unfolding stepText
-text-record v seen start x g c = rw (stepText, not-column v x, record-back v x g, enter-ok v seen start (writeRecord (tidied v x)) x g c)
+text-record counted v seen start x g c = rw (stepText, not-column v x, record-back v x g, enter-ok counted v seen start (writeRecord (tidied v x)) x g c)
 
-text-columns : (v : Version) (rs : List Record) (start : ℕ) (c : Columns) → GoodColumns c
-    → stepText none start (ready v rs) (writeColumns (c .format) (c .samples)) ≡ ok (done v rs c, columnEntries start (writeColumns (c .format) (c .samples)) c)
+text-columns : (counted : Bool) (v : Version) (rs : List Record) (start : ℕ) (c : Columns) → GoodColumns c
+    → stepText counted none start (ready v rs) (writeColumns (c .format) (c .samples)) ≡ ok (done v rs c, columnEntries start (writeColumns (c .format) (c .samples)) c)
 unfolding stepText
-text-columns v rs start c g = rw (stepText, columns-start (c .format) (c .samples), columns-back c g)
+text-columns counted v rs start c g = rw (stepText, columns-start (c .format) (c .samples), columns-back c g)
 
-text-format : (v : Version) (start : ℕ) → Sized v → stepText none start empty (writeRecord (fileformat v)) ≡ ok (ready v [], recordEntry v start (writeRecord (fileformat v)) (fileformat v) ∷ [])
+text-format : (counted : Bool) (v : Version) (start : ℕ) → Sized v → stepText counted none start empty (writeRecord (fileformat v)) ≡ ok (ready v [], recordEntry counted v start (writeRecord (fileformat v)) (fileformat v) ∷ [])
 unfolding stepText
-text-format v start h = rw (format-back v4-5 v h)
+text-format counted v start h = rw (format-back v4-5 v h)
 
 column-count : (start : ℕ) (l : Bytes) (c : Columns) → length (columnEntries start l c) ≡ 1 + length (c .samples)
 unfolding columnEntries
@@ -80,7 +80,7 @@ module _ (lim : Limits) (room : ℕ) (v : Version) (c : Columns) (g : GoodColumn
       → Accepted v rs c (run lim none room n start count (ready v rs) (writeLine (columnLine c) ∷ []))
   unfolding run
   run-columns n start count rs h r =
-      let a = step-line lim start (ready v rs) (columnLine c) h refl ∙ text-columns v rs start c g in
+      let a = step-line lim start (ready v rs) (columnLine c) h refl ∙ text-columns (lim .counted) v rs start c g in
       accepted-after (columnEntries start (columnLine c) c)
       (run-more lim none room n start count (ready v rs) (writeLine (columnLine c)) [] a (le-leb _ room (rw (column-count start (columnLine c) c) r)))
       (record { number = refl; state = refl })
@@ -91,8 +91,8 @@ module _ (lim : Limits) (room : ℕ) (v : Version) (c : Columns) (g : GoodColumn
   run-records [] n start count seen e k ls h r = rw (append-nil seen) (run-columns n start count seen h (omega arith))
   run-records (x ∷ xs) n start count seen e k ls h r =
       let l = writeRecord (tidied v x) in
-      let a = step-line lim start (ready v seen) l (ls .0) refl ∙ text-record v seen start x (e .0) (k .0) in
-      accepted-after (recordEntry v start l (tidied v x) ∷ [])
+      let a = step-line lim start (ready v seen) l (ls .0) refl ∙ text-record (lim .counted) v seen start x (e .0) (k .0) in
+      accepted-after (recordEntry (lim .counted) v start l (tidied v x) ∷ [])
       (run-more lim none room n start count (ready v seen) (writeLine l) (map writeLine (recordLines v xs ++ columnLine c ∷ [])) a (le-leb _ room (omega arith)))
       (rw (← append-assoc seen (tidied v x ∷ []) (map (tidied v) xs))
       (run-records xs (suc n) (start + length (writeLine l)) (count + 1) (seen ++ tidied v x ∷ []) (e .1) (k .1) (ls .1) h (omega arith)))
@@ -105,9 +105,9 @@ module _ (lim : Limits) (room : ℕ) (v : Version) (c : Columns) (g : GoodColumn
       → Accepted v (map (tidied v) xs) c (reading lim none room (writeLines (writeRecord (fileformat v) ∷ (recordLines v xs ++ columnLine c ∷ []))))
   lines-back xs sv e k ls short r =
       let l = writeRecord (fileformat v) in
-      let a = step-line lim 0 empty l (ls .0) refl ∙ text-format v 0 sv in
+      let a = step-line lim 0 empty l (ls .0) refl ∙ text-format (lim .counted) v 0 sv in
       read-pieces (l ∷ (recordLines v xs ++ columnLine c ∷ [])) ls short
-      (accepted-after (recordEntry v 0 l (fileformat v) ∷ [])
+      (accepted-after (recordEntry (lim .counted) v 0 l (fileformat v) ∷ [])
       (run-more lim none room 0 0 0 empty (writeLine l) (map writeLine (recordLines v xs ++ columnLine c ∷ [])) a (le-leb _ room (omega arith)))
       (run-records xs 1 (0 + length (writeLine l)) (0 + 1) [] e k (all-split (Line lim) (recordLines v xs) (columnLine c ∷ []) (ls .1) .0)
       (all-split (Line lim) (recordLines v xs) (columnLine c ∷ []) (ls .1) .1 .0) (omega arith)))

@@ -9,20 +9,23 @@ use Rattle.values.specs.Bytes.{Bytes, part}
 use Rattle.values.proofs.Lists.{some-is, none-not}
 use Rattle.values.proofs.Fields.{text-here}
 use Rattle.rules.specs.Sizes.{Limits}
-use Rattle.rules.specs.Version.{Version}
-use Rattle.rules.specs.Record.{Record, fileformat, fields, text}
+use Rattle.rules.specs.Version.{Version, v4-5}
+use Rattle.rules.specs.Record.{Record, fileformat, fields, text, readRecord}
 use Rattle.rules.specs.Columns.{Columns}
-use Rattle.rules.specs.Entry.{Entry, formatKind, textKind, columnsKind, sampleKind, plainEntry, recordEntry, samplesStart, sampleEntries, columnEntries}
+use Rattle.rules.specs.Shown.{countsInPlace}
+use Rattle.rules.specs.Entry.{Entry, formatKind, columnsKind, sampleKind, plainEntry, lineEntry, noCounts, countsOf, recordEntry, samplesStart, sampleEntries, columnEntries}
 use Rattle.rules.specs.Reading.{reading}
 use Rattle.rules.proofs.Firsts.{on-ok}
 use Rattle.rules.proofs.Samples.{columns-in}
 use Rattle.rules.proofs.Records.{Entered}
+use Rattle.rules.proofs.Texts.{FormatIs, format-any}
 use Rattle.rules.proofs.Sound.{samples-count}
 use Rattle.rules.proofs.House.{accepted-good}
 use Rattle.rules.proofs.Trace.{TracedHeader, header-traced}
-use Rattle.rules.proofs.Shows.{shows-map, shows-plain, part-part}
+use Rattle.rules.proofs.Shows.{plain-counts, shows-map, shows-plain, shows-text, part-part}
+use Rattle.rules.proofs.Counts.{record-tells}
 use Rattle.rules.proofs.Stands.{NamesAt, names-next, first-name, names-start}
-use Rattle.rules.specs.Claims.{All, SizedOption, Accepted, Row, Rows, nth, Shows, Shown, ShownPlain}
+use Rattle.rules.specs.Claims.{All, SizedOption, Accepted, Row, Rows, nth, Shows, Tells, Shown, ShownPlain}
 
 -- the row of the i-th record
 record RowAt (lim : Limits) (h : Bytes) (v : Version) (es : List Entry) (i : ℕ) (r : Record) : Type 0 where
@@ -86,13 +89,22 @@ module _ (lim : Limits) (imposed : Option Version) (sized : SizedOption imposed)
   traced = header-traced lim imposed room h a
 
   record-shown : (i : ℕ) (r : Record) (e : Entry) → Entered v r → Row lim h v e r → nth entries (suc i) ≡ some e → Shown lim h v entries (suc i) r
-  unfolding recordEntry
-  record-shown i r e g row q = record { entry = e; is = q; start = row .start; line = row .line; there = row .there; read = row .read; shows = go r g row }
+  unfolding recordEntry lineEntry
+  record-shown i r e g row q = record {
+    entry = e;
+    is = q;
+    start = row .start;
+    line = row .line;
+    there = row .there;
+    read = row .read;
+    shows = go r g row;
+    tells = rw (row .entry) (record-tells lim h v v (row .start) (row .line) r (row .there) (row .read));
+  }
     where
-      go : (r : Record) → Entered v r → (row : Row lim h v e r) → Shows h v (row .line) e r
+      go : (r : Record) → Entered v r → (row : Row lim h v e r) → Shows (lim .counted) h v (row .line) e r
       go (fileformat u) g row = absurd g
       go (fields k fs) g row = shows-map lim h v k fs e row (g .fine .whole)
-      go (text k t) g row = rw (row .entry) (shows-plain lim h v textKind (row .start) (row .line) refl refl (row .there .here) (row .there .inside))
+      go (text k t) g row = shows-text lim h v k t e row
 
   -- entry i + 1 shows record i
   pub entry-shows : (i : ℕ) {r : Record} → nth rs i ≡ some r → Shown lim h v entries (suc i) r
@@ -103,22 +115,30 @@ module _ (lim : Limits) (imposed : Option Version) (sized : SizedOption imposed)
 
   -- entry 0 shows the fileformat line
   pub format-shows : ShownPlain h entries 0 formatKind (traced .format)
-  unfolding recordEntry
+  unfolding recordEntry lineEntry
   format-shows = record {
-    entry = plainEntry formatKind 0 (length (traced .format));
+    entry = recordEntry (lim .counted) (traced .own) 0 (traced .format) (fileformat (traced .own));
     is = ap (λ (x : List Entry). nth x 0) (traced .these);
-    shows = shows-plain lim h v formatKind 0 (traced .format) refl refl (traced .first .here) (traced .first .inside);
+    shows = shows-plain lim h v (countsOf (lim .counted) (fileformat (traced .own))) formatKind 0 (traced .format) refl refl
+        (plain-counts (lim .counted) formatKind 0 (length (traced .format)) (fileformat (traced .own)) refl refl) (traced .first .here) (traced .first .inside);
   }
+
+  -- and tells of it, whatever the version
+  pub format-tells : (u : Version) → (e : Entry) × (nth entries 0 ≡ some e) × Tells (lim .counted) h u e (fileformat (traced .own))
+  format-tells u =
+      let read = on-ok (FormatIs (readRecord u (traced .format))) (format-any v4-5 u (traced .format)) (traced .readFormat) in
+      let tells = record-tells lim h u (traced .own) 0 (traced .format) (fileformat (traced .own)) (traced .first) read in
+      (recordEntry (lim .counted) (traced .own) 0 (traced .format) (fileformat (traced .own)), ap (λ (x : List Entry). nth x 0) (traced .these), tells)
 
   -- the entry after the records shows the column line
   pub column-shows : ShownPlain h entries (suc (length rs)) columnsKind (traced .line)
-  unfolding columnEntries
+  unfolding columnEntries countsInPlace
   column-shows =
       let n : length (traced .rows) + 0 ≡ length rs = rw (rows-length lim h v (traced .rows) rs (traced .all)) (omega arith) in
       record {
         entry = plainEntry columnsKind (traced .start) (length (traced .line));
         is = ap (λ (x : List Entry). nth x (suc (length rs))) (traced .these) ∙ rw (← n) (entry-right (traced .rows) (columnEntries (traced .start) (traced .line) c) 0);
-        shows = shows-plain lim h v columnsKind (traced .start) (traced .line) refl refl (traced .last .here) (traced .last .inside);
+        shows = shows-plain lim h v noCounts columnsKind (traced .start) (traced .line) refl refl refl (traced .last .here) (traced .last .inside);
       }
 
   -- the entry count is that of the rules
@@ -130,7 +150,7 @@ module _ (lim : Limits) (imposed : Option Version) (sized : SizedOption imposed)
 
   -- the entries after it show the sample names
   pub sample-shows : (j : ℕ) {x : Bytes} → nth (c .samples) j ≡ some x → ShownPlain h entries (suc (length rs) + suc j) sampleKind x
-  unfolding columnEntries
+  unfolding columnEntries countsInPlace
   sample-shows j {x} e =
       let s = traced .start in
       let g = accepted-good lim imposed room h sized a .0 .1 in
@@ -143,6 +163,6 @@ module _ (lim : Limits) (imposed : Option Version) (sized : SizedOption imposed)
       record {
         entry = plainEntry sampleKind (s + d .at) (length x);
         is = ap (λ (x : List Entry). nth x (suc (length rs) + suc j)) (traced .these) ∙ rw m (rw (← n) (entry-right (traced .rows) (columnEntries s (traced .line) c) (suc j)) ∙ d .is);
-        shows = shows-plain lim h v sampleKind (s + d .at) x refl refl
+        shows = shows-plain lim h v noCounts sampleKind (s + d .at) x refl refl refl
             (rw k (part-part h s (traced .line) (d .at) (d .at + length x) (at .here) (d .inside) ∙ d .here)) (omega (arith, at .inside, d .inside));
       }

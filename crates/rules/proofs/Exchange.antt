@@ -2,7 +2,7 @@
 use Prim.Native.Nat.{ℕ, zero, suc, _+_, _≤_}
 use native.Mathlib.Omega.{arith}
 use mathlib.Core.Path.{_≡_, refl, sym, ap, ap₂, subst, _∙_}
-use mathlib.Core.Bool.{true, false, false≢true}
+use mathlib.Core.Bool.{Bool, true, false, false≢true}
 use mathlib.Core.List.{List, [], _∷_, _++_, append-assoc, append-nil}
 use mathlib.Core.Option.{Option, none, some}
 use mathlib.Core.Logic.{_⊎_, inl, inr, ⊎-elim}
@@ -17,10 +17,10 @@ use Rattle.rules.specs.Sizes.{Limits}
 use Rattle.rules.specs.Lines.{push, pieces, lineOf}
 use Rattle.rules.specs.Version.{Version}
 use Rattle.rules.specs.Known.{isTyped}
-use Rattle.rules.specs.Record.{Record, fileformat, fields, text, readRecord}
+use Rattle.rules.specs.Record.{Record, fileformat, fields, text, readRecord, keyOf}
 use Rattle.rules.specs.Columns.{Columns, readColumns}
 use Rattle.rules.specs.Entry.{Entry, recordEntry}
-use Rattle.rules.specs.Reading.{keyOf, beside, clash, State, empty, ready, done, enter, stepText, isDone, step, Reading, following, atEnd, run, reading}
+use Rattle.rules.specs.Reading.{beside, clash, State, empty, ready, done, enter, stepText, isDone, step, Reading, following, atEnd, run, reading}
 use Rattle.rules.specs.Meaning.{under, without, otherKeys, groups, Meaning, headerMeaning}
 use Rattle.rules.specs.House.{houseForm, houseLines, tooLong, lined, formAnswer, house}
 use Rattle.rules.proofs.Firsts.{on-ok, was, not-read, see}
@@ -194,21 +194,21 @@ module _ (a b : Record) (apart : same (keyOf a) (keyOf b) ≡ false) where
       go zero = (both-ready v (swapped-more r s), refl)
       go (suc n) = refl
 
-  enter-swapped : (v : Version) (start : ℕ) (l : Bytes) (r : Record) {xs ys : List Record} → Swapped a b xs ys → SwappedAnswer (enter v xs start l r) (enter v ys start l r)
-  enter-swapped v start l (fileformat w) s = refl
-  enter-swapped v start l (fields k fs) s = judged-swapped v (fields k fs) _ s
-  enter-swapped v start l (text k t) s = judged-swapped v (text k t) _ s
+  enter-swapped : (counted : Bool) (v : Version) (start : ℕ) (l : Bytes) (r : Record) {xs ys : List Record} → Swapped a b xs ys → SwappedAnswer (enter counted v xs start l r) (enter counted v ys start l r)
+  enter-swapped counted v start l (fileformat w) s = refl
+  enter-swapped counted v start l (fields k fs) s = judged-swapped v (fields k fs) _ s
+  enter-swapped counted v start l (text k t) s = judged-swapped v (text k t) _ s
 
-  text-swapped : (imposed : Option Version) (start : ℕ) (l : Bytes) (s t : State) → SwappedState s t → SwappedAnswer (stepText imposed start s l) (stepText imposed start t l)
+  text-swapped : (counted : Bool) (imposed : Option Version) (start : ℕ) (l : Bytes) (s t : State) → SwappedState s t → SwappedAnswer (stepText counted imposed start s l) (stepText counted imposed start t l)
   unfolding stepText
-  text-swapped imposed start l _ _ (both-done v c s) = refl
-  text-swapped imposed start l _ _ (both-ready v s) = elim (test (starts (ascii "#CHROM") l)) [
+  text-swapped counted imposed start l _ _ (both-done v c s) = refl
+  text-swapped counted imposed start l _ _ (both-ready v s) = elim (test (starts (ascii "#CHROM") l)) [
     | pass e ↦ elim (see (readColumns l)) [
       | was c q ↦ rw (stepText, e, q) (both-done v c s, refl)
       | not-read m q ↦ rw (stepText, e, q) refl
     ]
     | fail e ↦ elim (see (readRecord v l)) [
-      | was r q ↦ rw (stepText, e, q) (enter-swapped v start l r s)
+      | was r q ↦ rw (stepText, e, q) (enter-swapped counted v start l r s)
       | not-read m q ↦ rw (stepText, e, q) refl
     ]
   ]
@@ -223,7 +223,7 @@ module _ (a b : Record) (apart : same (keyOf a) (keyOf b) ≡ false) where
     | pass d ↦ rw (step, d, sym (done-both s t h) ∙ d) refl
     | fail d ↦ elim (test (leb (length l) (lim .line))) [
       | pass e ↦ elim (test (isUtf8 l)) [
-        | pass u ↦ rw (step, d, sym (done-both s t h) ∙ d, e, u) (text-swapped imposed start l s t h)
+        | pass u ↦ rw (step, d, sym (done-both s t h) ∙ d, e, u) (text-swapped (lim .counted) imposed start l s t h)
         | fail u ↦ rw (step, d, sym (done-both s t h) ∙ d, e, u) refl
       ]
       | fail e ↦ rw (step, d, sym (done-both s t h) ∙ d, e) refl
@@ -324,7 +324,7 @@ module _ (lim : Limits) (imposed : Option Version) (room : ℕ) where
   record Enters (v : Version) (l : Bytes) : Type 0 where
     kept : Record
     key : keyOf kept ≡ keyIn l
-    again : (at : ℕ) (xs : List Record) → clash v kept xs ≡ 0 → step lim imposed at (ready v xs) l ≡ ok (ready v (xs ++ kept ∷ []), recordEntry v at l kept ∷ [])
+    again : (at : ℕ) (xs : List Record) → clash v kept xs ≡ 0 → step lim imposed at (ready v xs) l ≡ ok (ready v (xs ++ kept ∷ []), recordEntry (lim .counted) v at l kept ∷ [])
 
   -- a record line of an accepted run: other lines follow it
   record Entered (n start count : ℕ) (v : Version) (xs : List Record) (p : Bytes) (ps : List Bytes) (w : Version) (rs : List Record) (c : Columns) : Type 0 where
@@ -337,9 +337,9 @@ module _ (lim : Limits) (imposed : Option Version) (room : ℕ) where
       → Accepted w rs c (run lim imposed room n start count (ready v xs) (p ∷ q ∷ ps)) → Entered n start count v xs p (q ∷ ps) w rs c
   enters n start count v xs p q ps {w} {rs} {c} acc =
       let f = first-taken lim imposed room n start count (ready v xs) p (q ∷ ps) acc in
-      go (f .after) (f .line .0) (f .line .1) (on-ok (Stepped imposed v xs start (lineOf p)) (text-steps imposed start v xs (lineOf p)) (f .line .2)) (f .roomy) (f .rest)
+      go (f .after) (f .line .0) (f .line .1) (on-ok (Stepped (lim .counted) imposed v xs start (lineOf p)) (text-steps (lim .counted) imposed start v xs (lineOf p)) (f .line .2)) (f .roomy) (f .rest)
     where
-      go : (x : State × List Entry) → length (lineOf p) ≤ lim .line → isUtf8 (lineOf p) ≡ true → Stepped imposed v xs start (lineOf p) x → leb (count + length (x .1)) room ≡ true
+      go : (x : State × List Entry) → length (lineOf p) ≤ lim .line → isUtf8 (lineOf p) ≡ true → Stepped (lim .counted) imposed v xs start (lineOf p) x → leb (count + length (x .1)) room ≡ true
           → Accepted w rs c (run lim imposed room (suc n) (start + length p) (count + length (x .1)) (x .0) (q ∷ ps)) → Entered n start count v xs p (q ∷ ps) w rs c
       go x short utf8 (finished d _ e) r a = done-more lim imposed room (suc n) (start + length p) _ v xs d q ps (rw e at a)
       go x short utf8 (entered kept e y z more) r a = record {
@@ -355,7 +355,7 @@ module _ (lim : Limits) (imposed : Option Version) (room : ℕ) where
 
   run-enters : (n start count : ℕ) (v : Version) (xs : List Record) (p : Bytes) (ps : List Bytes) (x : Enters v (lineOf p)) → clash v (x .kept) xs ≡ 0 → leb (count + 1) room ≡ true
       → run lim imposed room n start count (ready v xs) (p ∷ ps)
-      ≡ following (recordEntry v start (lineOf p) (x .kept) ∷ []) (run lim imposed room (suc n) (start + length p) (count + 1) (ready v (xs ++ x .kept ∷ [])) ps)
+      ≡ following (recordEntry (lim .counted) v start (lineOf p) (x .kept) ∷ []) (run lim imposed room (suc n) (start + length p) (count + 1) (ready v (xs ++ x .kept ∷ [])) ps)
   run-enters n start count v xs p ps x c r = run-more lim imposed room n start count (ready v xs) p ps (x .again start xs c) r
 
   -- two lines that may change places, and others after them
@@ -374,8 +374,8 @@ module _ (lim : Limits) (imposed : Option Version) (room : ℕ) where
       let ca : clash v a (xs ++ b ∷ []) ≡ 0 = all-clash v a (xs ++ b ∷ []) (all-append (λ t. beside v a t ≡ 0) xs (b ∷ []) (clash-all v a xs (x .clear)) (beside-other v a b (same-sym (keyOf b) (keyOf a) ∙ apart), tt)) in
       let place : start + length q + length p ≡ start + length p + length q = omega arith in
       let after = z ∷ ps in
-      let pa : (at : ℕ) → List Entry = λ at. recordEntry v at (lineOf p) a ∷ [] in
-      let qb : (at : ℕ) → List Entry = λ at. recordEntry v at (lineOf q) b ∷ [] in
+      let pa : (at : ℕ) → List Entry = λ at. recordEntry (lim .counted) v at (lineOf p) a ∷ [] in
+      let qb : (at : ℕ) → List Entry = λ at. recordEntry (lim .counted) v at (lineOf q) b ∷ [] in
       let one = run-enters n start count v xs p (q ∷ after) (x .line) (x .clear) (x .roomy)
       ∙ ap (following (pa start)) (run-enters (suc n) (start + length p) (count + 1) v (xs ++ a ∷ []) q after (y .line) (y .clear) (y .roomy)) in
       let two = run-enters n start count v xs q (p ∷ after) (y .line) (all-clash v b xs (s .0)) (x .roomy)

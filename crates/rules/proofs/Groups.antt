@@ -10,8 +10,8 @@ use Rattle.values.proofs.Tests.{pass, fail, test, or-l, or-r, or-on, both}
 use Rattle.rules.specs.Answer.{first}
 use Rattle.rules.specs.Version.{Version}
 use Rattle.rules.specs.Known.{isIn, isTyped, typedKeys}
-use Rattle.rules.specs.Record.{Record, fileformat, fields, text}
-use Rattle.rules.specs.Reading.{keyOf, idOf, isFields, beside, clash}
+use Rattle.rules.specs.Record.{Record, fileformat, fields, text, keyOf}
+use Rattle.rules.specs.Reading.{idOf, isFields, beside, clash}
 use Rattle.rules.specs.Meaning.{saying, under, without, otherKeys, groups}
 use Rattle.rules.specs.House.{recordOf, recordsOf}
 use Rattle.rules.proofs.Firsts.{first-zero, zero-first, first-nil}

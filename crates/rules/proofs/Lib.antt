@@ -20,6 +20,7 @@ pub mod Texts
 pub mod Runs
 pub mod Trace
 pub mod Shows
+pub mod Counts
 pub mod Stands
 pub mod Demands
 pub mod Spelled

@@ -19,14 +19,13 @@ use Rattle.rules.specs.Lines.{pieces, lineOf}
 use Rattle.rules.specs.Version.{Version, v4-5}
 use Rattle.rules.specs.Known.{isTyped}
 use Rattle.rules.specs.Map.{valueNamed}
-use Rattle.rules.specs.Record.{Record, fileformat, fields, text, readRecord}
+use Rattle.rules.specs.Record.{Record, fileformat, fields, text, readRecord, keyOf}
 use Rattle.rules.specs.Columns.{Columns, readColumns}
 use Rattle.rules.specs.Entry.{Entry, recordEntry}
-use Rattle.rules.specs.Reading.{keyOf, idOf, isFields, beside, clash, State, empty, ready, done, begin, enter, stepText, step, Reading, stop, following, atEnd, run, reading}
+use Rattle.rules.specs.Reading.{idOf, isFields, beside, clash, State, empty, ready, done, begin, enter, stepText, step, Reading, stop, following, atEnd, run, reading}
 use Rattle.rules.proofs.Firsts.{OnOk, on-ok, judged-ok, was, not-read, see}
 use Rattle.values.proofs.Sames.{same-self, same-sound}
 use Rattle.rules.proofs.Alls.{all-map}
-use Rattle.rules.proofs.Pieces.{nothing}
 use Rattle.rules.proofs.Groups.{Apart}
 use Rattle.rules.proofs.Sound.{Good, Taken, step-taken, run-refused, run-full, run-more}
 use Rattle.rules.proofs.Back.{reading-short}
@@ -109,7 +108,7 @@ unfolding step stepText
 second-refused lim imposed start v rs l k fs gs g n u c r a e =
     rw (le-leb (length l) (lim .line) n, u, step, c, stepText, r, second-clash v k fs gs rs a (g .apart) e) (two (isTyped k) refl)
   where
-    two : (t : Bool) → isTyped k ≡ t → judged {A = State × List Entry} (second k) (ready v (rs ++ fields k fs ∷ []), recordEntry v start l (fields k fs) ∷ []) ≡ refuse (second k)
+    two : (t : Bool) → isTyped k ≡ t → judged {A = State × List Entry} (second k) (ready v (rs ++ fields k fs ∷ []), recordEntry (lim .counted) v start l (fields k fs) ∷ []) ≡ refuse (second k)
     two true t = rw (second, t)
     two false t = rw (second, t)
 
@@ -126,28 +125,28 @@ Begun empty = ⊥
 Begun (ready v rs) = Unit {0}
 Begun (done v rs c) = Unit {0}
 
-begin-begun : (imposed : Option Version) (start : ℕ) (l : Bytes) (r : Record) → OnOk (λ q. Begun (q .0)) (begin imposed start l r)
-begin-begun imposed start l (fileformat w) = tt
-begin-begun imposed start l (fields k fs) = tt
-begin-begun imposed start l (text k t) = tt
+begin-begun : (counted : Bool) (imposed : Option Version) (start : ℕ) (l : Bytes) (r : Record) → OnOk (λ q. Begun (q .0)) (begin counted imposed start l r)
+begin-begun counted imposed start l (fileformat w) = tt
+begin-begun counted imposed start l (fields k fs) = tt
+begin-begun counted imposed start l (text k t) = tt
 
-enter-begun : (v : Version) (rs : List Record) (start : ℕ) (l : Bytes) (r : Record) → OnOk (λ q. Begun (q .0)) (enter v rs start l r)
-enter-begun v rs start l (fileformat w) = tt
-enter-begun v rs start l (fields k fs) = judged-ok (λ (q : State × List Entry). Begun (q .0)) (clash v (fields k fs) rs) _ (λ z. tt)
-enter-begun v rs start l (text k t) = judged-ok (λ (q : State × List Entry). Begun (q .0)) (clash v (text k t) rs) _ (λ z. tt)
+enter-begun : (counted : Bool) (v : Version) (rs : List Record) (start : ℕ) (l : Bytes) (r : Record) → OnOk (λ q. Begun (q .0)) (enter counted v rs start l r)
+enter-begun counted v rs start l (fileformat w) = tt
+enter-begun counted v rs start l (fields k fs) = judged-ok (λ (q : State × List Entry). Begun (q .0)) (clash v (fields k fs) rs) _ (λ z. tt)
+enter-begun counted v rs start l (text k t) = judged-ok (λ (q : State × List Entry). Begun (q .0)) (clash v (text k t) rs) _ (λ z. tt)
 
-text-begun : (imposed : Option Version) (start : ℕ) (s : State) (l : Bytes) → OnOk (λ q. Begun (q .0)) (stepText imposed start s l)
+text-begun : (counted : Bool) (imposed : Option Version) (start : ℕ) (s : State) (l : Bytes) → OnOk (λ q. Begun (q .0)) (stepText counted imposed start s l)
 unfolding stepText
-text-begun imposed start empty l = elim (see (readRecord v4-5 l)) [ was r e ↦ rw e (begin-begun imposed start l r) | not-read m e ↦ rw e tt ]
-text-begun imposed start (ready v rs) l = elim (test (starts (ascii "#CHROM") l)) [
+text-begun counted imposed start empty l = elim (see (readRecord v4-5 l)) [ was r e ↦ rw e (begin-begun counted imposed start l r) | not-read m e ↦ rw e tt ]
+text-begun counted imposed start (ready v rs) l = elim (test (starts (ascii "#CHROM") l)) [
   | pass e ↦ elim (see (readColumns l)) [ was c a ↦ rw (stepText, e, a) tt | not-read m a ↦ rw (stepText, e, a) tt ]
-  | fail e ↦ elim (see (readRecord v l)) [ was r a ↦ rw (stepText, e, a) (enter-begun v rs start l r) | not-read m a ↦ rw (stepText, e, a) tt ]
+  | fail e ↦ elim (see (readRecord v l)) [ was r a ↦ rw (stepText, e, a) (enter-begun counted v rs start l r) | not-read m a ↦ rw (stepText, e, a) tt ]
 ]
-text-begun imposed start (done v rs c) l = tt
+text-begun counted imposed start (done v rs c) l = tt
 
 pub step-begun : (lim : Limits) (imposed : Option Version) (start : ℕ) (s : State) (l : Bytes) {q : State × List Entry} → step lim imposed start s l ≡ ok q → Begun (q .0)
 step-begun lim imposed start s l a =
-    on-ok (λ q. Begun (q .0)) (text-begun imposed start s l) (on-ok (Taken lim imposed start s l) (step-taken lim imposed start s l) a .2)
+    on-ok (λ q. Begun (q .0)) (text-begun (lim .counted) imposed start s l) (on-ok (Taken lim imposed start s l) (step-taken lim imposed start s l) a .2)
 
 run-keeps : (lim : Limits) (imposed : Option Version) (room n start count : ℕ) (s : State) (ps : List Bytes) → (s ≡ empty → n ≡ 0) → Keeps lim imposed n start s ps (run lim imposed room n start count s ps)
 unfolding run

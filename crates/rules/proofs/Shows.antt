@@ -1,7 +1,7 @@
 -- Demand 2: what the calls show of an accepted header's entries. Assumes nothing.
 use Prim.Native.Nat.{ℕ, zero, suc, _+_, _-_, _≤_}
 use native.Mathlib.Omega.{arith}
-use mathlib.Core.Path.{_≡_, refl, sym, ap, _∙_}
+use mathlib.Core.Path.{_≡_, refl, sym, ap, ap₂, _∙_}
 use mathlib.Core.Bool.{Bool, true, false, _||_, _&&_, false≢true}
 use mathlib.Core.List.{List, [], _∷_, _++_, tail, append-assoc}
 use mathlib.Core.Option.{Option, none, some}
@@ -23,9 +23,9 @@ use Rattle.rules.specs.Sizes.{Limits}
 use Rattle.rules.specs.Version.{Version}
 use Rattle.rules.specs.Known.{Kind, INFO, FILTER, FORMAT, ALT, contig, other, kindOf, alwaysMap, nameOf, tagOf}
 use Rattle.rules.specs.Map.{isSome, fieldNamed, meaningOfField as valueOfField, valueNamed, missing}
-use Rattle.rules.specs.Record.{fields, readRecord}
-use Rattle.rules.specs.Entry.{Entry, mapKind, plainEntry, mapEntry, fieldsStart, textNamed, recordEntry}
-use Rattle.rules.specs.Shown.{Part, hasId, saysNoId, wellFormed, lineIn, idIn, idMeaning, idPart, nthFieldPart, recordFieldPart, entryFieldPart}
+use Rattle.rules.specs.Record.{Record, fileformat, fields, text, readRecord}
+use Rattle.rules.specs.Entry.{Entry, mapKind, textKind, plainEntry, mapEntry, fieldsStart, textNamed, recordKind, lineEntry, Counts, fieldsOf, countsOf, withCounts, recordEntry}
+use Rattle.rules.specs.Shown.{Part, hasId, saysNoId, countsInPlace, wellFormed, lineIn, idIn, idMeaning, ofKind, readAlone, tells, countedAs, entryRecord, idPart, nthFieldPart, entryFieldPart}
 use Rattle.rules.specs.House.{writeMore, writeFields, writeRecord}
 use Rattle.rules.specs.Meaning.{tagIn as tagInField}
 use Rattle.values.proofs.Sames.{same-sound}
@@ -147,13 +147,13 @@ part-part h start l a e p s =
 
 -- The calls
 
-pub map-kind : (kind : Kind) → (hasId (mapKind kind) ≡ true) × (leb 1 (mapKind kind) && leb (mapKind kind) 10 ≡ true)
-map-kind INFO = (refl, refl)
-map-kind FILTER = (refl, refl)
-map-kind FORMAT = (refl, refl)
-map-kind ALT = (refl, refl)
-map-kind contig = (refl, refl)
-map-kind other = (refl, refl)
+pub map-kind : (kind : Kind) → (hasId (mapKind kind) ≡ true) × (leb 1 (mapKind kind) && leb (mapKind kind) 10 ≡ true) × (leb (mapKind kind) 8 ≡ true)
+map-kind INFO = (refl, refl, refl)
+map-kind FILTER = (refl, refl, refl)
+map-kind FORMAT = (refl, refl, refl)
+map-kind ALT = (refl, refl, refl)
+map-kind contig = (refl, refl, refl)
+map-kind other = (refl, refl, refl)
 
 pub tag-small : (key : Bytes) → tagOf key ≤ 2
 tag-small key = elim (test (same key (ascii "Child"))) [
@@ -216,13 +216,6 @@ id-in v k fs m = go (fieldNamed v k (ascii "ID") fs) refl (textNamed v k (ascii 
       },
     )
 
-line-part : (h : Bytes) (v : Version) (i : ℕ) (e : Entry) → hasId (e .kind) ≡ true → isUtf8 (lineIn h e) ≡ true
-    → entryFieldPart h v i (some e) ≡ recordFieldPart (e .start) (e .kind) (readRecord v (lineIn h e)) i
-line-part h v i e q u = rw (entryFieldPart, q, u)
-
-fields-part : (start kind : ℕ) (k : Bytes) (fs : List Field) (i : ℕ) → mapKind (kindOf k) ≡ kind → recordFieldPart start kind (ok (fields k fs)) i ≡ nthFieldPart (start + fieldsStart k) fs i
-fields-part start kind k fs i e = rw (recordFieldPart, eq-eqb (mapKind (kindOf k)) kind e)
-
 -- a field's part, in the line and in the header
 pub shift-part : (s at : ℕ) (fs : List Field) (i : ℕ) → nthFieldPart (s + at) fs i ≡ shifted s (nthFieldPart at fs i)
 unfolding nthFieldPart
@@ -236,10 +229,64 @@ header-part h s l p n none (some y) b = b
 header-part h s l p n (some f) none b = b
 header-part h s l p n (some f) (some y) b = (part-part h s l (y .0) (y .1) p (b .1) ∙ b .0, omega (arith, b .1))
 
--- an entry of a kind without an ID is well formed
-pub plain-formed : (kind start len size : ℕ) → leb 1 kind && leb kind 10 ≡ true → hasId kind ≡ false → start + len ≤ size → wellFormed size (plainEntry kind start len) ≡ true
+-- The entry of a record: where its line stands, and what the line is when it is read again
+
+pub record Placed (kind start len : ℕ) (e : Entry) : Type 0 where
+  pub is-kind : e .kind ≡ kind
+  pub is-start : e .start ≡ start
+  pub is-length : e .length ≡ len
+
+pub entry-placed : (counted : Bool) (v : Version) (start : ℕ) (l : Bytes) (r : Record) → Placed (recordKind r) start (length l) (recordEntry counted v start l r)
+unfolding recordEntry lineEntry
+entry-placed counted v start l (fileformat w) = record { is-kind = refl; is-start = refl; is-length = refl }
+entry-placed counted v start l (fields k fs) = go (textNamed v k (ascii "ID") (fieldsStart k) fs)
+  where
+    go : (o : Option (Bytes × Text)) → Placed (mapKind (kindOf k)) start (length l) (withCounts (countsOf counted (fields k fs)) (mapEntry (mapKind (kindOf k)) start (length l) o))
+    go none = record { is-kind = refl; is-start = refl; is-length = refl }
+    go (some p) = record { is-kind = refl; is-start = refl; is-length = refl }
+entry-placed counted v start l (text k t) = record { is-kind = refl; is-start = refl; is-length = refl }
+
+placed-line : (h : Bytes) (kind start : ℕ) (l : Bytes) (e : Entry) → Placed kind start (length l) e → part h start (start + length l) ≡ l → lineIn h e ≡ l
+unfolding lineIn
+placed-line h kind start l e p here = let m : start + length l - start ≡ length l = omega arith in rw (p .is-start, p .is-length) (rw m at here)
+
+-- a line that is read alone as a record of its kind
+pub alone : (v : Version) (l : Bytes) (r : Record) → isUtf8 l ≡ true → readRecord v l ≡ ok r → readAlone v (recordKind r) l ≡ some r
+unfolding readAlone
+alone v l r u e =
+    ap (λ (q : Bool). elim q [ true ↦ ofKind (recordKind r) (readRecord v l) | false ↦ none ]) u
+    ∙ ap (ofKind (recordKind r)) e
+    ∙ ap (λ (q : Bool). elim q [ true ↦ some r | false ↦ none ]) (eq-eqb (recordKind r) (recordKind r) refl)
+
+-- an entry tells the counts that it was given
+pub tells-own : (counted : Bool) (r : Record) (e : Entry) → tells (withCounts (countsOf counted r) e) (countsOf counted r) ≡ true
+unfolding tells
+tells-own counted r e = rw (eq-eqb (countsOf counted r .keyLength) (countsOf counted r .keyLength) refl, eq-eqb (countsOf counted r .fieldCount) (countsOf counted r .fieldCount) refl)
+
+-- an entry's line, read again
+pub placed-again : (counted : Bool) (h : Bytes) (v : Version) (start : ℕ) (l : Bytes) (r : Record) (e : Entry) → Placed (recordKind r) start (length l) e → tells e (countsOf counted r) ≡ true
+    → part h start (start + length l) ≡ l → isUtf8 l ≡ true → readRecord v l ≡ ok r → entryRecord counted h v e ≡ some r
+unfolding entryRecord
+placed-again counted h v start l r e p t here u q =
+    ap₂ (λ (k : ℕ) (x : Bytes). countedAs counted e (readAlone v k x)) (p .is-kind) (placed-line h (recordKind r) start l e p here)
+    ∙ ap (countedAs counted e) (alone v l r u q)
+    ∙ ap (λ (q : Bool). elim q [ true ↦ some r | false ↦ none ]) t
+
+again-part : (counted : Bool) (h : Bytes) (v : Version) (i : ℕ) (e : Entry) (k : Bytes) (fs : List Field) → hasId (e .kind) ≡ true → entryRecord counted h v e ≡ some (fields k fs)
+    → entryFieldPart counted h v i (some e) ≡ nthFieldPart (e .start + fieldsStart k) fs i
+again-part counted h v i e k fs q r = rw (entryFieldPart, q, r)
+
+-- an entry of a kind without an ID is well formed, if it tells nothing that its kind has not
+pub plain-formed : (c : Counts) (kind start len size : ℕ) → leb 1 kind && leb kind 10 ≡ true → hasId kind ≡ false → countsInPlace (withCounts c (plainEntry kind start len)) ≡ true
+    → start + len ≤ size → wellFormed size (withCounts c (plainEntry kind start len)) ≡ true
 unfolding wellFormed saysNoId
-plain-formed kind start len size k i fits = rw (k, i, le-leb (start + len) size fits, le-leb 0 len (omega arith))
+plain-formed c kind start len size k i m fits = rw (k, i, le-leb (start + len) size fits, le-leb 0 len (omega arith)) m
+
+-- the counts of a record without fields are those that its kind may have
+pub plain-counts : (counted : Bool) (kind start len : ℕ) (r : Record) → leb kind 8 ≡ true → fieldsOf r ≡ [] → countsInPlace (withCounts (countsOf counted r) (plainEntry kind start len)) ≡ true
+unfolding countsInPlace countsOf
+plain-counts true kind start len r k e = rw (k, e) (or-on (hasId kind) refl)
+plain-counts false kind start len r k e = rw k (or-on (hasId kind) refl)
 
 -- an entry of an accepted header: it is well formed, and what the calls show of it
 module _ (lim : Limits) (h : Bytes) (v : Version) where
@@ -248,14 +295,16 @@ module _ (lim : Limits) (h : Bytes) (v : Version) where
     l = writeRecord (fields k fs)
 
     abbrev e : Entry
-    e = mapEntry (mapKind (kindOf k)) start (length l) (some p)
+    e = withCounts (countsOf (lim .counted) (fields k fs)) (mapEntry (mapKind (kindOf k)) start (length l) (some p))
+
+    map-placed : Placed (mapKind (kindOf k)) start (length l) e
+    map-placed = record { is-kind = refl; is-start = refl; is-length = refl }
 
     map-line : lineIn h e ≡ l
-    unfolding lineIn
-    map-line = let m : start + length l - start ≡ length l = omega arith in rw m at (at .here)
+    map-line = placed-line h (mapKind (kindOf k)) start l e map-placed (at .here)
 
     map-formed : wellFormed (length h) e ≡ true
-    unfolding wellFormed
+    unfolding wellFormed countsInPlace
     map-formed =
         let kc = map-kind (kindOf k) in
         let t : eqb (tagOf (p .0)) 0 || (eqb (mapKind (kindOf k)) 7 && leb (tagOf (p .0)) 2) ≡ true = rw (i .tagged) (tag-fits v k fs) in
@@ -265,6 +314,7 @@ module _ (lim : Limits) (h : Bytes) (v : Version) where
           kc .0,
           le-leb (start + length l) (length h) (at .inside),
           le-leb (p .1 .start + (p .1 .end - p .1 .start)) (length l) (omega (arith, i .ordered, i .inside)),
+          kc .2,
         )
 
     map-id : idMeaning h e ≡ valueNamed v k (ascii "ID") fs
@@ -273,16 +323,17 @@ module _ (lim : Limits) (h : Bytes) (v : Version) where
         let m : start + p .1 .end - (start + p .1 .start) ≡ p .1 .end - p .1 .start = omega (arith, i .ordered) in
         rw (rw m at (part-part h start l (p .1 .start) (p .1 .end) (at .here) (i .inside))) (i .means)
 
-    map-fields : readRecord v l ≡ ok (fields k fs) → (n : ℕ) → PartOf h (nth fs n) (entryFieldPart h v n (some e))
+    map-fields : readRecord v l ≡ ok (fields k fs) → (n : ℕ) → PartOf h (nth fs n) (entryFieldPart (lim .counted) h v n (some e))
     map-fields r n =
-        rw (line-part h v n e (map-kind (kindOf k) .0) (rw map-line (at .utf8)), map-line, r, fields-part start (mapKind (kindOf k)) k fs n refl, shift-part start (fieldsStart k) fs n)
+        let again = placed-again (lim .counted) h v start l (fields k fs) e map-placed (tells-own (lim .counted) (fields k fs) e) (at .here) (at .utf8) r in
+        rw (again-part (lim .counted) h v n e k fs (map-kind (kindOf k) .0) again, shift-part start (fieldsStart k) fs n)
         (header-part h start l (at .here) (at .inside) (nth fs n) (nthFieldPart (fieldsStart k) fs n) (field-part l (fieldsStart k) fs n (line-fields k fs)))
 
-    pub map-shown : readRecord v l ≡ ok (fields k fs) → ShowsMap h v k fs l e
+    pub map-shown : readRecord v l ≡ ok (fields k fs) → ShowsMap (lim .counted) h v k fs l e
     map-shown r = record { formed = map-formed; kind = refl; line = map-line; tag = i .tagged; id = map-id; field = map-fields r }
 
-  pub shows-map : (k : Bytes) (fs : List Field) (e : Entry) (row : Row lim h v e (fields k fs)) → missing v k fs ≡ 0 → ShowsMap h v k fs (row .line) e
-  unfolding recordEntry
+  pub shows-map : (k : Bytes) (fs : List Field) (e : Entry) (row : Row lim h v e (fields k fs)) → missing v k fs ≡ 0 → ShowsMap (lim .counted) h v k fs (row .line) e
+  unfolding recordEntry lineEntry
   shows-map k fs e row m =
       let d = id-in v k fs m in
       let w : row .line ≡ writeRecord (fields k fs) = on-ok (LineOf (row .line)) (record-in v (row .line)) (row .read) in
@@ -290,13 +341,18 @@ module _ (lim : Limits) (h : Bytes) (v : Version) where
       let r : readRecord v (writeRecord (fields k fs)) ≡ ok (fields k fs) = rw w at (row .read) in
       rw (row .entry, w, d .1 .is) (map-shown k fs (row .start) (d .0) (d .1) at r)
 
-  pub shows-plain : (kind start : ℕ) (l : Bytes) → leb 1 kind && leb kind 10 ≡ true → hasId kind ≡ false → part h start (start + length l) ≡ l → start + length l ≤ length h
-      → ShowsPlain h kind l (plainEntry kind start (length l))
-  unfolding lineIn
-  shows-plain kind start l k i here fits = record {
-    formed = plain-formed kind start (length l) (length h) k i fits;
+  pub shows-plain : (c : Counts) (kind start : ℕ) (l : Bytes) → leb 1 kind && leb kind 10 ≡ true → hasId kind ≡ false → countsInPlace (withCounts c (plainEntry kind start (length l))) ≡ true
+      → part h start (start + length l) ≡ l → start + length l ≤ length h → ShowsPlain h kind l (withCounts c (plainEntry kind start (length l)))
+  shows-plain c kind start l k i m here fits = record {
+    formed = plain-formed c kind start (length l) (length h) k i m fits;
     is-kind = refl;
-    line = let m : start + length l - start ≡ length l = omega arith in rw m at here;
+    line = placed-line h kind start l _ (record { is-kind = refl; is-start = refl; is-length = refl }) here;
     id = rw (idPart, i);
-    field = λ w j. rw (entryFieldPart, i);
+    field = λ counted w j. rw (entryFieldPart, i);
   }
+
+  pub shows-text : (k t : Bytes) (e : Entry) (row : Row lim h v e (text k t)) → ShowsPlain h textKind (row .line) e
+  unfolding recordEntry lineEntry
+  shows-text k t e row =
+      rw (row .entry) (shows-plain (countsOf (lim .counted) (text k t)) textKind (row .start) (row .line) refl refl
+      (plain-counts (lim .counted) textKind (row .start) (length (row .line)) (text k t) refl refl) (row .there .here) (row .there .inside))

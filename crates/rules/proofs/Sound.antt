@@ -2,7 +2,7 @@
 use Prim.Native.Nat.{ℕ, suc, _+_, _≤_}
 use native.Mathlib.Omega.{arith}
 use mathlib.Core.Path.{_≡_, refl, ap, _∙_}
-use mathlib.Core.Bool.{true, false}
+use mathlib.Core.Bool.{Bool, true, false}
 use mathlib.Core.List.{List, [], _∷_, _++_}
 use mathlib.Core.Option.{Option}
 use lib.Dec.{leb}
@@ -57,34 +57,34 @@ Stepped s q = Inv (q .0) × (entriesIn (q .0) ≡ entriesIn s + length (q .1))
 pub good-snoc : (v : Version) (rs : List Record) (r : Record) → Good v rs → Entered v r → clash v r rs ≡ 0 → Good v (rs ++ r ∷ [])
 good-snoc v rs r g h c = record { sized = g .sized; good = all-append (Entered v) rs (r ∷ []) (g .good) (h, tt); apart = apart-snoc v rs r (g .apart) c }
 
-begin-good : (imposed : Option Version) (start : ℕ) (l : Bytes) (r : Record) → SizedOption imposed → GoodRecord v4-5 r → OnOk (Stepped empty) (begin imposed start l r)
-begin-good imposed start l (fileformat w) i h = (record { sized = force-sized imposed w i h; good = tt; apart = tt }, omega arith)
-begin-good imposed start l (fields k fs) i h = tt
-begin-good imposed start l (text k t) i h = tt
+begin-good : (counted : Bool) (imposed : Option Version) (start : ℕ) (l : Bytes) (r : Record) → SizedOption imposed → GoodRecord v4-5 r → OnOk (Stepped empty) (begin counted imposed start l r)
+begin-good counted imposed start l (fileformat w) i h = (record { sized = force-sized imposed w i h; good = tt; apart = tt }, omega arith)
+begin-good counted imposed start l (fields k fs) i h = tt
+begin-good counted imposed start l (text k t) i h = tt
 
-enter-good : (v : Version) (rs : List Record) (start : ℕ) (l : Bytes) (r : Record) → Good v rs → GoodRecord v r → OnOk (Stepped (ready v rs)) (enter v rs start l r)
-enter-good v rs start l (fileformat w) g h = tt
-enter-good v rs start l (fields k fs) g h =
+enter-good : (counted : Bool) (v : Version) (rs : List Record) (start : ℕ) (l : Bytes) (r : Record) → Good v rs → GoodRecord v r → OnOk (Stepped (ready v rs)) (enter counted v rs start l r)
+enter-good counted v rs start l (fileformat w) g h = tt
+enter-good counted v rs start l (fields k fs) g h =
     judged-ok (Stepped (ready v rs)) (clash v (fields k fs) rs) _ (λ z. (good-snoc v rs (fields k fs) g h z, rw (length-append rs (fields k fs ∷ [])) (omega arith)))
-enter-good v rs start l (text k t) g h =
+enter-good counted v rs start l (text k t) g h =
     judged-ok (Stepped (ready v rs)) (clash v (text k t) rs) _ (λ z. (good-snoc v rs (text k t) g h z, rw (length-append rs (text k t ∷ [])) (omega arith)))
 
 finish-good : (v : Version) (rs : List Record) (start : ℕ) (l : Bytes) (c : Columns) → Good v rs → GoodColumns c → OnOk (Stepped (ready v rs)) (finish v rs start l c)
 unfolding columnEntries
 finish-good v rs start l c g h = ((g, h), rw (samples-count (start + samplesStart) (c .samples)) (omega arith))
 
-text-good : (imposed : Option Version) (start : ℕ) (s : State) (l : Bytes) → SizedOption imposed → Inv s → Pure l → OnOk (Stepped s) (stepText imposed start s l)
+text-good : (counted : Bool) (imposed : Option Version) (start : ℕ) (s : State) (l : Bytes) → SizedOption imposed → Inv s → Pure l → OnOk (Stepped s) (stepText counted imposed start s l)
 unfolding stepText
-text-good imposed start empty l i inv p = bind-ok (GoodRecord v4-5) (Stepped empty) (readRecord v4-5 l) _ (record-good v4-5 l p) (λ r h. begin-good imposed start l r i h)
-text-good imposed start (ready v rs) l i inv p = elim (test (starts (ascii "#CHROM") l)) [
+text-good counted imposed start empty l i inv p = bind-ok (GoodRecord v4-5) (Stepped empty) (readRecord v4-5 l) _ (record-good v4-5 l p) (λ r h. begin-good counted imposed start l r i h)
+text-good counted imposed start (ready v rs) l i inv p = elim (test (starts (ascii "#CHROM") l)) [
   | pass e ↦ rw (stepText, e) (bind-ok GoodColumns (Stepped (ready v rs)) (readColumns l) _ (columns-good l p) (λ c h. finish-good v rs start l c inv h))
-  | fail e ↦ rw (stepText, e) (bind-ok (GoodRecord v) (Stepped (ready v rs)) (readRecord v l) _ (record-good v l p) (λ r h. enter-good v rs start l r inv h))
+  | fail e ↦ rw (stepText, e) (bind-ok (GoodRecord v) (Stepped (ready v rs)) (readRecord v l) _ (record-good v l p) (λ r h. enter-good counted v rs start l r inv h))
 ]
-text-good imposed start (done v rs c) l i inv p = tt
+text-good counted imposed start (done v rs c) l i inv p = tt
 
 -- a line that is taken is short and UTF-8
 abbrev pub Taken : Limits → Option Version → ℕ → State → Bytes → State × List Entry → Type 0
-Taken lim imposed start s l q = (length l ≤ lim .line) × (isUtf8 l ≡ true) × (stepText imposed start s l ≡ ok q)
+Taken lim imposed start s l q = (length l ≤ lim .line) × (isUtf8 l ≡ true) × (stepText (lim .counted) imposed start s l ≡ ok q)
 
 pub step-taken : (lim : Limits) (imposed : Option Version) (start : ℕ) (s : State) (l : Bytes) → OnOk (Taken lim imposed start s l) (step lim imposed start s l)
 unfolding step
@@ -92,7 +92,7 @@ step-taken lim imposed start s l = elim (test (isDone s)) [
   | pass d ↦ rw (step, d) tt
   | fail d ↦ elim (test (leb (length l) (lim .line))) [
     | pass e ↦ elim (test (isUtf8 l)) [
-      | pass u ↦ rw (step, d, e, u) (same (stepText imposed start s l) (leb-true (length l) (lim .line) e) u)
+      | pass u ↦ rw (step, d, e, u) (same (stepText (lim .counted) imposed start s l) (leb-true (length l) (lim .line) e) u)
       | fail u ↦ rw (step, d, e, u) tt
     ]
     | fail e ↦ rw (step, d, e) tt
@@ -105,7 +105,7 @@ step-taken lim imposed start s l = elim (test (isDone s)) [
 
 -- a line that may be taken is judged by its text
 pub step-text : (lim : Limits) (imposed : Option Version) (start : ℕ) (s : State) (l : Bytes) → length l ≤ lim .line → isUtf8 l ≡ true → isDone s ≡ false
-    → step lim imposed start s l ≡ stepText imposed start s l
+    → step lim imposed start s l ≡ stepText (lim .counted) imposed start s l
 unfolding step
 step-text lim imposed start s l h u d = rw (d, le-leb (length l) (lim .line) h, u, step)
 
@@ -113,7 +113,7 @@ pub step-good : (lim : Limits) (imposed : Option Version) (start : ℕ) (s : Sta
     → OnOk (Stepped s) (step lim imposed start s l)
 step-good lim imposed start s l i inv n =
     map-ok (Taken lim imposed start s l) (Stepped s) (step lim imposed start s l)
-    (λ q t. on-ok (Stepped s) (text-good imposed start s l i inv (record { utf8 = t .1; line = n })) (t .2)) (step-taken lim imposed start s l)
+    (λ q t. on-ok (Stepped s) (text-good (lim .counted) imposed start s l i inv (record { utf8 = t .1; line = n })) (t .2)) (step-taken lim imposed start s l)
 
 -- a run, one piece at a time
 module _ (lim : Limits) (imposed : Option Version) (room n start count : ℕ) (s : State) (p : Bytes) (ps : List Bytes) where

@@ -1,25 +1,21 @@
 -- How numbers were spelled: what accepts, means and writes doesn't look at it, and every entry of an accepted header tells it. Assumes nothing.
 use Prim.Native.Nat.{ℕ}
-use mathlib.Core.Path.{_≡_, refl, ap, ap₂, _∙_}
-use mathlib.Core.Bool.{Bool, true, false}
+use mathlib.Core.Path.{_≡_, refl}
+use mathlib.Core.Bool.{Bool}
 use mathlib.Core.List.{List}
-use mathlib.Core.Option.{Option, none, some}
-use borrow.Author.Tests.{eq-eqb}
+use mathlib.Core.Option.{Option, some}
 use Rattle.values.specs.Bytes.{Bytes}
 use Rattle.values.specs.Field.{Field}
-use Rattle.values.specs.Utf8.{isUtf8}
 use Rattle.values.specs.declared.integer.IntegerRead.{IntegerRead}
 use Rattle.values.specs.declared.integer.IntegerRead.the-variants as integer
-use Rattle.rules.specs.Answer.{ok}
 use Rattle.rules.specs.Sizes.{Limits}
 use Rattle.rules.specs.Version.{Version, versionFrom}
 use Rattle.rules.specs.Known.{Number, kindOf, countOr}
 use Rattle.rules.specs.Map.{isValue}
-use Rattle.rules.specs.Record.{fields, readRecord}
-use Rattle.rules.specs.Entry.{Entry, mapKind}
-use Rattle.rules.specs.Shown.{hasId, lineIn}
+use Rattle.rules.specs.Record.{fields}
+use Rattle.rules.specs.Entry.{Entry}
 use Rattle.rules.specs.Meaning.{numberOrWord}
-use Rattle.rules.specs.Spelling.{hasOdd, recordOdd, lineOdd, entryOdd}
+use Rattle.rules.specs.Spelling.{hasOdd, entryOdd}
 use Rattle.rules.specs.Claims.{Shown}
 use Rattle.rules.proofs.Shows.{map-kind}
 
@@ -34,19 +30,7 @@ spelling-unseen n p q = (refl, λ o. refl, λ t. refl, λ i. same i)
     same (integer.Value m r) = refl
     same integer.Refused = refl
 
-line-odd : (v : Version) (k : Bytes) (fs : List Field) (l : Bytes) → isUtf8 l ≡ true → readRecord v l ≡ ok (fields k fs) → lineOdd v (mapKind (kindOf k)) l ≡ some (hasOdd v k fs)
-unfolding lineOdd
-line-odd v k fs l u r =
-    ap (λ (q : Bool). elim q [ true ↦ recordOdd v (mapKind (kindOf k)) (readRecord v l) | false ↦ none ]) u
-    ∙ ap (recordOdd v (mapKind (kindOf k))) r
-    ∙ ap (λ (q : Bool). elim q [ true ↦ some (hasOdd v k fs) | false ↦ none ]) (eq-eqb (mapKind (kindOf k)) (mapKind (kindOf k)) refl)
-
 -- the entry of a map tells how the numbers of its record were spelled, and is never refused
 pub entry-odd : (lim : Limits) (h : Bytes) (v : Version) (es : List Entry) (n : ℕ) (k : Bytes) (fs : List Field) (s : Shown lim h v es n (fields k fs))
-    → entryOdd h v (some (s .entry)) ≡ some (hasOdd v k fs)
-entry-odd lim h v es n k fs s =
-    let e = s .entry in
-    let id : hasId (e .kind) ≡ true = ap hasId (s .shows .kind) ∙ map-kind (kindOf k) .0 in
-    ap (λ (q : Bool). elim q [ true ↦ lineOdd v (e .kind) (lineIn h e) | false ↦ some false ]) id
-    ∙ ap₂ (lineOdd v) (s .shows .kind) (s .shows .line)
-    ∙ line-odd v k fs (s .line) (s .there .utf8) (s .read)
+    → entryOdd (lim .counted) h v (some (s .entry)) ≡ some (hasOdd v k fs)
+entry-odd lim h v es n k fs s = rw (entryOdd, s .shows .kind, map-kind (kindOf k) .0, s .tells .again)

@@ -4,24 +4,22 @@ use native.Mathlib.Omega.{arith}
 use mathlib.Core.Path.{_≡_, refl, sym, ap, subst, _∙_}
 use mathlib.Core.Bool.{Bool, true, false, _&&_}
 use mathlib.Core.List.{List, [], _∷_, _++_, tail, append-nil}
-use mathlib.Core.Option.{Option, none, some}
+use mathlib.Core.Option.{Option}
 use lib.Dec.{leb}
 use lib.ListN.{length, drop, length-append, length-drop}
 use lib.Seq.{drop-drop}
 use borrow.Author.Tests.{leb-true}
 use Rattle.values.specs.Bytes.{Bytes, LF, ascii, is, any, starts, TAB}
-use Rattle.values.specs.declared.string.Text.{Text}
-use Rattle.values.proofs.Tests.{pass, fail, test, never}
+use Rattle.values.proofs.Tests.{pass, fail, test, never, or-on}
 use Rattle.values.proofs.Fields.{text-here}
 use Rattle.rules.specs.Answer.{ok}
 use Rattle.rules.specs.Sizes.{Limits}
 use Rattle.rules.specs.Lines.{pieces, lineOf}
 use Rattle.rules.specs.Version.{Version, v4-5}
-use Rattle.rules.specs.Known.{kindOf}
 use Rattle.rules.specs.Record.{Record, fileformat, fields, text, readRecord}
 use Rattle.rules.specs.Columns.{Columns, readColumns}
-use Rattle.rules.specs.Entry.{Entry, formatKind, mapKind, textKind, columnsKind, sampleKind, plainEntry, mapEntry, fieldsStart, textNamed, recordEntry, tabbed, samplesStart, sampleEntries, columnEntries}
-use Rattle.rules.specs.Shown.{hasId, wellFormed}
+use Rattle.rules.specs.Entry.{Entry, formatKind, textKind, columnsKind, sampleKind, plainEntry, lineEntry, noCounts, countsOf, recordEntry, tabbed, samplesStart, sampleEntries, columnEntries}
+use Rattle.rules.specs.Shown.{hasId, countsInPlace, wellFormed}
 use Rattle.rules.specs.Reading.{clash, State, empty, ready, done, begin, enter, stepText, step, atEnd, run, reading}
 use Rattle.rules.specs.House.{parted, writeColumns}
 use Rattle.rules.proofs.Firsts.{OnOk, on-ok, judged-ok, was, not-read, see}
@@ -32,7 +30,8 @@ use Rattle.rules.proofs.Samples.{GoodColumns, columnsOf, columns-good, 
 use Rattle.rules.proofs.Records.{GoodRecord, record-good}
 use Rattle.rules.proofs.Sound.{Taken, step-taken, run-refused, run-full, run-more}
 use Rattle.rules.proofs.Trace.{first-line}
-use Rattle.rules.proofs.Shows.{shows-map, plain-formed}
+use Rattle.rules.proofs.Shows.{shows-map, entry-placed, plain-formed, plain-counts}
+use Rattle.rules.proofs.Counts.{counts-small}
 use Rattle.rules.specs.Claims.{All, LineAt, Row}
 
 -- Sample names
@@ -70,13 +69,23 @@ names-start c g = go (c .format) (c .samples) (g .formatted)
 pub record Stands (lim : Limits) (size : ℕ) (e : Entry) : Type 0 where
   pub formed : wellFormed size e ≡ true
   pub short : e .length ≤ lim .line
+  pub key : e .keyLength ≤ e .length
+  pub fields : e .fieldCount ≤ e .length
+  pub uncounted : lim .counted ≡ false → (e .keyLength ≡ 0) × (e .fieldCount ≡ 0)
 
 module _ (lim : Limits) (h : Bytes) where
   abbrev All-stand : List Entry → Type 0
   All-stand = All (Stands lim (length h))
 
   plain-stands : (kind start len : ℕ) → leb 1 kind && leb kind 10 ≡ true → hasId kind ≡ false → start + len ≤ length h → len ≤ lim .line → Stands lim (length h) (plainEntry kind start len)
-  plain-stands kind start len k i fits short = record { formed = plain-formed kind start len (length h) k i fits; short = short }
+  unfolding countsInPlace
+  plain-stands kind start len k i fits short = record {
+    formed = plain-formed noCounts kind start len (length h) k i (rw (or-on (leb kind 8) refl, i)) fits;
+    short = short;
+    key = omega arith;
+    fields = omega arith;
+    uncounted = λ c. (refl, refl);
+  }
 
   -- names in a line that stands at s
   names-stand : (s : ℕ) (l : Bytes) → s + length l ≤ length h → length l ≤ lim .line → (at : ℕ) (xs : List Bytes) → NamesAt l at xs → All-stand (sampleEntries (s + at) xs)
@@ -88,10 +97,6 @@ module _ (lim : Limits) (h : Bytes) where
       let q : s + (at + length x + 1) ≡ s + at + length x + 1 = omega arith in
       (plain-stands sampleKind (s + at) (length x) refl refl (omega (arith, a .1)) (omega (arith, a .1)), rw (← q) (names-stand s l fits short (at + length x + 1) xs (names-next l at x xs a)))
 
-  map-length : (kind start len : ℕ) (o : Option (Bytes × Text)) → mapEntry kind start len o .length ≡ len
-  map-length kind start len none = refl
-  map-length kind start len (some p) = refl
-
   module _ (start : ℕ) (l : Bytes) (there : LineAt lim h start l) (line : any (is LF) l ≡ false) where
     pure : Pure l
     pure = record { utf8 = there .utf8; line = line }
@@ -99,22 +104,31 @@ module _ (lim : Limits) (h : Bytes) where
     abbrev Kept : State × List Entry → Type 0
     Kept q = All-stand (q .1)
 
-    begin-stands : (imposed : Option Version) (r : Record) → OnOk Kept (begin imposed start l r)
-    unfolding recordEntry
-    begin-stands imposed (fileformat v) = (plain-stands formatKind start (length l) refl refl (there .inside) (there .short), tt)
-    begin-stands imposed (fields k fs) = tt
-    begin-stands imposed (text k t) = tt
+    -- the entry of the line's record
+    record-stands : (u v : Version) (r : Record) → readRecord u l ≡ ok r → wellFormed (length h) (recordEntry (lim .counted) v start l r) ≡ true
+        → Stands lim (length h) (recordEntry (lim .counted) v start l r)
+    record-stands u v r e formed =
+        let n = entry-placed (lim .counted) v start l r .is-length in
+        let s = counts-small (lim .counted) u v start l r e in
+        record { formed = formed; short = rw n (there .short); key = rw n (s .0); fields = rw n (s .1); uncounted = s .2 }
 
-    enter-stands : (v : Version) (rs : List Record) (r : Record) → readRecord v l ≡ ok r → OnOk Kept (enter v rs start l r)
-    unfolding recordEntry
+    begin-stands : (imposed : Option Version) (r : Record) → readRecord v4-5 l ≡ ok r → OnOk Kept (begin (lim .counted) imposed start l r)
+    unfolding recordEntry lineEntry
+    begin-stands imposed (fileformat v) e =
+        (record-stands v4-5 v (fileformat v) e (plain-formed (countsOf (lim .counted) (fileformat v)) formatKind start (length l) (length h) refl refl (plain-counts (lim .counted) formatKind start (length l) (fileformat v) refl refl) (there .inside)), tt)
+    begin-stands imposed (fields k fs) e = tt
+    begin-stands imposed (text k t) e = tt
+
+    enter-stands : (v : Version) (rs : List Record) (r : Record) → readRecord v l ≡ ok r → OnOk Kept (enter (lim .counted) v rs start l r)
+    unfolding recordEntry lineEntry
     enter-stands v rs (fileformat w) e = tt
     enter-stands v rs (fields k fs) e = judged-ok Kept (clash v (fields k fs) rs) _ (λ z.
         let g = on-ok (GoodRecord v) (record-good v l pure) e in
-        let new = recordEntry v start l (fields k fs) in
+        let new = recordEntry (lim .counted) v start l (fields k fs) in
         let row : Row lim h v new (fields k fs) = record { start = start; line = l; there = there; read = e; entry = refl } in
-        let n : new .length ≡ length l = map-length (mapKind (kindOf k)) start (length l) (textNamed v k (ascii "ID") (fieldsStart k) fs) in
-        (record { formed = shows-map lim h v k fs new row (g .fine .whole) .formed; short = omega (arith, n, there .short) }, tt))
-    enter-stands v rs (text k t) e = judged-ok Kept (clash v (text k t) rs) _ (λ z. (plain-stands textKind start (length l) refl refl (there .inside) (there .short), tt))
+        (record-stands v v (fields k fs) e (shows-map lim h v k fs new row (g .fine .whole) .formed), tt))
+    enter-stands v rs (text k t) e = judged-ok Kept (clash v (text k t) rs) _ (λ z.
+        (record-stands v v (text k t) e (plain-formed (countsOf (lim .counted) (text k t)) textKind start (length l) (length h) refl refl (plain-counts (lim .counted) textKind start (length l) (text k t) refl refl) (there .inside)), tt))
 
     columns-stand : (c : Columns) → readColumns l ≡ ok c → All-stand (columnEntries start l c)
     unfolding columnEntries
@@ -125,10 +139,10 @@ module _ (lim : Limits) (h : Bytes) where
           names-stand start l (there .inside) (there .short) samplesStart (c .samples) (rw w at (names-start c g)),
         )
 
-    text-stands : (imposed : Option Version) (s : State) → OnOk Kept (stepText imposed start s l)
+    text-stands : (imposed : Option Version) (s : State) → OnOk Kept (stepText (lim .counted) imposed start s l)
     unfolding stepText
     text-stands imposed empty = elim (see (readRecord v4-5 l)) [
-      | was r a ↦ rw (stepText, a) (begin-stands imposed r)
+      | was r a ↦ rw (stepText, a) (begin-stands imposed r a)
       | not-read m a ↦ rw (stepText, a) tt
     ]
     text-stands imposed (ready v rs) = elim (test (starts (ascii "#CHROM") l)) [

@@ -14,12 +14,12 @@ use Rattle.values.proofs.Lists.{on-some, before-from}
 use Rattle.values.proofs.Sames.{same-sound}
 use Rattle.values.proofs.Fields.{tail-is, text-here}
 use Rattle.values.proofs.Places.{FieldIn, field-in}
+use Rattle.rules.specs.Answer.{Answer, ok, refuse}
 use Rattle.rules.specs.Version.{Version, readVersion}
 use Rattle.rules.specs.Known.{alwaysMap}
 use Rattle.rules.specs.Map.{After, more, done, wrong, after, Scan, scan, closingRefusal, readFields, isMeta, mapRefusal, readMap}
-use Rattle.rules.specs.Record.{Record, fileformat, fields, text, isMap, fileformatRead, readRecordValue, readKeyed, readRecord}
+use Rattle.rules.specs.Record.{Record, fileformat, fields, text, isMap, fileformatRead, readRecordValue, readKeyed, readRecord, keyOf}
 use Rattle.rules.specs.Entry.{fieldsStart}
-use Rattle.rules.specs.Reading.{keyOf}
 use Rattle.rules.specs.House.{writeMore, writeFields, writeRecord}
 use Rattle.rules.proofs.Firsts.{OnOk, map-ok, bind-ok, judged-ok}
 use Rattle.rules.proofs.Checks.{fine}
@@ -94,23 +94,27 @@ map-in v k x = elim (test (begins 60 x)) [
 past-value : (k x l : Bytes) → l ≡ ascii "##" ++ (k ++ 61 ∷ x) → drop (fieldsStart k) l ≡ drop 1 x
 past-value k x l e = sym (drop-drop 2 (2 + length k) l) ∙ ap (λ (y : Bytes). drop 2 y) (text-here l 2 k (61 ∷ x) (ap (drop 2) e) .1)
 
+-- a line begins with `##`, the record's key and `=`
+abbrev pub Keyed : Bytes → Record → Type 0
+Keyed l r = (x : Bytes) × (l ≡ ascii "##" ++ (keyOf r ++ 61 ∷ x))
+
 -- what is read of a line with the key k
 abbrev RecordIn : Version → Bytes → Bytes → Record → Type 0
-RecordIn v k l r = LineOf l r × Scanned v l r × (keyOf r ≡ k)
+RecordIn v k l r = LineOf l r × Scanned v l r × (keyOf r ≡ k) × Keyed l r
 
 value-in : (v : Version) (k x l : Bytes) → l ≡ ascii "##" ++ (k ++ 61 ∷ x) → OnOk (RecordIn v k l) (readRecordValue v k x)
 unfolding readRecordValue writeRecord
 value-in v k x l h = elim (test (same k (ascii "fileformat"))) [
   | pass e ↦ rw (readRecordValue, e) (format (readVersion x) e)
   | fail e ↦ elim (test (isMap v k x)) [
-    | pass m ↦ rw (readRecordValue, e, m) (bind-ok (MapIn v k x) (RecordIn v k l) (readMap v k x) _ (map-in v k x) (λ fs q. (h ∙ rw (q .0), rw (past-value k x l h) (q .1), refl)))
-    | fail m ↦ rw (readRecordValue, e, m) (h, tt, refl)
+    | pass m ↦ rw (readRecordValue, e, m) (bind-ok (MapIn v k x) (RecordIn v k l) (readMap v k x) _ (map-in v k x) (λ fs q. (h ∙ rw (q .0), rw (past-value k x l h) (q .1), refl, (x, h))))
+    | fail m ↦ rw (readRecordValue, e, m) (h, tt, refl, (x, h))
   ]
 ]
   where
     format : (a : Option Version) → same k (ascii "fileformat") ≡ true → OnOk (RecordIn v k l) (fileformatRead a)
     format none e = tt
-    format (some w) e = (tt, tt, sym (same-sound k (ascii "fileformat") e))
+    format (some w) e = let n = same-sound k (ascii "fileformat") e in (tt, tt, sym n, (x, h ∙ ap (λ (y : Bytes). ascii "##" ++ (y ++ 61 ∷ x)) n))
 
 line-in : (v : Version) (l : Bytes) → OnOk (RecordIn v (keyIn l) l) (readRecord v l)
 unfolding readRecord readKeyed
@@ -130,6 +134,40 @@ record-in v l = map-ok (RecordIn v (keyIn l) l) (LineOf l) (readRecord v l) (λ 
 pub record-scanned : (v : Version) (l : Bytes) → OnOk (Scanned v l) (readRecord v l)
 record-scanned v l = map-ok (RecordIn v (keyIn l) l) (Scanned v l) (readRecord v l) (λ r h. h .1) (line-in v l)
 
+-- a fileformat line is the same record under every version
+abbrev pub FormatIs : Answer Record → Record → Type 0
+FormatIs a (fileformat w) = a ≡ ok (fileformat w)
+FormatIs a (fields k fs) = Unit {0}
+FormatIs a (text k t) = Unit {0}
+
+pub format-any : (u v : Version) (l : Bytes) → OnOk (FormatIs (readRecord v l)) (readRecord u l)
+unfolding readRecord readKeyed readRecordValue
+format-any u v l = elim (test (starts (ascii "##") l)) [
+  | pass e ↦ let k = before (is 61) (drop 2 l) in let f = from (is 61) (drop 2 l) in
+      elim (test (not (empty k) && begins 61 f)) [
+        | pass q ↦ elim (test (same k (ascii "fileformat"))) [
+          | pass s ↦ rw (readRecord, e, readKeyed, q, readRecordValue, s) (format (readVersion (tail f)))
+          | fail s ↦ elim (test (isMap u k (tail f))) [
+            | pass m ↦ rw (readRecord, e, readKeyed, q, readRecordValue, s, m) (bind-ok (λ fs. Unit {0}) (FormatIs _) (readMap u k (tail f)) _ (any-ok (readMap u k (tail f))) (λ fs t. tt))
+            | fail m ↦ rw (readRecord, e, readKeyed, q, readRecordValue, s, m) tt
+          ]
+        ]
+        | fail q ↦ rw (readRecord, e, readKeyed, q) tt
+      ]
+  | fail e ↦ rw (readRecord, e) tt
+]
+  where
+    format : (a : Option Version) → OnOk (FormatIs (fileformatRead a)) (fileformatRead a)
+    format none = tt
+    format (some w) = refl
+
+    any-ok : (a : Answer (List Field)) → OnOk (λ fs. Unit {0}) a
+    any-ok (ok fs) = tt
+    any-ok (refuse n) = tt
+
 -- and its key is the line's
 pub record-key : (v : Version) (l : Bytes) → OnOk (λ r. keyOf r ≡ keyIn l) (readRecord v l)
 record-key v l = map-ok (RecordIn v (keyIn l) l) (λ r. keyOf r ≡ keyIn l) (readRecord v l) (λ r h. h .2) (line-in v l)
+
+pub record-keyed : (v : Version) (l : Bytes) → OnOk (Keyed l) (readRecord v l)
+record-keyed v l = map-ok (RecordIn v (keyIn l) l) (Keyed l) (readRecord v l) (λ r h. h .3) (line-in v l)

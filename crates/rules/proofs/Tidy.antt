@@ -17,8 +17,7 @@ use Rattle.values.proofs.Decimals.{integer-decimal}
 use Rattle.rules.specs.Version.{Version}
 use Rattle.rules.specs.Known.{Kind, INFO, FILTER, FORMAT, ALT, contig, other, kindOf, isIn, known, numeric, nameOf, tagOf}
 use Rattle.rules.specs.Map.{fieldNamed}
-use Rattle.rules.specs.Record.{Record, fileformat, fields, text}
-use Rattle.rules.specs.Reading.{keyOf}
+use Rattle.rules.specs.Record.{Record, fileformat, fields, text, keyOf}
 use Rattle.rules.specs.Meaning.{Known, number, word, knownValue, knownOf, tagIn, others, saying}
 use Rattle.rules.specs.House.{isWrittenQuoted, writeField, writeKnown, nameOfTag, keyWritten, knownFields, otherFields, recordOf}
 use Rattle.values.proofs.Sames.{same-sound}

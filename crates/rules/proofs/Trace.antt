@@ -2,7 +2,7 @@
 use Prim.Native.Nat.{ℕ, suc, _+_, _≤_}
 use native.Mathlib.Omega.{arith}
 use mathlib.Core.Path.{_≡_, refl, sym, ap, subst, _∙_}
-use mathlib.Core.Bool.{false}
+use mathlib.Core.Bool.{Bool, false}
 use mathlib.Core.List.{List, [], _∷_, _++_, append-assoc, append-nil}
 use mathlib.Core.Option.{Option, none}
 use lib.Dec.{leb}
@@ -25,15 +25,15 @@ use Rattle.rules.proofs.Runs.{first-taken}
 use Rattle.rules.specs.Claims.{Accepted, LineAt, Rows}
 
 -- what a line does in Ready: it enters its record, as it would at any place after any records that it goes with; or it is the column line
-pub data Stepped (imposed : Option Version) (v : Version) (rs : List Record) (start : ℕ) (l : Bytes) (q : State × List Entry) : Type 0 where
-  entered : (r : Record) → readRecord v l ≡ ok r → q ≡ (ready v (rs ++ r ∷ []), recordEntry v start l r ∷ []) → clash v r rs ≡ 0
-      → ((at : ℕ) (xs : List Record) → clash v r xs ≡ 0 → stepText imposed at (ready v xs) l ≡ ok (ready v (xs ++ r ∷ []), recordEntry v at l r ∷ []))
-      → Stepped imposed v rs start l q
-  finished : (c : Columns) → readColumns l ≡ ok c → q ≡ (done v rs c, columnEntries start l c) → Stepped imposed v rs start l q
+pub data Stepped (counted : Bool) (imposed : Option Version) (v : Version) (rs : List Record) (start : ℕ) (l : Bytes) (q : State × List Entry) : Type 0 where
+  entered : (r : Record) → readRecord v l ≡ ok r → q ≡ (ready v (rs ++ r ∷ []), recordEntry counted v start l r ∷ []) → clash v r rs ≡ 0
+      → ((at : ℕ) (xs : List Record) → clash v r xs ≡ 0 → stepText counted imposed at (ready v xs) l ≡ ok (ready v (xs ++ r ∷ []), recordEntry counted v at l r ∷ []))
+      → Stepped counted imposed v rs start l q
+  finished : (c : Columns) → readColumns l ≡ ok c → q ≡ (done v rs c, columnEntries start l c) → Stepped counted imposed v rs start l q
 
-pub text-steps : (imposed : Option Version) (start : ℕ) (v : Version) (rs : List Record) (l : Bytes) → OnOk (Stepped imposed v rs start l) (stepText imposed start (ready v rs) l)
+pub text-steps : (counted : Bool) (imposed : Option Version) (start : ℕ) (v : Version) (rs : List Record) (l : Bytes) → OnOk (Stepped counted imposed v rs start l) (stepText counted imposed start (ready v rs) l)
 unfolding stepText
-text-steps imposed start v rs l = elim (test (starts (ascii "#CHROM") l)) [
+text-steps counted imposed start v rs l = elim (test (starts (ascii "#CHROM") l)) [
   | pass e ↦ elim (see (readColumns l)) [
     | was c a ↦ rw (stepText, e, a) (finished c a refl)
     | not-read m a ↦ rw (stepText, e, a) tt
@@ -44,10 +44,10 @@ text-steps imposed start v rs l = elim (test (starts (ascii "#CHROM") l)) [
   ]
 ]
   where
-    go : starts (ascii "#CHROM") l ≡ false → (r : Record) → readRecord v l ≡ ok r → OnOk (Stepped imposed v rs start l) (enter v rs start l r)
+    go : starts (ascii "#CHROM") l ≡ false → (r : Record) → readRecord v l ≡ ok r → OnOk (Stepped counted imposed v rs start l) (enter counted v rs start l r)
     go e (fileformat w) a = tt
-    go e (fields k fs) a = judged-ok (Stepped imposed v rs start l) (clash v (fields k fs) rs) _ (λ z. entered (fields k fs) a refl z (λ at xs c. rw (stepText, e, a) (judged-zero _ c)))
-    go e (text k t) a = judged-ok (Stepped imposed v rs start l) (clash v (text k t) rs) _ (λ z. entered (text k t) a refl z (λ at xs c. rw (stepText, e, a) (judged-zero _ c)))
+    go e (fields k fs) a = judged-ok (Stepped counted imposed v rs start l) (clash v (fields k fs) rs) _ (λ z. entered (fields k fs) a refl z (λ at xs c. rw (stepText, e, a) (judged-zero _ c)))
+    go e (text k t) a = judged-ok (Stepped counted imposed v rs start l) (clash v (text k t) rs) _ (λ z. entered (text k t) a refl z (λ at xs c. rw (stepText, e, a) (judged-zero _ c)))
 
 -- the first line of what is left of a header, and what is left after it
 pub record FirstLine (h : Bytes) (start : ℕ) (p : Bytes) (ps : List Bytes) : Type 0 where
@@ -102,18 +102,18 @@ done-only lim imposed room n start count v rs c (p ∷ ps) z = absurd (omega (ar
 -- one record more, and the column line
 module _ (lim : Limits) (h : Bytes) (v : Version) (rs : List Record) (start : ℕ) (l : Bytes) (here : LineAt lim h start l) where
   traced-record : {w : Version} {rs′ : List Record} {c : Columns} (r : Record) (es : List Entry) → readRecord v l ≡ ok r → Traced lim h v (rs ++ r ∷ []) w rs′ c es
-      → Traced lim h v rs w rs′ c (recordEntry v start l r ∷ es)
+      → Traced lim h v rs w rs′ c (recordEntry (lim .counted) v start l r ∷ es)
   traced-record r es x d = record {
     version = d .version;
     new = r ∷ d .new;
-    rows = recordEntry v start l r ∷ d .rows;
+    rows = recordEntry (lim .counted) v start l r ∷ d .rows;
     start = d .start;
     line = d .line;
     records = d .records ∙ append-assoc rs (r ∷ []) (d .new);
     all = (record { start = start; line = l; there = here; read = x; entry = refl }, d .all);
     last = d .last;
     read = d .read;
-    these = ap (recordEntry v start l r ∷_) (d .these);
+    these = ap (recordEntry (lim .counted) v start l r ∷_) (d .these);
   }
 
   traced-column : {w : Version} {rs′ : List Record} {c c′ : Columns} → readColumns l ≡ ok c′ → c′ ≡ c → rs ≡ rs′ → v ≡ w → Traced lim h v rs w rs′ c (columnEntries start l c′)
@@ -144,7 +144,7 @@ module _ (lim : Limits) (imposed : Option Version) (room : ℕ) (h : Bytes) (n n
   Later = (r : Record) → Accepted w rs′ c (run lim imposed room n next (count + 1) (ready v (rs ++ r ∷ [])) ps)
       → Traced lim h v (rs ++ r ∷ []) w rs′ c (run lim imposed room n next (count + 1) (ready v (rs ++ r ∷ [])) ps .entries)
 
-  rest-traced : (q : State × List Entry) → LineAt lim h start l → Stepped imposed v rs start l q → Later → Rest q
+  rest-traced : (q : State × List Entry) → LineAt lim h start l → Stepped (lim .counted) imposed v rs start l q → Later → Rest q
   rest-traced q here (entered r x y _ _) ih = subst Rest (sym y) (λ a. traced-record lim h v rs start l here r _ x (ih r a))
   rest-traced q here (finished c′ x y) ih = subst Rest (sym y) (λ a.
       let k = count + length (columnEntries start l c′) in
@@ -166,19 +166,19 @@ traced lim imposed room h (p ∷ ps) n start count v rs l e {w} {rs′} {c} a =
     subst (λ (r : Reading). Traced lim h v rs w rs′ c (r .entries)) (sym (run-more lim imposed room n start count (ready v rs) p ps (t .taken) (t .roomy)))
     (rest-traced lim imposed room h (suc n) (start + length p) count start v rs (lineOf p) ps w rs′ c (t .after)
     (record { here = f .here; inside = f .inside; short = t .line .0; utf8 = t .line .1 })
-    (on-ok (Stepped imposed v rs start (lineOf p)) (text-steps imposed start v rs (lineOf p)) (t .line .2))
+    (on-ok (Stepped (lim .counted) imposed v rs start (lineOf p)) (text-steps (lim .counted) imposed start v rs (lineOf p)) (t .line .2))
     (λ r a′. traced lim imposed room h ps (suc n) (start + length p) (count + 1) v (rs ++ r ∷ []) (f .next) (f .left) a′)
     (t .rest))
 
 -- what the first line does
-data Begun (imposed : Option Version) (l : Bytes) (q : State × List Entry) : Type 0 where
-  begun : (w : Version) → readRecord v4-5 l ≡ ok (fileformat w) → q ≡ (ready (inForce imposed w) [], recordEntry w 0 l (fileformat w) ∷ []) → Begun imposed l q
+data Begun (counted : Bool) (imposed : Option Version) (l : Bytes) (q : State × List Entry) : Type 0 where
+  begun : (w : Version) → readRecord v4-5 l ≡ ok (fileformat w) → q ≡ (ready (inForce imposed w) [], recordEntry counted w 0 l (fileformat w) ∷ []) → Begun counted imposed l q
 
-begin-steps : (imposed : Option Version) (l : Bytes) → OnOk (Begun imposed l) (stepText imposed 0 empty l)
+begin-steps : (counted : Bool) (imposed : Option Version) (l : Bytes) → OnOk (Begun counted imposed l) (stepText counted imposed 0 empty l)
 unfolding stepText
-begin-steps imposed l = elim (see (readRecord v4-5 l)) [ was r e ↦ rw e (go r e) | not-read m e ↦ rw e tt ]
+begin-steps counted imposed l = elim (see (readRecord v4-5 l)) [ was r e ↦ rw e (go r e) | not-read m e ↦ rw e tt ]
   where
-    go : (r : Record) → readRecord v4-5 l ≡ ok r → OnOk (Begun imposed l) (begin imposed 0 l r)
+    go : (r : Record) → readRecord v4-5 l ≡ ok r → OnOk (Begun counted imposed l) (begin counted imposed 0 l r)
     go (fileformat w) e = begun w e refl
     go (fields k fs) e = tt
     go (text k t) e = tt
@@ -196,7 +196,7 @@ pub record TracedHeader (lim : Limits) (imposed : Option Version) (h : Bytes) (v
   pub line : Bytes
   pub last : LineAt lim h start line
   pub readLast : readColumns line ≡ ok c
-  pub these : entries ≡ recordEntry own 0 format (fileformat own) ∷ (rows ++ columnEntries start line c)
+  pub these : entries ≡ recordEntry (lim .counted) own 0 format (fileformat own) ∷ (rows ++ columnEntries start line c)
 
 empty-not : {w : Version} {rs′ : List Record} {c : Columns} → _≡_ {A = State} empty (done w rs′ c) → ⊥
 empty-not e = never cc
@@ -207,7 +207,7 @@ module _ (lim : Limits) (imposed : Option Version) (room : ℕ) (h p : Bytes) (p
   First q = Accepted v rs c (run lim imposed room 1 (0 + length p) (0 + length (q .1)) (q .0) ps)
       → TracedHeader lim imposed h v rs c (q .1 ++ run lim imposed room 1 (0 + length p) (0 + length (q .1)) (q .0) ps .entries)
 
-  first-traced : (q : State × List Entry) → LineAt lim h 0 (lineOf p) → FirstLine h 0 p ps → Begun imposed (lineOf p) q → First q
+  first-traced : (q : State × List Entry) → LineAt lim h 0 (lineOf p) → FirstLine h 0 p ps → Begun (lim .counted) imposed (lineOf p) q → First q
   first-traced q here f (begun w x y) = subst First (sym y) (λ a.
       let d = traced lim imposed room h ps 1 (0 + length p) 1 (inForce imposed w) [] (f .next) (f .left) a in
       record {
@@ -222,7 +222,7 @@ module _ (lim : Limits) (imposed : Option Version) (room : ℕ) (h p : Bytes) (p
         line = d .line;
         last = d .last;
         readLast = d .read;
-        these = ap (recordEntry w 0 (lineOf p) (fileformat w) ∷_) (d .these);
+        these = ap (recordEntry (lim .counted) w 0 (lineOf p) (fileformat w) ∷_) (d .these);
       })
     where
       rows-all : {u : Version} {new : List Record} (es : List Entry) → u ≡ v → rs ≡ new → Rows lim h u es new → Rows lim h v es rs
@@ -237,7 +237,7 @@ run-empty lim imposed room h (p ∷ ps) e {v} {rs} {c} a =
     let t = first-taken lim imposed room 0 0 0 empty p ps a in
     subst (λ (r : Reading). TracedHeader lim imposed h v rs c (r .entries)) (sym (run-more lim imposed room 0 0 0 empty p ps (t .taken) (t .roomy)))
     (first-traced lim imposed room h p ps v rs c (t .after) (record { here = f .here; inside = f .inside; short = t .line .0; utf8 = t .line .1 }) f
-    (on-ok (Begun imposed (lineOf p)) (begin-steps imposed (lineOf p)) (t .line .2)) (t .rest))
+    (on-ok (Begun (lim .counted) imposed (lineOf p)) (begin-steps (lim .counted) imposed (lineOf p)) (t .line .2)) (t .rest))
 
 pub header-traced : (lim : Limits) (imposed : Option Version) (room : ℕ) (h : Bytes) {v : Version} {rs : List Record} {c : Columns}
     → Accepted v rs c (reading lim imposed room h) → TracedHeader lim imposed h v rs c (reading lim imposed room h .entries)

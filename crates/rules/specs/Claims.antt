@@ -4,7 +4,7 @@ use Prim.Native.Nat.{_-_, _^_, _≤_, ℕ, _+_, zero, suc}
 use mathlib.Core.Option.{Option, none, some}
 use Rattle.rules.specs.Version.{Version}
 use mathlib.Core.Path.{_≡_}
-use Rattle.rules.specs.Record.{Record, fileformat, fields, text, readRecord}
+use Rattle.rules.specs.Record.{Record, fileformat, fields, text, keyOf, readRecord}
 use Rattle.rules.specs.Columns.{Columns}
 use Rattle.rules.specs.Reading.{done, Reading, State, step}
 use lib.ListN.{length, drop}
@@ -17,9 +17,9 @@ use mathlib.Core.Bool.{Bool, true, false, not}
 use Rattle.values.specs.Bytes.{Bytes, ascii, is, before, same, part, EQUALS}
 use Rattle.values.specs.Utf8.{isUtf8}
 use Rattle.rules.specs.Answer.{ok}
-use Rattle.rules.specs.Entry.{Entry, mapKind, textKind, recordEntry}
+use Rattle.rules.specs.Entry.{Entry, mapKind, textKind, fieldsOf, recordEntry}
 use Rattle.values.specs.Field.{Field, writtenField}
-use Rattle.rules.specs.Shown.{Part, wellFormed, lineIn, idMeaning, idPart, entryFieldPart}
+use Rattle.rules.specs.Shown.{Part, wellFormed, lineIn, idMeaning, entryRecord, idPart, entryFieldPart, entryKeyPart}
 use Rattle.rules.specs.Lines.{pieces, lineOf}
 
 -- the property holds of each one of a list
@@ -60,7 +60,7 @@ pub record Row (lim : Limits) (h : Bytes) (v : Version) (e : Entry) (r : Record)
   pub line : Bytes
   pub there : LineAt lim h start line
   pub read : readRecord v line ≡ ok r
-  pub entry : e ≡ recordEntry v start line r
+  pub entry : e ≡ recordEntry (lim .counted) v start line r
 
 abbrev pub Rows : Limits → Bytes → Version → List Entry → List Record → Type 0
 Rows lim h v [] [] = Unit {0}
@@ -82,13 +82,13 @@ PartOf l (some f) none = ⊥
 PartOf l (some f) (some p) = (part l (p .0) (p .1) ≡ writtenField f) × (p .1 ≤ length l)
 
 -- an entry of a map is well formed, and shows its line, its ID and each of its fields as written
-pub record ShowsMap (h : Bytes) (v : Version) (k : Bytes) (fs : List Field) (l : Bytes) (e : Entry) : Type 0 where
+pub record ShowsMap (counted : Bool) (h : Bytes) (v : Version) (k : Bytes) (fs : List Field) (l : Bytes) (e : Entry) : Type 0 where
   pub formed : wellFormed (length h) e ≡ true
   pub kind : e .kind ≡ mapKind (kindOf k)
   pub line : lineIn h e ≡ l
   pub tag : e .tag ≡ tagIn (fieldNamed v k (ascii "ID") fs)
   pub id : idMeaning h e ≡ valueNamed v k (ascii "ID") fs
-  pub field : (i : ℕ) → PartOf h (nth fs i) (entryFieldPart h v i (some e))
+  pub field : (i : ℕ) → PartOf h (nth fs i) (entryFieldPart counted h v i (some e))
 
 -- an entry of another kind is well formed and shows its line, and neither an ID nor a field
 pub record ShowsPlain (h : Bytes) (kind : ℕ) (l : Bytes) (e : Entry) : Type 0 where
@@ -96,13 +96,18 @@ pub record ShowsPlain (h : Bytes) (kind : ℕ) (l : Bytes) (e : Entry) : Type 0 
   pub is-kind : e .kind ≡ kind
   pub line : lineIn h e ≡ l
   pub id : idPart (some e) ≡ none
-  pub field : (w : Version) (i : ℕ) → entryFieldPart h w i (some e) ≡ none
+  pub field : (counted : Bool) (w : Version) (i : ℕ) → entryFieldPart counted h w i (some e) ≡ none
 
 -- what is shown of a record's entry
-abbrev pub Shows : Bytes → Version → Bytes → Entry → Record → Type 0
-Shows h v l e (fileformat w) = ⊥
-Shows h v l e (fields k fs) = ShowsMap h v k fs l e
-Shows h v l e (text k t) = ShowsPlain h textKind l e
+abbrev pub Shows : Bool → Bytes → Version → Bytes → Entry → Record → Type 0
+Shows counted h v l e (fileformat w) = ⊥
+Shows counted h v l e (fields k fs) = ShowsMap counted h v k fs l e
+Shows counted h v l e (text k t) = ShowsPlain h textKind l e
+
+-- an entry's line, read again, is its record, with the counts that it tells; where there are any, its key and its number of fields are shown
+pub record Tells (counted : Bool) (h : Bytes) (v : Version) (e : Entry) (r : Record) : Type 0 where
+  pub again : entryRecord counted h v e ≡ some r
+  pub key : counted ≡ true → (p : Part) × (entryKeyPart true (some e) ≡ some (p, length (fieldsOf r))) × (part h (p .0) (p .1) ≡ keyOf r)
 
 -- entry n of the entries shows the record r: its line, and what the calls show of it
 pub record Shown (lim : Limits) (h : Bytes) (v : Version) (es : List Entry) (n : ℕ) (r : Record) : Type 0 where
@@ -112,7 +117,8 @@ pub record Shown (lim : Limits) (h : Bytes) (v : Version) (es : List Entry) (n :
   pub line : Bytes
   pub there : LineAt lim h start line
   pub read : readRecord v line ≡ ok r
-  pub shows : Shows h v line entry r
+  pub shows : Shows (lim .counted) h v line entry r
+  pub tells : Tells (lim .counted) h v entry r
 
 -- entry n of the entries is of a kind without an ID, and shows these bytes
 pub record ShownPlain (h : Bytes) (es : List Entry) (n kind : ℕ) (x : Bytes) : Type 0 where

@@ -1,4 +1,4 @@
--- Document 01, "Entries": what an entry says, and which entries a line has. Assumes nothing.
+-- Document 01, "Entries", and document 02, §10: what an entry says, and which entries a line has. Assumes nothing.
 use Prim.Native.Nat.{ℕ, _+_, _-_}
 use mathlib.Core.Bool.{Bool, true, false}
 use mathlib.Core.List.{List, [], _∷_, _++_}
@@ -10,7 +10,7 @@ use Rattle.values.specs.Places.{textAt}
 use Rattle.values.specs.declared.string.Text.{Text}
 use Rattle.rules.specs.Version.{Version}
 use Rattle.rules.specs.Known.{Kind, INFO, FILTER, FORMAT, ALT, contig, other, kindOf, nameOf, tagOf}
-use Rattle.rules.specs.Record.{Record, fileformat, fields, text}
+use Rattle.rules.specs.Record.{Record, fileformat, fields, text, keyOf}
 use Rattle.rules.specs.Columns.{Columns, columnNames}
 
 -- Kinds: 1 fileformat, 2 INFO, 3 FILTER, 4 FORMAT, 5 ALT, 6 contig, 7 other map, 8 other text, 9 column line, 10 sample
@@ -45,10 +45,13 @@ pub record Entry : Type 0 where
   pub quoted : Bool
   -- 0 ID, 1 Child, 2 Derived
   pub tag : ℕ
+  -- how many bytes the record's key has, and how many fields the record; 0 where that is not counted
+  pub keyLength : ℕ
+  pub fieldCount : ℕ
 
--- the kinds without an ID
+-- an entry that says nothing of an ID, a key and fields
 abbrev pub plainEntry : ℕ → ℕ → ℕ → Entry
-plainEntry kind start len = record { kind = kind; start = start; length = len; offset = 0; idLength = 0; quoted = false; tag = 0 }
+plainEntry kind start len = record { kind = kind; start = start; length = len; offset = 0; idLength = 0; quoted = false; tag = 0; keyLength = 0; fieldCount = 0 }
 
 -- where the first field of a map under the key k stands: after `##`, the key, `=` and `<`
 abbrev pub fieldsStart : Bytes → ℕ
@@ -73,13 +76,58 @@ mapEntry kind start len (some p) = record {
   idLength = p .1 .end - p .1 .start;
   quoted = p .1 .quoted;
   tag = tagOf (p .0);
+  keyLength = 0;
+  fieldCount = 0;
 }
 
--- the entry of a record on the line l, which stands at start; v is the version in force
-unfoldable pub recordEntry : Version → ℕ → Bytes → Record → Entry
-recordEntry v start l (fileformat w) = plainEntry formatKind start (length l)
-recordEntry v start l (fields k fs) = mapEntry (mapKind (kindOf k)) start (length l) (textNamed v k (ascii "ID") (fieldsStart k) fs)
-recordEntry v start l (text k t) = plainEntry textKind start (length l)
+abbrev pub recordKind : Record → ℕ
+recordKind (fileformat v) = formatKind
+recordKind (fields k fs) = mapKind (kindOf k)
+recordKind (text k t) = textKind
+
+-- what a record on the line l, which stands at start, says but for its key and fields; v is the version in force
+unfoldable pub lineEntry : Version → ℕ → Bytes → Record → Entry
+lineEntry v start l (fileformat w) = plainEntry formatKind start (length l)
+lineEntry v start l (fields k fs) = mapEntry (mapKind (kindOf k)) start (length l) (textNamed v k (ascii "ID") (fieldsStart k) fs)
+lineEntry v start l (text k t) = plainEntry textKind start (length l)
+
+-- the length of a record's key, and the number of its fields
+pub record Counts : Type 0 where
+  pub keyLength : ℕ
+  pub fieldCount : ℕ
+
+abbrev pub noCounts : Counts
+noCounts = record { keyLength = 0; fieldCount = 0 }
+
+abbrev pub fieldsOf : Record → List Field
+fieldsOf (fileformat v) = []
+fieldsOf (fields k fs) = fs
+fieldsOf (text k t) = []
+
+-- a number that is told where such are counted
+abbrev pub ifCounted : Bool → ℕ → ℕ
+ifCounted true n = n
+ifCounted false n = 0
+
+unfoldable pub countsOf : Bool → Record → Counts
+countsOf counted r = record { keyLength = ifCounted counted (length (keyOf r)); fieldCount = ifCounted counted (length (fieldsOf r)) }
+
+abbrev pub withCounts : Counts → Entry → Entry
+withCounts c e = record {
+  kind = e .kind;
+  start = e .start;
+  length = e .length;
+  offset = e .offset;
+  idLength = e .idLength;
+  quoted = e .quoted;
+  tag = e .tag;
+  keyLength = c .keyLength;
+  fieldCount = c .fieldCount;
+}
+
+-- the entry of a record
+unfoldable pub recordEntry : Bool → Version → ℕ → Bytes → Record → Entry
+recordEntry counted v start l r = withCounts (countsOf counted r) (lineEntry v start l r)
 
 -- each with a tab after it
 unfoldable pub tabbed : List Bytes → Bytes

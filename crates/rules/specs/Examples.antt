@@ -11,7 +11,7 @@ use Rattle.values.specs.Integer.{unsignedRead, withoutSign, numberOf, decimal, 
 use Rattle.values.specs.Value.{written, unescaped, quotedText, readValues, readValue, escape}
 use Rattle.values.specs.Field.{writtenField, readKey, readField}
 use Rattle.rules.specs.Answer.{first}
-use Rattle.rules.specs.Sizes.{limits}
+use Rattle.rules.specs.Sizes.{Limits, limits, raisedLimits}
 use Rattle.rules.specs.Lines.{pieces, ends, dropEnd, lineOf, writeLine, writeLines}
 use Rattle.rules.specs.Version.{Version, version, earlier, atVersion, readParts, readVersion, writeVersion}
 use Rattle.rules.specs.Known.{INFO, FILTER, ALT, contig, other, isIn, isTyped, kindOf, alwaysMap, rowNamed, namesId, nameOf, letters, types, readNumber}
@@ -19,7 +19,7 @@ use Rattle.rules.specs.Reserved.{lookRow, reserved}
 use Rattle.rules.specs.Map.{after, scan, readFields, checkFields, fieldNamed, missing, misdeclared, mapRefusal, readMap}
 use Rattle.rules.specs.Record.{looksMap, readRecordValue, readKeyed, readRecord}
 use Rattle.rules.specs.Columns.{split, afterColumns, distinct, readColumns}
-use Rattle.rules.specs.Entry.{Entry, formatKind, mapKind, textKind, columnsKind, sampleKind, plainEntry, textNamed, recordEntry, tabbed, samplesStart, sampleEntries, columnEntries}
+use Rattle.rules.specs.Entry.{Entry, formatKind, mapKind, textKind, columnsKind, sampleKind, plainEntry, textNamed, lineEntry, countsOf, recordEntry, tabbed, samplesStart, sampleEntries, columnEntries}
 use Rattle.rules.specs.Reading.{beside, clash, stepText, step, run, reading}
 use Rattle.rules.specs.Meaning.{knownValue, others, saying, under, without, otherKeys, groups, headerMeaning}
 use Rattle.rules.specs.House.{closes, isWrittenQuoted, knownFields, otherFields, recordOf, recordsOf, writeMore, writeFields, writeRecord, parted, writeColumns, houseLines, houseForm, tooLong, formAnswer, house}
@@ -27,7 +27,7 @@ use Rattle.rules.specs.Report.{report}
 
 -- what the definitions need to compute
 unfoldable pub opened : Unit {0}
-unfolding begins any before from same completes followers unsignedRead withoutSign numberOf decimal digitsOf written unescaped quotedText readValues readValue escape writtenField readKey readField first pieces ends dropEnd lineOf writeLine writeLines earlier starts readParts readVersion writeVersion isIn isTyped kindOf alwaysMap namesId nameOf atVersion letters types readNumber lookRow reserved after scan readFields rowNamed checkFields fieldNamed missing misdeclared mapRefusal readMap looksMap readRecordValue readKeyed readRecord split afterColumns distinct readColumns textNamed recordEntry tabbed samplesStart sampleEntries columnEntries beside clash stepText step run reading knownValue others saying under without otherKeys groups headerMeaning closes isWrittenQuoted knownFields otherFields recordOf recordsOf writeMore writeFields writeRecord parted writeColumns houseLines houseForm tooLong formAnswer house report
+unfolding begins any before from same completes followers unsignedRead withoutSign numberOf decimal digitsOf written unescaped quotedText readValues readValue escape writtenField readKey readField first pieces ends dropEnd lineOf writeLine writeLines earlier starts readParts readVersion writeVersion isIn isTyped kindOf alwaysMap namesId nameOf atVersion letters types readNumber lookRow reserved after scan readFields rowNamed checkFields fieldNamed missing misdeclared mapRefusal readMap looksMap readRecordValue readKeyed readRecord split afterColumns distinct readColumns textNamed lineEntry countsOf recordEntry tabbed samplesStart sampleEntries columnEntries beside clash stepText step run reading knownValue others saying under without otherKeys groups headerMeaning closes isWrittenQuoted knownFields otherFields recordOf recordsOf writeMore writeFields writeRecord parted writeColumns houseLines houseForm tooLong formAnswer house report
 opened = tt
 
 -- a header, the version imposed, the entries that the table has room for and the output's bytes
@@ -66,7 +66,7 @@ accepted l s es f p = record { number = 0; line = l; start = s; entries = es; fo
 
 -- an entry with its ID's text, bare or quoted, at an offset of its line
 abbrev pub identified : Bool → ℕ → ℕ → ℕ → ℕ → ℕ → Entry
-identified q kind start len offset n = record { kind = kind; start = start; length = len; offset = offset; idLength = n; quoted = q; tag = 0 }
+identified q kind start len offset n = record { kind = kind; start = start; length = len; offset = offset; idLength = n; quoted = q; tag = 0; keyLength = 0; fieldCount = 0 }
 
 abbrev pub bareId : ℕ → ℕ → ℕ → ℕ → ℕ → Entry
 bareId = identified false
@@ -180,3 +180,17 @@ pinned =
 pub pinned-cases : map (λ (e : Case × Expected). answer (e .0)) pinned ≡ map (λ (e : Case × Expected). e .1) pinned
 unfolding opened
 pinned-cases = refl
+
+-- Document 02, §10: the length of each entry's key and the number of its fields, in the second form and in the first
+
+abbrev pub countsIn : Limits → Bytes → List (ℕ × ℕ)
+countsIn lim h = map (λ (e : Entry). (e .keyLength, e .fieldCount)) (reading lim none 99 h .entries)
+
+abbrev pub keyed : Bytes
+keyed =
+    F ++ ascii "##META=<ID=x,Values=[a,K=b]>\n##n=t\n##FILTER=<ID=a,Description=\"b,c\">\n##z=<ID=y,A=1,B=2>\n#CHROM\tPOS\tID\tREF\tALT\tQUAL\tFILTER\tINFO\tFORMAT\ts"
+
+pub counted-cases : (countsIn raisedLimits keyed ≡ (10, 0) ∷ (4, 2) ∷ (1, 0) ∷ (6, 2) ∷ (1, 3) ∷ (0, 0) ∷ (0, 0) ∷ [])
+    × (countsIn limits keyed ≡ (0, 0) ∷ (0, 0) ∷ (0, 0) ∷ (0, 0) ∷ (0, 0) ∷ (0, 0) ∷ (0, 0) ∷ [])
+unfolding opened
+counted-cases = (refl, refl)

@@ -12,9 +12,8 @@ use Rattle.values.specs.declared.integer.IntegerRead.the-variants as integer
 use Rattle.rules.specs.Version.{Version}
 use Rattle.rules.specs.Known.{Kind, kindOf, isIn, isTyped, typedKeys, known, numeric, nameOf, tagOf}
 use Rattle.rules.specs.Map.{fieldNamed}
-use Rattle.rules.specs.Record.{Record, fileformat, fields, text}
+use Rattle.rules.specs.Record.{Record, fileformat, fields, text, keyOf}
 use Rattle.rules.specs.Columns.{Columns}
-use Rattle.rules.specs.Reading.{keyOf}
 
 -- a known value: integers as numbers
 pub data Known : Type 0 where

@@ -39,7 +39,7 @@ placeOf c = placed (house (c .limits) none (c .entries) (c .output) (c .header))
 abbrev pub numbered : List (Call × Place)
 numbered =
     (onHeader (F ++ COLS ++ ascii "\n"), (1, 3, 60))
-    ∷ (record { limits = record { header = 99; line = 20 }; entries = 9; output = 999; header = F ++ ascii "##a=45678901234567890" }, (2, 2, 21))
+    ∷ (record { limits = record { header = 99; line = 20; counted = false }; entries = 9; output = 999; header = F ++ ascii "##a=45678901234567890" }, (2, 2, 21))
     ∷ (onHeader (F ++ 0xFF ∷ []), (3, 2, 21))
     ∷ (onHeader (ascii "##a=b"), (4, 1, 0))
     ∷ (onHeader (F ++ F), (5, 2, 21))
@@ -71,7 +71,7 @@ numbered =
     ∷ (record { limits = limits; entries = 1; output = 999; header = F ++ COLS }, (24, 2, 21))
     ∷ (onHeader [], (25, 0, 0))
     ∷ (onHeader F, (26, 1, 21))
-    ∷ (record { limits = record { header = 20; line = 20 }; entries = 9; output = 999; header = F }, (27, 0, 0))
+    ∷ (record { limits = record { header = 20; line = 20; counted = false }; entries = 9; output = 999; header = F }, (27, 0, 0))
     ∷ (record { limits = limits; entries = 9; output = 59; header = F ++ COLS }, (28, 0, 0))
     ∷ []
 
@@ -86,8 +86,8 @@ quoting = F ++ ascii "##ALT=<ID=x,Description=y234567890123>\n" ++ COLS
 -- 27 and 2 of the form, where the header itself keeps the limits; 27 and 2 come before 28
 abbrev pub overlong : List (Call × Place)
 overlong =
-    (record { limits = record { header = 100; line = 99 }; entries = 9; output = 0; header = quoting }, (27, 0, 0))
-    ∷ (record { limits = record { header = 999; line = 39 }; entries = 9; output = 0; header = quoting }, (2, 2, 21))
+    (record { limits = record { header = 100; line = 99; counted = false }; entries = 9; output = 0; header = quoting }, (27, 0, 0))
+    ∷ (record { limits = record { header = 999; line = 39; counted = false }; entries = 9; output = 0; header = quoting }, (2, 2, 21))
     ∷ []
 
 pub overlong-cases : map (λ (c : Call × Place). placeOf (c .0)) overlong ≡ map (λ (c : Call × Place). c .1) overlong

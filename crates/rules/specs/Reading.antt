@@ -13,14 +13,9 @@ use Rattle.rules.specs.Lines.{pieces, lineOf}
 use Rattle.rules.specs.Version.{Version, v4-5, inForce}
 use Rattle.rules.specs.Known.{isTyped}
 use Rattle.rules.specs.Map.{valueNamed}
-use Rattle.rules.specs.Record.{Record, fileformat, fields, text, readRecord}
+use Rattle.rules.specs.Record.{Record, fileformat, fields, text, keyOf, readRecord}
 use Rattle.rules.specs.Columns.{Columns, readColumns}
 use Rattle.rules.specs.Entry.{Entry, recordEntry, columnEntries}
-
-abbrev pub keyOf : Record → Bytes
-keyOf (fileformat v) = ascii "fileformat"
-keyOf (fields k fs) = k
-keyOf (text k t) = k
 
 abbrev pub idOf : Version → Record → Bytes
 idOf v (fileformat w) = []
@@ -57,28 +52,28 @@ pub data State : Type 0 where
   done : Version → List Record → Columns → State
 
 -- the first line must be fileformat
-abbrev pub begin : Option Version → ℕ → Bytes → Record → Answer (State × List Entry)
-begin imposed start l (fileformat v) = ok (ready (inForce imposed v) [], recordEntry v start l (fileformat v) ∷ [])
-begin imposed start l (fields k fs) = refuse 4
-begin imposed start l (text k t) = refuse 4
+abbrev pub begin : Bool → Option Version → ℕ → Bytes → Record → Answer (State × List Entry)
+begin counted imposed start l (fileformat v) = ok (ready (inForce imposed v) [], recordEntry counted v start l (fileformat v) ∷ [])
+begin counted imposed start l (fields k fs) = refuse 4
+begin counted imposed start l (text k t) = refuse 4
 
 -- a later one goes with those before it
-abbrev pub enter : Version → List Record → ℕ → Bytes → Record → Answer (State × List Entry)
-enter v rs start l (fileformat w) = refuse 5
-enter v rs start l (fields k fs) = judged (clash v (fields k fs) rs) (ready v (rs ++ fields k fs ∷ []), recordEntry v start l (fields k fs) ∷ [])
-enter v rs start l (text k t) = judged (clash v (text k t) rs) (ready v (rs ++ text k t ∷ []), recordEntry v start l (text k t) ∷ [])
+abbrev pub enter : Bool → Version → List Record → ℕ → Bytes → Record → Answer (State × List Entry)
+enter counted v rs start l (fileformat w) = refuse 5
+enter counted v rs start l (fields k fs) = judged (clash v (fields k fs) rs) (ready v (rs ++ fields k fs ∷ []), recordEntry counted v start l (fields k fs) ∷ [])
+enter counted v rs start l (text k t) = judged (clash v (text k t) rs) (ready v (rs ++ text k t ∷ []), recordEntry counted v start l (text k t) ∷ [])
 
 abbrev pub finish : Version → List Record → ℕ → Bytes → Columns → Answer (State × List Entry)
 finish v rs start l c = ok (done v rs c, columnEntries start l c)
 
 -- a line of UTF-8, by its phase
-unfoldable pub stepText : Option Version → ℕ → State → Bytes → Answer (State × List Entry)
-stepText imposed start empty l = readRecord v4-5 l >>= begin imposed start l
-stepText imposed start (ready v rs) l = elim (starts (ascii "#CHROM") l) [
+unfoldable pub stepText : Bool → Option Version → ℕ → State → Bytes → Answer (State × List Entry)
+stepText counted imposed start empty l = readRecord v4-5 l >>= begin counted imposed start l
+stepText counted imposed start (ready v rs) l = elim (starts (ascii "#CHROM") l) [
   | true ↦ readColumns l >>= finish v rs start l
-  | false ↦ readRecord v l >>= enter v rs start l
+  | false ↦ readRecord v l >>= enter counted v rs start l
 ]
-stepText imposed start (done v rs c) l = refuse 1
+stepText counted imposed start (done v rs c) l = refuse 1
 
 abbrev pub isDone : State → Bool
 isDone empty = false
@@ -90,7 +85,7 @@ unfoldable pub step : Limits → Option Version → ℕ → State → Bytes → 
 step lim imposed start s l = elim (isDone s) [
   | true ↦ refuse 1
   | false ↦ elim (leb (length l) (lim .line)) [
-    | true ↦ elim (isUtf8 l) [ true ↦ stepText imposed start s l | false ↦ refuse 3 ]
+    | true ↦ elim (isUtf8 l) [ true ↦ stepText (lim .counted) imposed start s l | false ↦ refuse 3 ]
     | false ↦ refuse 2
   ]
 ]

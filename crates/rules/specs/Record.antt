@@ -16,6 +16,11 @@ pub data Record : Type 0 where
   fields : Bytes → List Field → Record
   text : Bytes → Bytes → Record
 
+abbrev pub keyOf : Record → Bytes
+keyOf (fileformat v) = ascii "fileformat"
+keyOf (fields k fs) = k
+keyOf (text k t) = k
+
 -- any other key is a map if its value begins `<` (from 4.3) or `<ID=` (before)
 unfoldable pub looksMap : Version → Bytes → Bool
 looksMap v x = elim (since v4-3 v) [ true ↦ begins LESS x | false ↦ starts (ascii "<ID=") x ]

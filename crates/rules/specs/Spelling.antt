@@ -1,23 +1,21 @@
--- Document 02, §4: how the numbers of an entry's line were spelled. Assumes nothing.
+-- Document 02, §4 and §10: how the numbers of an entry's line were spelled. Assumes nothing.
 use Prim.Native.Nat.{ℕ}
-use mathlib.Core.Bool.{Bool, true, false, not, _||_}
+use mathlib.Core.Bool.{Bool, true, false, not, _||_, _&&_}
 use mathlib.Core.List.{List, [], _∷_}
 use mathlib.Core.Option.{Option, none, some}
-use lib.Dec.{eqb}
+use lib.Dec.{leb}
 use Rattle.values.specs.Bytes.{Bytes}
-use Rattle.values.specs.Utf8.{isUtf8}
 use Rattle.values.specs.Integer.{u64Read}
 use Rattle.values.specs.Value.{meaningOf}
 use Rattle.values.specs.Field.{Field}
 use Rattle.values.specs.declared.integer.IntegerRead.{IntegerRead}
 use Rattle.values.specs.declared.integer.IntegerRead.the-variants as integer
-use Rattle.rules.specs.Answer.{Answer, ok, refuse}
 use Rattle.rules.specs.Version.{Version}
-use Rattle.rules.specs.Known.{kindOf, Reads, KnownField, anyText, aNumber, aType, anInteger}
+use Rattle.rules.specs.Known.{Reads, KnownField, anyText, aNumber, aType, anInteger}
 use Rattle.rules.specs.Map.{knownNamed}
-use Rattle.rules.specs.Record.{Record, fileformat, fields, text, readRecord}
-use Rattle.rules.specs.Entry.{Entry, mapKind}
-use Rattle.rules.specs.Shown.{hasId, lineIn}
+use Rattle.rules.specs.Record.{Record, fileformat, fields, text}
+use Rattle.rules.specs.Entry.{Entry}
+use Rattle.rules.specs.Shown.{hasId, entryRecord}
 
 -- a number that is not plainly spelled; what is no number, a letter too, is not spelled oddly
 abbrev pub isOdd : IntegerRead → Bool
@@ -46,17 +44,17 @@ hasOdd v k (f ∷ fs) = isOddField v k f || hasOdd v k fs
 
 -- Whether an entry carries an oddly spelled number; none is refusal 29
 
--- a line, read alone, must be a map of the entry's kind
-abbrev pub recordOdd : Version → ℕ → Answer Record → Option Bool
-recordOdd v kind (refuse n) = none
-recordOdd v kind (ok (fileformat w)) = none
-recordOdd v kind (ok (text k t)) = none
-recordOdd v kind (ok (fields k fs)) = elim (eqb (mapKind (kindOf k)) kind) [ true ↦ some (hasOdd v k fs) | false ↦ none ]
+-- none but maps have numbers
+abbrev pub recordOdd : Version → Option Record → Option Bool
+recordOdd v none = none
+recordOdd v (some (fileformat w)) = some false
+recordOdd v (some (text k t)) = some false
+recordOdd v (some (fields k fs)) = some (hasOdd v k fs)
 
-unfoldable pub lineOdd : Version → ℕ → Bytes → Option Bool
-lineOdd v kind l = elim (isUtf8 l) [ true ↦ recordOdd v kind (readRecord v l) | false ↦ none ]
+-- kinds 2 to 7 are read again, and where keys and fields are counted kinds 1 and 8 too
+abbrev pub isReadAgain : Bool → ℕ → Bool
+isReadAgain counted kind = hasId kind || (counted && leb kind 8)
 
--- kinds 2 to 7 are read under the version given; the others have no numbers
-abbrev pub entryOdd : Bytes → Version → Option Entry → Option Bool
-entryOdd h v none = none
-entryOdd h v (some e) = elim (hasId (e .kind)) [ true ↦ lineOdd v (e .kind) (lineIn h e) | false ↦ some false ]
+abbrev pub entryOdd : Bool → Bytes → Version → Option Entry → Option Bool
+entryOdd counted h v none = none
+entryOdd counted h v (some e) = elim (isReadAgain counted (e .kind)) [ true ↦ recordOdd v (entryRecord counted h v e) | false ↦ some false ]

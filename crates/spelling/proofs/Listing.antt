@@ -1,41 +1,37 @@
 -- The list of entries that carry an oddly spelled number: one line, one entry, one turn of the walk. Assumes nothing.
 use Prim.Native.Nat.{ℕ, suc, _+_, _-_, _≤_, _<_}
 use native.Mathlib.Omega.{arith}
-use mathlib.Core.Path.{_≡_, refl, sym, ap, subst, _∙_}
-use mathlib.Core.Bool.{Bool, true, false, not}
+use mathlib.Core.Path.{_≡_, refl, sym, ap, ap₂, subst, _∙_}
+use mathlib.Core.Bool.{Bool, true, false, not, _||_, _&&_, true≢false}
 use mathlib.Core.List.{List, [], _∷_, _++_, append-assoc, append-nil}
 use mathlib.Core.Option.{Option, none, some}
-use lib.Dec.{eqb}
-use lib.ListN.{length, drop, take, length-append}
+use lib.Dec.{leb}
+use lib.ListN.{length, length-append}
 use lib.Seq.{sets, length-sets, set-out}
-use borrow.Author.Tests.{eq-eqb, ne-eqb, le-leb, lt-leb}
+use borrow.Author.Tests.{le-leb, lt-leb}
 use Rattle.values.specs.Bytes.{Bytes}
-use Rattle.values.specs.Utf8.{isUtf8}
 use Rattle.values.specs.Field.{Field}
-use Rattle.values.proofs.Tests.{not-true, not-false, never}
+use Rattle.values.proofs.Tests.{pass, fail, test, not-true, not-false, never}
 use Rattle.values.proofs.Lists.{some-is}
 use Rattle.values.proofs.Outputs.{sets-append}
-use Rattle.rules.specs.Answer.{Answer, ok}
 use Rattle.rules.specs.Version.{Version}
+use Rattle.rules.specs.Record.{Record, fileformat, fields, text}
 use Rattle.rules.specs.Known.{kindOf}
-use Rattle.rules.specs.Record.{Record, fields, readRecord}
-use Rattle.rules.specs.Entry.{Entry, mapKind}
-use Rattle.rules.specs.Shown.{hasId, lineIn}
-use Rattle.rules.specs.Spelling.{hasOdd, recordOdd, lineOdd, entryOdd}
-use Rattle.records.specs.Keys.{kindBy}
-use Rattle.rules.specs.Claims.{keyIn}
-use Rattle.records.specs.Records.{RecordIs, ParsesRecord}
-use Rattle.records.specs.declared.file_format.FileFormat.{FileFormat}
-use Rattle.records.specs.declared.refusal.Refusal.{Refusal}
+use Rattle.rules.specs.Entry.{Entry, fieldsOf, recordKind, countsOf, withCounts}
+use Rattle.rules.specs.Shown.{hasId, lineIn, readAlone, countedAs, entryRecord}
+use Rattle.rules.proofs.Shows.{map-kind, tells-own}
+use Rattle.rules.specs.Spelling.{hasOdd, recordOdd, isReadAgain, entryOdd}
+use Rattle.records.specs.declared.map.Tally.{Tally}
 use Rattle.records.specs.declared.record.MapRecord.{MapRecord}
-use Rattle.records.specs.declared.record.RecordRead.{RecordRead}
-use Rattle.records.specs.declared.record.RecordRead.the-variants as read
-use Rattle.records.proofs.Keys.{kind-by-case}
+use Rattle.alone.specs.Alones.{AloneIs, ReadsEntry}
+use Rattle.alone.specs.declared.read.Alone.{Alone}
+use Rattle.alone.specs.declared.read.Alone.the-variants as alone
 use Rattle.entries.specs.declared.shown.EntryRead.{EntryRead}
 use Rattle.entries.specs.declared.shown.EntryRead.the-variants as entries
 use Rattle.entries.specs.declared.entry.Entry.{Entry as CodeEntry}
-use Rattle.entries.specs.Values.{entryOf}
+use Rattle.entries.specs.Values.{entryOf, limitsBy}
 use Rattle.entries.specs.declared.form.Form.{Form}
+use Rattle.entries.specs.declared.form.Form.the-variants.{First, Second}
 use Rattle.entries.specs.Tables.{room, entryAt}
 use Rattle.entries.specs.Shown.{entryMeant}
 use Rattle.spelling.specs.Odd.{listing, oddFrom, oddIn, answerOf, oddAnswer, oddList, spellingMeans, CountIs, Counts, Walks}
@@ -45,70 +41,101 @@ use Rattle.spelling.specs.declared.odd.Counted.{Counted}
 use Rattle.spelling.specs.declared.odd.Counted.the-variants as counted
 use Rattle.spelling.specs.declared.odd.OddOutcome.the-variants.{Listed, NotWellFormed, ListTooShort}
 
+-- Which kinds are read again
+
+module _ (kind : ℕ) {q : Bool} (a : q ≡ hasId kind) where
+  pub again-id : q ≡ true → (counted : Bool) → true ≡ isReadAgain counted kind
+  again-id e counted = rw (← a, e)
+
+  pub again-first : q ≡ false → {form : Form} → form ≡ First → false ≡ isReadAgain (limitsBy form .counted) kind
+  again-first e f = rw (f, ← a, e)
+
+  pub again-second : q ≡ false → {form : Form} → form ≡ Second → leb kind 8 ≡ isReadAgain (limitsBy form .counted) kind
+  again-second e f = rw (f, ← a, e)
+
+pub ruleset again = (again-id, again-first, again-second)
+
 -- A line
 
-module _ (v : Version) (l : Bytes) (kind : ℕ) {u : Bool} (a : u ≡ isUtf8 l) where
-  pub line-bytes : not u ≡ true → none ≡ lineOdd v kind l
-  unfolding lineOdd
-  line-bytes e = rw (lineOdd, sym a ∙ not-true u e)
+without-fields : (v : Version) (r : Record) → fieldsOf r ≡ [] → some false ≡ recordOdd v (some r)
+unfolding hasOdd
+without-fields v (fileformat w) e = refl
+without-fields v (text k t) e = refl
+without-fields v (fields k fs) e = ap (λ (fs : List Field). some (hasOdd v k fs)) (sym e)
 
-  module _ (on : not u ≡ false) {x : RecordRead} (b : ParsesRecord v l x) where
-    read-as : {r : Answer Record} → readRecord v l ≡ r → lineOdd v kind l ≡ recordOdd v kind r
-    unfolding lineOdd
-    read-as e = rw (lineOdd, sym a ∙ not-false u on, e)
+module _ (counted : Bool) (h : Bytes) (v : Version) (e : Entry) {x : Alone} (a : ReadsEntry counted v h e x) where
+  told : {y : Alone} → x ≡ y → AloneIs v (lineIn h e) (entryRecord counted h v e) y
+  told q = subst (AloneIs v (lineIn h e) (entryRecord counted h v e)) q (a .is)
 
-    map-as : {k : Bytes} {fs : List Field} → readRecord v l ≡ ok (fields k fs) → {q : Bool} → eqb (mapKind (kindOf k)) kind ≡ q
-        → lineOdd v kind l ≡ elim q [ true ↦ some (hasOdd v k fs) | false ↦ none ]
-    map-as {k} {fs} e f = read-as e ∙ ap (λ (q : Bool). elim q [ true ↦ some (hasOdd v k fs) | false ↦ none ]) f
+  pub line-refused : x ≡ alone.Refused → none ≡ recordOdd v (entryRecord counted h v e)
+  line-refused q = sym (ap (recordOdd v) (told q))
 
-    pub line-format : {w : FileFormat} → x ≡ read.FileFormat w → none ≡ lineOdd v kind l
-    line-format e = sym (read-as (subst (RecordIs v l) e (b .is)))
+  pub line-without : {n : ℕ} → x ≡ alone.Plain n → some false ≡ recordOdd v (entryRecord counted h v e)
+  line-without q = let t = told q in without-fields v (t .0) (t .2) ∙ sym (ap (recordOdd v) (t .1))
 
-    pub line-text : {at : ℕ} → x ≡ read.Text at → none ≡ lineOdd v kind l
-    line-text e = sym (read-as (subst (RecordIs v l) e (b .is) .1))
+  module _ {m : MapRecord} (q : x ≡ alone.Map m) where
+    map-odd : {o : Bool} → m .tally .odd ≡ o → some o ≡ recordOdd v (entryRecord counted h v e)
+    map-odd f = let t = told q in sym (ap (recordOdd v) (t .1) ∙ ap some (sym (ap (λ (y : Tally). y .odd) (t .2 .tally)) ∙ f))
 
-    pub line-refused : {y : Refusal} → x ≡ read.Refused y → none ≡ lineOdd v kind l
-    line-refused e = sym (read-as (subst (RecordIs v l) e (b .is)))
+    pub line-odd : m .tally .odd ≡ true → some true ≡ recordOdd v (entryRecord counted h v e)
+    line-odd f = map-odd f
 
-    module _ {y : MapRecord} (e : x ≡ read.Map y) {k : ℕ} (c : k ≡ mapKind (kindBy (y .key))) where
-      told : RecordIs v l (read.Map y)
-      told = subst (RecordIs v l) e (b .is)
+    pub line-plain : m .tally .odd ≡ false → some false ≡ recordOdd v (entryRecord counted h v e)
+    line-plain f = map-odd f
 
-      kind-is : mapKind (kindOf (keyIn l)) ≡ k
-      kind-is = ap mapKind (told .1 .kind ∙ kind-by-case (y .key)) ∙ sym c
-
-      pub line-other-kind : (k ≡ kind → ⊥) → none ≡ lineOdd v kind l
-      line-other-kind n = sym (map-as (told .3) {q = false} (rw kind-is (ne-eqb k kind n)))
-
-      map-odd : k ≡ kind → {o : Bool} → y .odd ≡ o → some o ≡ lineOdd v kind l
-      map-odd q f = sym (map-as (told .3) {q = true} (rw kind-is (eq-eqb k kind q)) ∙ ap some (sym (told .5) ∙ f))
-
-      pub line-odd : k ≡ kind → y .odd ≡ true → some true ≡ lineOdd v kind l
-      line-odd q f = map-odd q f
-
-      pub line-plain : k ≡ kind → y .odd ≡ false → some false ≡ lineOdd v kind l
-      line-plain q f = map-odd q f
-
-pub ruleset lines = (line-bytes, line-format, line-text, line-refused, line-other-kind, line-odd, line-plain)
+pub ruleset lines = (line-refused, line-without, line-odd, line-plain)
 
 -- An entry
 
-module _ (h : Bytes) (v : Version) (o : Option Entry) (x : EntryRead) (a : entryMeant x ≡ o) where
-  pub entry-missing : x ≡ entries.Missing → none ≡ entryOdd h v o
-  entry-missing e = sym (ap (entryOdd h v) (sym a ∙ ap entryMeant e))
+module _ (counted : Bool) (h : Bytes) (v : Version) (o : Option Entry) (x : EntryRead) (a : entryMeant x ≡ o) where
+  pub entry-missing : x ≡ entries.Missing → none ≡ entryOdd counted h v o
+  entry-missing e = sym (ap (entryOdd counted h v) (sym a ∙ ap entryMeant e))
 
-  module _ {e : CodeEntry} (q : x ≡ entries.Entry e) {b : Bool} (i : b ≡ hasId (e .kind)) where
-    entry-by : {c : Bool} → b ≡ c → entryOdd h v o ≡ elim c [ true ↦ lineOdd v (e .kind) (lineIn h (entryOf e)) | false ↦ some false ]
-    entry-by {c} f = ap (entryOdd h v) (sym a ∙ ap entryMeant q) ∙ ap (λ (c : Bool). elim c [ true ↦ lineOdd v (e .kind) (lineIn h (entryOf e)) | false ↦ some false ]) (sym i ∙ f)
+  module _ {e : CodeEntry} (q : x ≡ entries.Entry e) {b : Bool} (i : b ≡ isReadAgain counted (e .kind)) where
+    entry-by : {c : Bool} → b ≡ c → entryOdd counted h v o ≡ elim c [ true ↦ recordOdd v (entryRecord counted h v (entryOf e)) | false ↦ some false ]
+    entry-by {c} f =
+        ap (entryOdd counted h v) (sym a ∙ ap entryMeant q)
+        ∙ ap (λ (c : Bool). elim c [ true ↦ recordOdd v (entryRecord counted h v (entryOf e)) | false ↦ some false ]) (sym i ∙ f)
 
-    pub entry-without : not b ≡ true → some false ≡ entryOdd h v o
+    pub entry-without : not b ≡ true → some false ≡ entryOdd counted h v o
     entry-without f = sym (entry-by (not-true b f))
 
-    pub entry-read : not b ≡ false → {l : Bytes} → l ≡ take (e .length) (drop (e .start) h) → {r : Option Bool} → r ≡ lineOdd v (e .kind) l → r ≡ entryOdd h v o
-    unfolding lineIn
-    entry-read f g s = s ∙ ap (lineOdd v (e .kind)) g ∙ sym (entry-by (not-false b f))
+    pub entry-read : not b ≡ false → {r : Option Bool} → r ≡ recordOdd v (entryRecord counted h v (entryOf e)) → r ≡ entryOdd counted h v o
+    entry-read f s = s ∙ sym (entry-by (not-false b f))
 
 pub ruleset entry = (entry-missing, entry-without, entry-read)
+
+-- An entry of the second form with the counts of its line is spelled as it is in the first, where the line reads as a record of its kind
+
+kind-odd : (v : Version) (r : Record) → hasId (recordKind r) ≡ false → recordOdd v (some r) ≡ some false
+kind-odd v (fileformat w) e = refl
+kind-odd v (fields k fs) e = absurd (true≢false (sym (map-kind (kindOf k) .0) ∙ e))
+kind-odd v (text k t) e = refl
+
+kind-small : (r : Record) → leb (recordKind r) 8 ≡ true
+kind-small (fileformat w) = refl
+kind-small (fields k fs) = map-kind (kindOf k) .2
+kind-small (text k t) = refl
+
+module _ (h : Bytes) (v : Version) (e : Entry) {r : Record} (q : readAlone v (e .kind) (lineIn h e) ≡ some r) (k : recordKind r ≡ e .kind) where
+  counted-record : (counted : Bool) → entryRecord counted h v (withCounts (countsOf counted r) e) ≡ some r
+  unfolding entryRecord lineIn
+  counted-record counted = ap (countedAs counted (withCounts (countsOf counted r) e)) q ∙ ap (λ (b : Bool). elim b [ true ↦ some r | false ↦ none ]) (tells-own counted r e)
+
+  -- read again or not
+  odd-by : (counted : Bool) {q : Bool} → isReadAgain counted (e .kind) ≡ q
+      → entryOdd counted h v (some (withCounts (countsOf counted r) e)) ≡ elim q [ true ↦ recordOdd v (some r) | false ↦ some false ]
+  odd-by counted {q} i =
+      ap (λ (q : Bool). elim q [ true ↦ recordOdd v (entryRecord counted h v (withCounts (countsOf counted r) e)) | false ↦ some false ]) i
+      ∙ ap (λ (o : Option Record). elim q [ true ↦ recordOdd v o | false ↦ some false ]) (counted-record counted)
+
+  pub either-form : entryOdd true h v (some (withCounts (countsOf true r) e)) ≡ entryOdd false h v (some (withCounts (countsOf false r) e))
+  either-form = elim (test (hasId (e .kind))) [
+    | pass i ↦ odd-by true {q = true} (ap (λ (b : Bool). b || (true && leb (e .kind) 8)) i) ∙ sym (odd-by false {q = true} (ap (λ (b : Bool). b || (false && leb (e .kind) 8)) i))
+    | fail i ↦
+        odd-by true {q = true} (ap₂ (λ (b c : Bool). b || (true && c)) i (ap (λ (n : ℕ). leb n 8) (sym k) ∙ kind-small r)) ∙ kind-odd v r (ap hasId k ∙ i)
+        ∙ sym (odd-by false {q = false} (ap (λ (b : Bool). b || (false && leb (e .kind) 8)) i))
+  ]
 
 -- The walk
 
@@ -159,8 +186,8 @@ module _ {form : Form} {h : Bytes} {t : List ℕ} {v : Version} {list₀ list : 
   pub walk-less : n < m → m - (n + 1) < m - n
   walk-less b = omega (arith, b)
 
-  module _ (b : n < m) (r : Spelling) (a : spellingMeans r ≡ entryOdd h v (entryAt form h t n)) where
-    more : (r : Option Bool) → entryOdd h v (entryAt form h t n) ≡ r → oddIn form h t v ≡ after (g .done) (listing n r (oddFrom form h t v (n + 1) (room form t - (n + 1))))
+  module _ (b : n < m) (r : Spelling) (a : spellingMeans r ≡ entryOdd (limitsBy form .counted) h v (entryAt form h t n)) where
+    more : (r : Option Bool) → entryOdd (limitsBy form .counted) h v (entryAt form h t n) ≡ r → oddIn form h t v ≡ after (g .done) (listing n r (oddFrom form h t v (n + 1) (room form t - (n + 1))))
     unfolding oddFrom
     more r e = let z : room form t - n ≡ suc (room form t - (n + 1)) = omega (arith, b, all) in g .whole ∙ rw (z, oddFrom, e)
 

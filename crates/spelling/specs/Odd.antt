@@ -11,6 +11,7 @@ use Rattle.values.specs.Bytes.{Bytes}
 use Rattle.rules.specs.Version.{Version}
 use Rattle.rules.specs.Spelling.{entryOdd}
 use Rattle.entries.specs.declared.form.Form.{Form}
+use Rattle.entries.specs.Values.{limitsBy}
 use Rattle.entries.specs.Tables.{room, entryAt}
 use Rattle.spelling.specs.declared.odd.Spelling.{Spelling}
 use Rattle.spelling.specs.declared.odd.Spelling.the-variants as spelling
@@ -29,7 +30,7 @@ listing n (some odd) (some ns) = some (elim odd [ true ↦ n ∷ ns | false ↦ 
 -- of so many entries from number n on
 unfoldable pub oddFrom : Form → Bytes → List ℕ → Version → ℕ → ℕ → Option (List ℕ)
 oddFrom form h t v n zero = some []
-oddFrom form h t v n (suc more) = listing n (entryOdd h v (entryAt form h t n)) (oddFrom form h t v (n + 1) more)
+oddFrom form h t v n (suc more) = listing n (entryOdd (limitsBy form .counted) h v (entryAt form h t n)) (oddFrom form h t v (n + 1) more)
 
 -- of all entries of a table; none is refusal 29
 abbrev pub oddIn : Form → Bytes → List ℕ → Version → Option (List ℕ)

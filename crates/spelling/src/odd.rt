@@ -1,20 +1,21 @@
 // The entries that carry a number that is not plainly spelled: with a sign, or with a leading zero.
+use alone::read;
+use alone::read::Alone;
+use entries::entry::Entry;
 use entries::form::Form;
 use entries::kind;
 use entries::shown;
 use entries::shown::EntryRead;
 use entries::table;
 use records::file_format::FileFormat;
-use records::record;
-use records::record::RecordRead;
-use values::bytes;
-use values::utf8;
 ghost use mathlib.Core.Path.{_≡_};
 ghost use mathlib.Core.List.{[], _∷_};
 ghost use lib.ListN.{length};
 ghost use lib.Seq.{sets};
-ghost use Rattle.rules.specs.Spelling.{lineOdd, entryOdd};
+ghost use Rattle.rules.specs.Shown.{entryRecord};
+ghost use Rattle.rules.specs.Spelling.{recordOdd, isReadAgain, entryOdd};
 ghost use Rattle.records.specs.Formats.{versionOf};
+ghost use Rattle.entries.specs.Values.{entryOf, limitsBy};
 ghost use Rattle.entries.specs.Tables.{entryAt};
 ghost use Rattle.spelling.specs.Odd.{spellingMeans, outcomeNumber, oddIn, Counts, Walks, oddAnswer, oddList};
 
@@ -55,41 +56,47 @@ impl OddOutcome {
     }
 }
 
-// A line, read alone, which must be a map of this kind.
-fn line_spelling(l: &[u8], kind: u8, version: FileFormat) -> Spelling
-    ensures { λ r. ⌜ spellingMeans r ≡ lineOdd (versionOf version) kind (now (l .entry)) ⌝ }
+// Kinds 2 to 7, and where keys and fields are counted kinds 1 and 8 too.
+fn is_read_again(form: Form, kind: u8) -> bool
+    ensures { λ r. ⌜ r ≡ isReadAgain (limitsBy form .counted) kind ⌝ }
 {
-    if !utf8::utf8(l) {
-        return Spelling::Refused;
+    if kind::has_id(kind) {
+        return true;
     }
-    match record::parse_record(l, version) {
-        RecordRead::FileFormat(_) => Spelling::Refused,
-        RecordRead::Map(map) => {
-            let key = map.key;
-            if key.kind() != kind {
-                return Spelling::Refused;
-            }
-            if map.odd {
+    match form {
+        Form::First => false,
+        Form::Second => kind <= kind::OTHER_TEXT,
+    }
+}
+
+// An entry's line, read again alone.
+fn line_spelling(h: &[u8], form: Form, e: Entry, version: FileFormat) -> Spelling
+    ensures { λ r. ⌜ spellingMeans r ≡ recordOdd (versionOf version) (entryRecord (limitsBy form .counted) (now (h .entry)) (versionOf version) (entryOf e)) ⌝ }
+{
+    match read::read_entry(h, form, e, version) {
+        Alone::Map(map) => {
+            let tally = map.tally;
+            if tally.odd {
                 return Spelling::Odd;
             }
             Spelling::Plain
         }
-        RecordRead::Text(_) => Spelling::Refused,
-        RecordRead::Refused(_) => Spelling::Refused,
+        Alone::Plain(_) => Spelling::Plain,
+        Alone::Refused => Spelling::Refused,
     }
 }
 
 fn entry_spelling(h: &[u8], table: &[u64], form: Form, n: usize, version: FileFormat) -> Spelling
-    ensures { λ r. ⌜ spellingMeans r ≡ entryOdd (now (h .entry)) (versionOf version) (entryAt form (now (h .entry)) (now (table .entry)) n) ⌝ }
+    ensures { λ r. ⌜ spellingMeans r ≡ entryOdd (limitsBy form .counted) (now (h .entry)) (versionOf version)
+        (entryAt form (now (h .entry)) (now (table .entry)) n) ⌝ }
 {
     let EntryRead::Entry(e) = shown::entry_at(h, table, form, n) else {
         return Spelling::Refused;
     };
-    if !kind::has_id(e.kind) {
+    if !is_read_again(form, e.kind) {
         return Spelling::Plain;
     }
-    let l = bytes::piece(h, e.start, e.length);
-    line_spelling(l, e.kind, version)
+    line_spelling(h, form, e, version)
 }
 
 // The word of this number, if there is one.

@@ -35,10 +35,10 @@ fn short_buffer() -> [u8; 16384]
 
 // Room for the entries of a header that stands in these bytes: of the names of samples 256 have one byte or none, and any other
 // entry takes three bytes or more. Clearing a table for any header would cost more than the reading.
-fn short_table() -> [u64; 11456]
-    ensures { λ r. ⌜ 11456 ≡ length r ⌝ }
+fn short_table() -> [u64; 17184]
+    ensures { λ r. ⌜ 17184 ≡ length r ⌝ }
 {
-    [0; 11456]
+    [0; 17184]
 }
 
 // Room for the house form of a short header: quotes and backslashes make it at most twice as long, and a little.
@@ -63,10 +63,10 @@ fn long_buffer() -> [u8; 524298]
     [0; 524298]
 }
 
-fn long_table() -> [u64; 350208]
-    ensures { λ r. ⌜ 350208 ≡ length r ⌝ }
+fn long_table() -> [u64; 525312]
+    ensures { λ r. ⌜ 525312 ≡ length r ⌝ }
 {
-    [0; 350208]
+    [0; 525312]
 }
 
 fn long_form() -> [u8; 1048660]
@@ -89,7 +89,13 @@ fn large_buffer() -> [u8; 16777226]
     [0; 16777226]
 }
 
-fn large_table() -> [u64; 2000000]
+fn large_table() -> [u64; 3000000]
+    ensures { λ r. ⌜ 3000000 ≡ length r ⌝ }
+{
+    [0; 3000000]
+}
+
+fn large_pairs() -> [u64; 2000000]
     ensures { λ r. ⌜ 2000000 ≡ length r ⌝ }
 {
     [0; 2000000]
@@ -274,8 +280,8 @@ fn large_case(
     }
     let mut table = large_table();
     let mut form = large_buffer();
-    let mut strings = large_table();
-    let mut contigs = large_table();
+    let mut strings = large_pairs();
+    let mut contigs = large_pairs();
     let text = input::text(bytes::part(&buffer, 0, end));
     let full = buffer.len() <= end;
     run_command(

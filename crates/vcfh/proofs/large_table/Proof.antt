@@ -5,7 +5,7 @@ use Rattle.vcfh.proofs.large_table.Statement.{statement}
 use Rattle.vcfh.proofs.large_table.Tie as tie
 
 returns : tie.Need-returns
-returns c = sym (length-replicate {0} {A = ℕ} 2000000 0)
+returns c = sym (length-replicate {0} {A = ℕ} 3000000 0)
 
 pub large-table-spec : {M : Type 1} → statement M
 large-table-spec = tie.close (tie.spec returns)

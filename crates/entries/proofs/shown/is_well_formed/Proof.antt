@@ -33,6 +33,12 @@ lies-inside-requires-2 c κs = search (wells, needs)
 returns-5 : tie.Need-returns-5
 returns-5 c = search (wells, needs)
 
+has-due-counts-requires : tie.Need-has-due-counts-requires
+has-due-counts-requires c κs = search (wells, needs)
+
+returns-6 : tie.Need-returns-6
+returns-6 c = search (wells, needs)
+
 pub is-well-formed-spec : {M : Type 1} → statement M
 is-well-formed-spec =
     tie.close
@@ -46,4 +52,6 @@ is-well-formed-spec =
     lies-inside-requires
     returns-4
     lies-inside-requires-2
-    returns-5)
+    returns-5
+    has-due-counts-requires
+    returns-6)

@@ -2,36 +2,28 @@ use Rattle.entries.proofs.Tables.{gets}
 use borrow.Author.Needs.{needs}
 use Rattle.entries.proofs.table.get.Statement.{statement}
 use Rattle.entries.proofs.table.get.Tie as tie
-use Rattle.entries.proofs.table.get.Reads as reads
-use Rattle.entries.proofs.table.get.Lts as lts
-use Rattle.entries.proofs.table.words_at.Reads as words-at-reads
-use Rattle.entries.proofs.word.unpack.Reads as unpack-reads
 
--- src/table.rt:43:9
 words-at-requires : tie.Need-words-at-requires
-words-at-requires c κs = search needs
+words-at-requires c κs = search (gets, needs)
 
--- src/table.rt:45:9
 unpack-requires : tie.Need-unpack-requires
-unpack-requires c κs = search needs
+unpack-requires c κs = search (gets, needs)
 
--- src/table.rt:45:9
 returns : tie.Need-returns
 returns c = search (gets, needs)
 
--- src/table.rt:47:24
 shared-slice-read-unpack : tie.Need-shared-slice-read-unpack
-shared-slice-read-unpack c = search needs
+shared-slice-read-unpack c = search (gets, needs)
 
--- src/table.rt:47:34
 shared-slice-read-unpack-2 : tie.Need-shared-slice-read-unpack-2
-shared-slice-read-unpack-2 c = search needs
+shared-slice-read-unpack-2 c = search (gets, needs)
 
--- src/table.rt:47:5
+third-requires : tie.Need-third-requires
+third-requires c κs = search (gets, needs)
+
 unpack-requires-2 : tie.Need-unpack-requires-2
-unpack-requires-2 c κs = search needs
+unpack-requires-2 c κs = search (gets, needs)
 
--- src/table.rt:40:1
 returns-2 : tie.Need-returns-2
 returns-2 c = search (gets, needs)
 
@@ -44,5 +36,6 @@ get-spec =
     returns
     shared-slice-read-unpack
     shared-slice-read-unpack-2
+    third-requires
     unpack-requires-2
     returns-2)

@@ -1,9 +1,9 @@
-use native.Mathlib.Omega.{arith}
-use Rattle.entries.proofs.Calls.{found-inside}
 use Rattle.header.proofs.Fields.{all-fields}
 use borrow.Author.Needs.{needs}
 use Rattle.header.proofs.shown.field.Statement.{statement}
 use Rattle.header.proofs.shown.field.Tie as tie
+use Rattle.header.proofs.shown.field.Reads as reads
+use Rattle.header.proofs.shown.field.Lts as lts
 
 entry-at-requires : tie.Need-entry-at-requires
 entry-at-requires c κs = search (all-fields, needs)
@@ -23,12 +23,6 @@ has-id-requires c κs = search (all-fields, needs)
 returns-2 : tie.Need-returns-2
 returns-2 c = search (all-fields, needs)
 
-add-field-at : tie.Need-add-field-at
-add-field-at c =
-    let k = c .before .before .before in
-    let i = found-inside _ _ _ _ (k .before .before .before .entry-at .ensures) (k .before .e .given .1) in
-    omega arith
-
 field-at-requires : tie.Need-field-at-requires
 field-at-requires c κs = search (all-fields, needs)
 
@@ -45,6 +39,5 @@ field-spec =
     returns
     has-id-requires
     returns-2
-    add-field-at
     field-at-requires
     returns-3)

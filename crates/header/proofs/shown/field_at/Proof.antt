@@ -2,9 +2,8 @@ use Rattle.header.proofs.Fields.{parts}
 use borrow.Author.Needs.{needs}
 use Rattle.header.proofs.shown.field_at.Statement.{statement}
 use Rattle.header.proofs.shown.field_at.Tie as tie
-
-part-requires : tie.Need-part-requires
-part-requires c κs = search (parts, needs)
+use Rattle.header.proofs.shown.field_at.Reads as reads
+use Rattle.header.proofs.shown.field_at.Lts as lts
 
 line-field-requires : tie.Need-line-field-requires
 line-field-requires c κs = search (parts, needs)
@@ -12,11 +11,11 @@ line-field-requires c κs = search (parts, needs)
 enum-known-start : tie.Need-enum-known-start
 enum-known-start c = search (parts, needs)
 
+add-t11 : tie.Need-add-t11
+add-t11 c = search (parts, needs)
+
 add-t12 : tie.Need-add-t12
 add-t12 c = search (parts, needs)
-
-add-t13 : tie.Need-add-t13
-add-t13 c = search (parts, needs)
 
 enum-told : tie.Need-enum-told
 enum-told c = search (parts, needs)
@@ -30,12 +29,4 @@ returns-2 c = search (parts, needs)
 pub field-at-spec : {M : Type 1} → statement M
 field-at-spec =
     tie.close
-    (tie.spec
-    part-requires
-    line-field-requires
-    enum-known-start
-    add-t12
-    add-t13
-    enum-told
-    returns
-    returns-2)
+    (tie.spec line-field-requires enum-known-start add-t11 add-t12 enum-told returns returns-2)

@@ -2,6 +2,8 @@ use Rattle.header.proofs.Verdicts.{records}
 use borrow.Author.Needs.{needs}
 use Rattle.header.proofs.verdict.judge_record.Statement.{statement}
 use Rattle.header.proofs.verdict.judge_record.Tie as tie
+use Rattle.header.proofs.verdict.judge_record.Reads as reads
+use Rattle.header.proofs.verdict.judge_record.Lts as lts
 
 part-requires : tie.Need-part-requires
 part-requires c κs = search (records, needs)
@@ -21,8 +23,14 @@ judge-map-requires c κs = search (records, needs)
 enum-known-value : tie.Need-enum-known-value
 enum-known-value c = search (records, needs)
 
-plain-requires : tie.Need-plain-requires
-plain-requires c κs = search (records, needs)
+key-length-requires : tie.Need-key-length-requires
+key-length-requires c κs = search (records, needs)
+
+counted-requires : tie.Need-counted-requires
+counted-requires c κs = search (records, needs)
+
+keyed-requires : tie.Need-keyed-requires
+keyed-requires c κs = search (records, needs)
 
 part-requires-2 : tie.Need-part-requires-2
 part-requires-2 c κs = search (records, needs)
@@ -61,7 +69,9 @@ judge-record-spec =
     enum-known-map
     judge-map-requires
     enum-known-value
-    plain-requires
+    key-length-requires
+    counted-requires
+    keyed-requires
     part-requires-2
     judge-id-requires
     enum-known-x

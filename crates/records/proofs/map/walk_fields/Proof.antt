@@ -6,10 +6,10 @@ use Rattle.records.proofs.map.walk_fields.Statement.{statement}
 use Rattle.records.proofs.map.walk_fields.Tie as tie
 
 abbrev Inv-loop : tie.InvT-loop
-Inv-loop s map c₀ slots₀ c slots = Walking map s (c .at) slots
+Inv-loop s map c₀ slots₀ fields₀ c slots fields = Walking map s (c .at) slots fields
 
 abbrev μ-loop : tie.MeasureT-loop
-μ-loop s map c₀ slots₀ c slots = length s - c .at
+μ-loop s map c₀ slots₀ fields₀ c slots fields = length s - c .at
 
 empty-requires : tie.Need-empty-requires Inv-loop μ-loop
 empty-requires c κs = search (walks, needs)
@@ -22,6 +22,9 @@ read-field-requires c κs = search (walks, needs)
 
 enum-known-d : tie.Need-enum-known-d Inv-loop μ-loop
 enum-known-d c = search (walks, needs)
+
+add-fields : tie.Need-add-fields Inv-loop μ-loop
+add-fields c = search (walks, needs)
 
 loop-less : tie.Need-loop-less Inv-loop μ-loop
 loop-less c = search (walks, needs)
@@ -51,6 +54,7 @@ walk-fields-spec =
     loop-holds
     read-field-requires
     enum-known-d
+    add-fields
     loop-less
     loop-again
     enum-known-kept

@@ -1,14 +1,18 @@
 use borrow.Author.Needs.{needs}
 use Prim.Native.Nat.{_-_}
+use Rattle.turning.specs.Turning.{wayOf}
 use Rattle.turning.proofs.Turns.{Judging, judges}
 use Rattle.turning.proofs.turn.judge.Statement.{statement}
 use Rattle.turning.proofs.turn.judge.Tie as tie
 
 abbrev Inv-loop : tie.InvT-loop
-Inv-loop h source from to count fit₀ n₀ fit n = Judging from to h source fit n
+Inv-loop h source into count fit₀ n₀ fit n = Judging (wayOf into) h source fit n
 
 abbrev μ-loop : tie.MeasureT-loop
-μ-loop h source from to count fit₀ n₀ fit n = count - n
+μ-loop h source into count fit₀ n₀ fit n = count - n
+
+source-requires : tie.Need-source-requires Inv-loop μ-loop
+source-requires c κs = search (judges, needs)
 
 count-requires : tie.Need-count-requires Inv-loop μ-loop
 count-requires c κs = search (judges, needs)
@@ -16,8 +20,8 @@ count-requires c κs = search (judges, needs)
 loop-holds : tie.Need-loop-holds Inv-loop μ-loop
 loop-holds c = search (judges, needs)
 
-entry-at-requires : tie.Need-entry-at-requires Inv-loop μ-loop
-entry-at-requires c κs = search (judges, needs)
+turned-requires : tie.Need-turned-requires Inv-loop μ-loop
+turned-requires c κs = search (judges, needs)
 
 enum-known-e : tie.Need-enum-known-e Inv-loop μ-loop
 enum-known-e c = search (judges, needs)
@@ -30,6 +34,9 @@ returns c = search (judges, needs)
 
 add-n : tie.Need-add-n Inv-loop μ-loop
 add-n c = search (judges, needs)
+
+target-requires : tie.Need-target-requires Inv-loop μ-loop
+target-requires c κs = search (judges, needs)
 
 fits-requires : tie.Need-fits-requires Inv-loop μ-loop
 fits-requires c κs = search (judges, needs)
@@ -58,13 +65,15 @@ judge-spec =
     (tie.spec
     Inv-loop
     μ-loop
+    source-requires
     count-requires
     loop-holds
-    entry-at-requires
+    turned-requires
     enum-known-e
     enum-told
     returns
     add-n
+    target-requires
     fits-requires
     loop-less
     loop-again

@@ -21,8 +21,14 @@ refuse-requires-2 c κs = search (turns, needs)
 enum-told-3 : tie.Need-enum-told-3
 enum-told-3 c = search (turns, needs)
 
+source-requires : tie.Need-source-requires
+source-requires c κs = search (turns, needs)
+
 count-requires : tie.Need-count-requires
 count-requires c κs = search (turns, needs)
+
+target-requires : tie.Need-target-requires
+target-requires c κs = search (turns, needs)
 
 count-requires-2 : tie.Need-count-requires-2
 count-requires-2 c κs = search (turns, needs)
@@ -61,7 +67,9 @@ turn-spec =
     enum-told-2
     refuse-requires-2
     enum-told-3
+    source-requires
     count-requires
+    target-requires
     count-requires-2
     refuse-requires-3
     same-length

@@ -3,6 +3,8 @@ use Rattle.header.proofs.Parsers.{keeps}
 use borrow.Author.Needs.{needs}
 use Rattle.header.proofs.parser.Parser.keep.Statement.{statement}
 use Rattle.header.proofs.parser.Parser.keep.Tie as tie
+use Rattle.header.proofs.parser.Parser.keep.Reads as reads
+use Rattle.header.proofs.parser.Parser.keep.Lts as lts
 
 add-line : tie.Need-add-line
 add-line c = search (keeps, next-fits, needs)
@@ -16,8 +18,11 @@ enum-known-verdict-2 c = search (keeps, next-fits, needs)
 part-requires : tie.Need-part-requires
 part-requires c κs = search (keeps, next-fits, needs)
 
-plain-requires : tie.Need-plain-requires
-plain-requires c κs = search (keeps, next-fits, needs)
+counted-requires : tie.Need-counted-requires
+counted-requires c κs = search (keeps, next-fits, needs)
+
+keyed-requires : tie.Need-keyed-requires
+keyed-requires c κs = search (keeps, next-fits, needs)
 
 put-requires : tie.Need-put-requires
 put-requires c κs = search (keeps, next-fits, needs)
@@ -43,8 +48,8 @@ same-length-2 c = search (keeps, next-fits, needs)
 returns-2 : tie.Need-returns-2
 returns-2 c = search (keeps, next-fits, needs)
 
-add-t33 : tie.Need-add-t33
-add-t33 c = search (keeps, next-fits, needs)
+add-t34 : tie.Need-add-t34
+add-t34 c = search (keeps, next-fits, needs)
 
 enum-known-verdict-4 : tie.Need-enum-known-verdict-4
 enum-known-verdict-4 c = search (keeps, next-fits, needs)
@@ -64,11 +69,11 @@ returns-3 c = search (keeps, next-fits, needs)
 write-columns-requires : tie.Need-write-columns-requires
 write-columns-requires c κs = search (keeps, next-fits, needs)
 
-add-t35 : tie.Need-add-t35
-add-t35 c = search (keeps, next-fits, needs)
+add-t36 : tie.Need-add-t36
+add-t36 c = search (keeps, next-fits, needs)
 
-add-t38 : tie.Need-add-t38
-add-t38 c = search (keeps, next-fits, needs)
+add-t39 : tie.Need-add-t39
+add-t39 c = search (keeps, next-fits, needs)
 
 returns-4 : tie.Need-returns-4
 returns-4 c = search (keeps, next-fits, needs)
@@ -99,7 +104,8 @@ keep-spec =
     enum-known-verdict
     enum-known-verdict-2
     part-requires
-    plain-requires
+    counted-requires
+    keyed-requires
     put-requires
     same-length
     returns
@@ -108,15 +114,15 @@ keep-spec =
     put-requires-2
     same-length-2
     returns-2
-    add-t33
+    add-t34
     enum-known-verdict-4
     count-requires
     sub-if3
     same-length-3
     returns-3
     write-columns-requires
-    add-t35
-    add-t38
+    add-t36
+    add-t39
     returns-4
     same-length-4
     returns-5

@@ -1,0 +1,2 @@
+// An entry's line, read again by itself.
+pub mod read;

@@ -1,5 +1,6 @@
 /* Reads one header over and over, by htslib or by vcfh in the first or the second form, or writes its house form or its dictionaries:
-   bench hts|read|second|house|dictionaries FILE TIMES.
+   bench hts|read|second|house|dictionaries FILE TIMES. Or builds the index of its IDs, or looks each of its contigs up once, at random,
+   by htslib or in an index of twice as many places as entries, in either form: bench index|hts-find|find|find-second FILE TIMES.
    Prints the best round's nanoseconds for one header. */
 #include <stdio.h>
 #include <stdlib.h>
@@ -44,6 +45,84 @@ static int dictionaries(void) {
     return vcfh_dictionaries(bytes, length, 0, 0, 0, VCFH_FIRST, table, WORDS, strings, SIZE / 8, contigs, SIZE / 8).number == 0;
 }
 
+/* The contigs of the header in the order in which they are looked up: their names, and their entries' numbers. */
+static char names[SIZE];
+static const char *name[SIZE / 16];
+static uint64_t entry[SIZE / 16];
+static size_t contig_count, entries;
+static uint32_t index_[WORDS];
+
+static size_t words_in(uint64_t form) { return VCFH_WORDS(form) * entries; }
+
+static int index_in(uint64_t form) {
+    return vcfh_build_index((const uint8_t *)header, length, table, words_in(form), form, index_, 2 * entries).number == 0;
+}
+
+static int index_first(void) { return index_in(VCFH_FIRST); }
+
+/* Reads the header and keeps its contigs' names, then puts them out of order. */
+static int prepare(uint64_t form) {
+    const uint8_t *bytes = (const uint8_t *)header;
+    vcfh_answer answer = vcfh_read(bytes, length, 0, 0, 0, form, table, WORDS);
+    char *next = names;
+    entries = answer.entries;
+    if (answer.number || 2 * entries > WORDS) return 0;
+    for (uint64_t n = 0; n < entries; n++) {
+        vcfh_part line = vcfh_entry(bytes, length, table, words_in(form), form, n), id = vcfh_id(bytes, length, table, words_in(form), form, n);
+        if (id.number || strncmp(header + line.start, "##contig", 8) != 0) continue;
+        memcpy(next, header + id.start, id.length);
+        name[contig_count] = next, entry[contig_count++] = n;
+        next += id.length + 1;
+    }
+    uint64_t random = 1;
+    for (size_t i = contig_count; i > 1; i--) {
+        random = random * 6364136223846793005 + 1442695040888963407;
+        size_t other = (random >> 33) % i;
+        const char *text = name[i - 1];
+        uint64_t number = entry[i - 1];
+        name[i - 1] = name[other], entry[i - 1] = entry[other], name[other] = text, entry[other] = number;
+    }
+    return index_in(form);
+}
+
+static int find_in(uint64_t form) {
+    size_t words = words_in(form);
+    for (size_t i = 0; i < contig_count; i++) {
+        const uint8_t *id = (const uint8_t *)name[i];
+        vcfh_found found = vcfh_find((const uint8_t *)header, length, table, words, form, index_, 2 * entries, 6, id, strlen(name[i]));
+        if (!found.found || found.entry != entry[i]) return 0;
+    }
+    return 1;
+}
+
+static int find_first(void) { return find_in(VCFH_FIRST); }
+static int find_second(void) { return find_in(VCFH_SECOND); }
+
+#ifdef HTS
+static bcf_hdr_t *known;
+#endif
+
+static int hts_find(void) {
+#ifdef HTS
+    for (size_t i = 0; i < contig_count; i++)
+        if (bcf_hdr_name2id(known, name[i]) < 0) return 0;
+    return 1;
+#else
+    return 0;
+#endif
+}
+
+/* What is looked up in, where something is. */
+static int ready(const char *what) {
+    if (strcmp(what, "find-second") == 0) return prepare(VCFH_SECOND);
+    if (strcmp(what, "find") != 0 && strcmp(what, "hts-find") != 0 && strcmp(what, "index") != 0) return 1;
+#ifdef HTS
+    known = bcf_hdr_init("r");
+    if (bcf_hdr_parse(known, header)) return 0;
+#endif
+    return prepare(VCFH_FIRST);
+}
+
 static double now(void) {
     struct timespec t;
     clock_gettime(CLOCK_MONOTONIC, &t);
@@ -57,7 +136,10 @@ int main(int count, char **words) {
     length = fread(header, 1, SIZE, file);
     int (*call)(void) = strcmp(words[1], "hts") == 0 ? hts : strcmp(words[1], "house") == 0 ? house
                         : strcmp(words[1], "dictionaries") == 0 ? dictionaries
-                        : strcmp(words[1], "second") == 0 ? read_second : read_first;
+                        : strcmp(words[1], "second") == 0 ? read_second : strcmp(words[1], "index") == 0 ? index_first
+                        : strcmp(words[1], "hts-find") == 0 ? hts_find : strcmp(words[1], "find") == 0 ? find_first
+                        : strcmp(words[1], "find-second") == 0 ? find_second : read_first;
+    if (!ready(words[1])) return 1;
     long times = atol(words[3]);
     double best = 1e300;
     for (int round = 0; round < (times ? ROUNDS : 0); round++) {

@@ -195,6 +195,27 @@ static void long_line(uint64_t form, uint64_t number, uint64_t entries, uint64_t
     same("long line's names", vcfh_dictionaries(large, length, 0, 0, 0, form, table, WORDS, strings, 2, names, 2).number, number);
 }
 
+/* Entry 1 is the FILTER x, entry 2 the INFO x and entry 3 the contig a"b, each at another place of eight; that of a contig x is open. */
+static void indexes(uint64_t form, uint64_t other) {
+    const char *header = "##fileformat=VCFv4.3\n##FILTER=<ID=x,Description=d>\n##INFO=<ID=x,Number=1,Type=Float,Description=d>\n"
+                         "##contig=<ID=\"a\\\"b\">\n" COLUMNS "\n";
+    const uint8_t *h = bytes(header);
+    size_t length = strlen(header), entries = read_in(header, form).entries, words = VCFH_WORDS(form) * entries;
+    uint32_t index[9] = {7, 7, 7, 7, 7, 7, 7, 7, 7};
+    same("too few places", vcfh_build_index(h, length, table, words, form, index, 2).number, 33), same("kept", index[0], 7);
+    same("index in the other form", vcfh_build_index(h, length, table, words, other, index, 8).number, 29), same("kept too", index[7], 7);
+    vcfh_indexed built = vcfh_build_index(h, length, table, words, form, index, 8);
+    same("built", built.number, 0), same("placed", built.placed, 3), same("past the places", index[8], 7);
+    vcfh_found found = vcfh_find(h, length, table, words, form, index, 8, 2, bytes("x"), 1);
+    same("found", found.found, 1), same("INFO x", found.entry, 2), same("looked", found.looked, 1);
+    same("FILTER x", vcfh_find(h, length, table, words, form, index, 8, 3, bytes("x"), 1).entry, 1);
+    same("contig", vcfh_find(h, length, table, words, form, index, 8, 6, bytes("a\"b"), 3).entry, 3);
+    found = vcfh_find(h, length, table, words, form, index, 8, 6, bytes("x"), 1);
+    same("none", found.found, 0), same("no entry", found.entry, 0), same("looked for none", found.looked, 1);
+    same("other kind", vcfh_find(h, length, table, words, form, index, 8, 7, bytes("x"), 1).looked, 0);
+    same("no places", vcfh_find(h, length, table, words, form, index, 0, 2, bytes("x"), 1).looked, 0);
+}
+
 int main(void) {
     versions(), places(), forms(), contigs();
     parts(VCFH_FIRST, VCFH_SECOND), parts(VCFH_SECOND, VCFH_FIRST), parts(0, VCFH_SECOND), parts(3, VCFH_SECOND);
@@ -202,6 +223,7 @@ int main(void) {
     stored("first form", VCFH_FIRST, firsts), stored("second form", VCFH_SECOND, seconds);
     stored("form 0", 0, firsts), stored("form 3", 3, firsts), stored("form 2^32 + 2", 0x100000002, firsts);
     turning(), fits(), keys();
+    indexes(VCFH_FIRST, VCFH_SECOND), indexes(VCFH_SECOND, VCFH_FIRST), indexes(0, VCFH_SECOND), indexes(3, VCFH_SECOND);
     long_line(VCFH_FIRST, 2, 1, 2, 2), long_line(VCFH_SECOND, 0, 3, 28, 39);
     same("UTF-8", vcfh_utf8(bytes("\xc3\xa9"), 2), 1);
     same("no UTF-8", vcfh_utf8(bytes("\xc3\xa9"), 1), 0);

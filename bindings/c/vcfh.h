@@ -122,6 +122,23 @@ static inline const char *vcfh_words(uint64_t number) {
     }
 }
 
+/* number: 0, 29 where an entry is not well formed, 33 where an index has fewer places than there are entries to index.
+   placed: how many entries were placed, 0 if refused. */
+typedef struct { uint64_t number, placed; } vcfh_indexed;
+
+/* Clears an index and places every INFO, FILTER, FORMAT, ALT and contig entry of the table there, in table order. Give the table as the
+   words of the entries that it holds; twice as many places as entries keep searches short. The index stays if it is refused. */
+vcfh_indexed vcfh_build_index(const uint8_t *header, size_t length, const uint64_t *table, size_t words, uint64_t form,
+                              uint32_t *index, size_t places);
+
+/* found: 1, and entry is its number; or 0. looked: how many places of the index were looked at. */
+typedef struct { uint64_t found, entry, looked; } vcfh_found;
+
+/* Looks for an entry of this kind (2 to 6, as vcfh_kind has them) whose ID has these bytes, unescaped. In an index that was built from this
+   header and this table it is found exactly where the table has one, and it is the first. */
+vcfh_found vcfh_find(const uint8_t *header, size_t length, const uint64_t *table, size_t words, uint64_t form,
+                     const uint32_t *index, size_t places, uint64_t kind, const uint8_t *id, size_t id_length);
+
 #ifdef __cplusplus
 }
 #endif

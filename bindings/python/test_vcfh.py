@@ -119,11 +119,33 @@ class Reading(unittest.TestCase):
         self.assertEqual([entry.fields for entry in header], [[], [], [b"K=1", b'L="2,3"', b'ID="W07"'], []])
 
     def test_every_number_has_its_own_words(self):
-        self.assertEqual(sorted(vcfh.WORDS), [*range(1, 30), 31, 32, *range(34, 44)])
+        self.assertEqual(sorted(vcfh.WORDS), [*range(1, 30), *range(31, 44)])
         self.assertEqual(len(set(vcfh.WORDS.values())), len(vcfh.WORDS))
 
     def test_utf8_is_told_from_other_bytes(self):
         self.assertEqual([vcfh.is_utf8(data) for data in (b"", "Grüße".encode(), b"\xc0\x80", b"\xed\xa0\x80")], [True, True, False, False])
+
+
+class Indexes(unittest.TestCase):
+    LINES = b'##FILTER=<ID=x,Description=d>\n##cell=<ID=x>\n##contig=<ID="a\\"b">\n##contig=<ID=x>\n'
+    HEADER = b"##fileformat=VCFv4.3\n" + LINES + COLUMNS + b"\n"
+
+    def test_ids_are_found_by_kind_and_meaning(self):
+        for form in (vcfh.FIRST, vcfh.SECOND):
+            index = vcfh.Header(self.HEADER, form=form).index()
+            asked = [("FILTER", b"x"), ("contig", b"x"), ("contig", b'a"b'), ("contig", b'a\\"b'), ("INFO", b"x"), ("contig", b"")]
+            self.assertEqual([index.find(*words)[0] for words in asked], [1, 4, 3, None, None, None])
+            self.assertEqual(index.find("other map", b"x"), (None, 0))
+
+    def test_places_are_counted(self):
+        header = vcfh.Header(self.HEADER)
+        self.assertEqual(header.index(3).find("contig", b"y"), (None, 3))
+        self.assertEqual(header.index(64).find("FILTER", b"x"), (1, 1))
+        self.assertEqual(refused(header.index, 2).number, 33)
+        self.assertEqual(refused(header.index, 0).number, 33)
+
+    def test_a_header_without_ids_has_an_index_without_places(self):
+        self.assertEqual(vcfh.Header(PROBE).index(0).find("contig", b"x"), (None, 0))
 
 
 class Forms(unittest.TestCase):

@@ -61,12 +61,21 @@ class _Listed(ctypes.Structure):
     _fields_ = [(name, ctypes.c_uint64) for name in ("number", "listed")]
 
 
+class _Indexed(ctypes.Structure):
+    _fields_ = [(name, ctypes.c_uint64) for name in ("number", "placed")]
+
+
+class _Found(ctypes.Structure):
+    _fields_ = [(name, ctypes.c_uint64) for name in ("found", "entry", "looked")]
+
+
 class _Turned(ctypes.Structure):
     _fields_ = [(name, ctypes.c_uint64) for name in ("number", "entries")]
 
 
 _BYTES = [ctypes.c_char_p, ctypes.c_size_t]
 _TABLE = [ctypes.POINTER(ctypes.c_uint64), ctypes.c_size_t]
+_INDEX = [ctypes.POINTER(ctypes.c_uint32), ctypes.c_size_t]
 _NUMBER = [ctypes.c_uint64]
 _VERSION = [ctypes.c_uint32, ctypes.c_uint32]
 # the header, the version imposed, the form and the table
@@ -90,6 +99,8 @@ def _library():
         ("vcfh_key", _Key, _SHOWING + _NUMBER),
         ("vcfh_field", _Part, _SHOWING + _NUMBER + _VERSION + _NUMBER),
         ("vcfh_odd", _Listed, _SHOWING + _VERSION + _TABLE),
+        ("vcfh_build_index", _Indexed, _SHOWING + _INDEX),
+        ("vcfh_find", _Found, _SHOWING + _INDEX + _NUMBER + _BYTES),
         ("vcfh_to_second", _Turned, _BYTES + _TABLE + _VERSION + _TABLE),
         ("vcfh_to_first", _Turned, _BYTES + _TABLE + _TABLE),
     ):
@@ -170,6 +181,10 @@ class Header:
         answer = _vcfh.vcfh_odd(self._data, len(self._data), self._table, _WORDS[self.form] * self._entries, self.form, *self.version, listed, room)
         return list(listed[: _accepted(answer).listed])
 
+    def index(self, places=None):
+        """An index of the IDs, of so many places, or else of twice as many as entries; Refused, with number 33, where these are too few."""
+        return Index(self, 2 * self._entries if places is None else places)
+
     def to_form(self, form):
         """This header with its entries stored in the form given; Refused, with number 32, where one does not fit the first form."""
         if _named(form) == self.form:
@@ -198,6 +213,27 @@ class Header:
     def _part(self, call, *numbers):
         part = call(self._data, len(self._data), self._table, self._words, self.form, *numbers)
         return None if part.number else self._data[part.start : part.start + part.length]
+
+
+class Index:
+    """An index of a header's INFO, FILTER, FORMAT, ALT and contig IDs, by which one is found without walking over all entries."""
+
+    def __init__(self, header, places):
+        self._header, self._places = header, places
+        self._index = (ctypes.c_uint32 * max(places, 1))()
+        _accepted(self._call(_vcfh.vcfh_build_index))
+
+    def find(self, kind, identity):
+        """The number of the first entry of this kind (one of KINDS) whose ID, unescaped, has these bytes, or None; and how many places
+        were looked at."""
+        identity = bytes(identity)
+        answer = self._call(_vcfh.vcfh_find, KINDS.index(kind) + 1, identity, len(identity))
+        return (answer.entry if answer.found else None), answer.looked
+
+    def _call(self, call, *more):
+        header = self._header
+        words = _WORDS[header.form] * header._entries
+        return call(header._data, len(header._data), header._table, words, header.form, self._index, self._places, *more)
 
 
 def house_form(data, version=None, *, form=FIRST):

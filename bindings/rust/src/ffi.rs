@@ -83,6 +83,19 @@ pub struct Turned {
     pub entries: u64,
 }
 
+#[repr(C)]
+pub struct Indexed {
+    pub number: u64,
+    pub placed: u64,
+}
+
+#[repr(C)]
+pub struct Found {
+    pub found: u64,
+    pub entry: u64,
+    pub looked: u64,
+}
+
 extern "C" {
     fn vcfh_utf8(bytes: *const u8, length: usize) -> u64;
     fn vcfh_read(header: *const u8, length: usize, imposed: u64, major: u32, minor: u32, form: u64, table: *mut u64, words: usize) -> Answer;
@@ -140,6 +153,19 @@ extern "C" {
         list: *mut u64,
         list_words: usize,
     ) -> Listed;
+    fn vcfh_build_index(header: *const u8, length: usize, table: *const u64, words: usize, form: u64, index: *mut u32, places: usize) -> Indexed;
+    fn vcfh_find(
+        header: *const u8,
+        length: usize,
+        table: *const u64,
+        words: usize,
+        form: u64,
+        index: *const u32,
+        places: usize,
+        kind: u64,
+        id: *const u8,
+        id_length: usize,
+    ) -> Found;
     fn vcfh_to_second(
         header: *const u8,
         length: usize,
@@ -235,4 +261,14 @@ pub fn dictionaries(header: &[u8], imposed: Option<Version>, form: Form, table: 
             contigs.len(),
         )
     }
+}
+
+pub fn build_index(header: &[u8], table: &[u64], form: Form, index: &mut [u32]) -> Indexed {
+    let (words, places) = (table.len(), index.len());
+    unsafe { vcfh_build_index(header.as_ptr(), header.len(), table.as_ptr(), words, form as u64, index.as_mut_ptr(), places) }
+}
+
+pub fn find(header: &[u8], table: &[u64], form: Form, index: &[u32], kind: u64, id: &[u8]) -> Found {
+    let (words, places) = (table.len(), index.len());
+    unsafe { vcfh_find(header.as_ptr(), header.len(), table.as_ptr(), words, form as u64, index.as_ptr(), places, kind, id.as_ptr(), id.len()) }
 }

@@ -280,6 +280,18 @@ impl<'h> Header<'h> {
         list
     }
 
+    /// An index of the IDs, with twice as many places as entries.
+    pub fn index(&self) -> Result<Index<'_, 'h>, Refused> {
+        self.index_of(2 * (self.table.len() / self.form.words()))
+    }
+
+    /// An index of the IDs with so many places; refused with 33 where they are too few.
+    pub fn index_of(&self, places: usize) -> Result<Index<'_, 'h>, Refused> {
+        let mut index = vec![0; places];
+        accepted(ffi::build_index(self.bytes, &self.table, self.form, &mut index).number, 0, 0)?;
+        Ok(Index { header: self, index })
+    }
+
     fn part(&self, part: ffi::Part) -> Option<&'h [u8]> {
         let start = part.start as usize;
         (part.number == 0).then(|| &self.bytes[start..start + part.length as usize])
@@ -349,5 +361,22 @@ impl<'t, 'h> Iterator for Entries<'t, 'h> {
         let entry = self.header.entry(self.next)?;
         self.next += 1;
         Some(entry)
+    }
+}
+
+/// An index of a header's INFO, FILTER, FORMAT, ALT and contig IDs, by which one is found without a walk over all entries.
+#[derive(Clone, Debug)]
+pub struct Index<'t, 'h> {
+    header: &'t Header<'h>,
+    index: Vec<u32>,
+}
+
+impl<'t, 'h> Index<'t, 'h> {
+    /// The first entry of this kind whose ID, unescaped, has these bytes, and how many places were looked at for it.
+    pub fn find(&self, kind: Kind, id: &[u8]) -> (Option<Entry<'t, 'h>>, u64) {
+        let header = self.header;
+        let answer = ffi::find(header.bytes, &header.table, header.form, &self.index, kind as u64 + 1, id);
+        let entry = if answer.found == 1 { header.entry(answer.entry) } else { None };
+        (entry, answer.looked)
     }
 }

@@ -238,3 +238,19 @@ fn entries_that_do_not_fit_the_first_form_are_not_turned() {
     let header = Header::read_in(bytes.as_bytes(), None, Form::Second).unwrap();
     assert_eq!(header.to_form(Form::First).unwrap_err(), Refused { number: 32, line: 0, start: 0 });
 }
+
+#[test]
+fn ids_are_found_by_kind_and_meaning() {
+    let lines = "##FILTER=<ID=x,Description=d>\n##cell=<ID=x>\n##contig=<ID=\"a\\\"b\">\n##contig=<ID=x>\n";
+    let bytes = format!("##fileformat=VCFv4.3\n{lines}{COLUMNS}\n");
+    for form in [Form::First, Form::Second] {
+        let header = Header::read_in(bytes.as_bytes(), None, form).unwrap();
+        let index = header.index().unwrap();
+        let found = |kind, id: &str| index.find(kind, id.as_bytes()).0.map(|entry| entry.number());
+        assert_eq!([found(Kind::Filter, "x"), found(Kind::Contig, "x"), found(Kind::Contig, "a\"b")], [Some(1), Some(4), Some(3)]);
+        assert_eq!([found(Kind::Contig, "a\\\"b"), found(Kind::Info, "x"), found(Kind::OtherMap, "x")], [None, None, None]);
+        assert_eq!(index.find(Kind::OtherMap, b"x").1, 0);
+        assert_eq!(header.index_of(3).unwrap().find(Kind::Contig, b"y").1, 3);
+        assert_eq!(header.index_of(2).unwrap_err(), Refused { number: 33, line: 0, start: 0 });
+    }
+}

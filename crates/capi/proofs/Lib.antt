@@ -1,3 +1,4 @@
 pub mod Answers
 pub mod Dictionaries
 pub mod Contigs
+pub mod Searches

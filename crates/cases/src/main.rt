@@ -4,6 +4,7 @@ mod calls;
 mod contigs;
 mod dictionaries;
 mod forms;
+mod indexes;
 mod library;
 mod odd;
 mod reads;
@@ -54,6 +55,9 @@ fn answer(asked: &[u8], input: &[u8], form: &mut [u8], out: &mut [u8]) -> usize 
     }
     if words::is_asked(asked, b"odd") {
         return odd::put(out, input, asked);
+    }
+    if indexes::is_asked(asked) {
+        return indexes::put(out, input, asked);
     }
     if words::is_asked(asked, b"to-first") {
         return turns::put(out, input, asked, Form::Second);

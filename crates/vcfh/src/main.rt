@@ -1,10 +1,11 @@
 // What bin/vcfh runs. The first argument is `large` where the stack has room for the largest headers. Then three make a case: a command, the version to impose as a fileformat line has it (`-`: none), and a
-// file's name (`-`: standard input). The command cells-new compares with the file of the cells-old before it.
+// file's name (`-`: standard input). The command find- has what is looked for behind it; cells-new compares with the file of the cells-old before it.
 // What came of a case is told on descriptor 3, by which bin/vcfh goes; sentences and notes stand on standard error.
 mod asked;
 mod cells;
 mod contigs;
 mod fields;
+mod finding;
 mod form;
 mod input;
 mod listing;
@@ -15,6 +16,7 @@ mod spelled;
 mod twice;
 mod why;
 
+use entries::table;
 use form::FORM;
 use header::file_format_option::FileFormatOption;
 use header::parser::Outcome;
@@ -145,6 +147,22 @@ fn odd(header: &[u8], imposed: FileFormatOption, table: &mut [u64], list: &mut [
     }
 }
 
+// The argument of this number says what is looked for.
+fn find(number: usize, header: &[u8], imposed: FileFormatOption, table: &mut [u64]) {
+    let answer = header::parser::read(header, imposed, FORM, table);
+    let outcome = answer.outcome;
+    match outcome {
+        Outcome::Accepted(version, _) => {
+            finding::say_found(header, table::kept(table, FORM, answer.entries), number);
+            notes::say_notes(header, table, answer.entries, version);
+        }
+        Outcome::Refused(refusal) => {
+            say::refused(refusal.number(), answer.line, answer.start);
+            why::say_why(refusal, header, imposed, answer.start);
+        }
+    }
+}
+
 // A header that is not read is refused as the listing of its entries is.
 fn dictionary(
     header: &[u8],
@@ -251,6 +269,11 @@ fn run_command(
         return;
     }
     let header = bytes::part(text, 0, input::header_end(text));
+    // Where the ID is too long for the buffer, the argument's first bytes stand there.
+    if bytes::starts_with(&word, b"find-") {
+        find(number, header, imposed, table);
+        return;
+    }
     run_after(
         &word[..word_end],
         header,

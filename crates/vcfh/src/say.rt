@@ -3,7 +3,8 @@ use values::bytes;
 ghost use Prim.Native.Nat.{_≤_};
 
 // A word for bin/vcfh, which has no other way to learn what came of a case. `n`: refused; `d`: two headers differ; `r`: the input was
-// not read; `v`: no version to impose; `z`: the input is packed; `w`: a write failed; `p`: nobody reads the output any more.
+// not read; `v`: no version to impose; `z`: the input is packed; `w`: a write failed; `p`: nobody reads the output any more; `e`: nothing was found;
+// `i`: an index has no room.
 pub fn tell(word: &[u8]) {
     io::write_all(3, word);
 }

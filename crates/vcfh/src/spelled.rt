@@ -85,7 +85,8 @@ fn say_numbers(l: &[u8], version: FileFormat) {
     }
 }
 
-fn line_of(n: usize) -> u64 {
+// The line of an entry that is a map.
+pub fn line_of(n: usize) -> u64 {
     if n < 0xFFFF_FFFF {
         return n as u64 + 1;
     }

@@ -1,0 +1,5 @@
+pub mod Places
+pub mod Finding
+pub mod Building
+pub mod Holes
+pub mod Theorems

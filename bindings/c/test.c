@@ -216,6 +216,31 @@ static void indexes(uint64_t form, uint64_t other) {
     same("no places", vcfh_find(h, length, table, words, form, index, 0, 2, bytes("x"), 1).looked, 0);
 }
 
+/* Each total in its place, in either form; and a sheet that is full stays. */
+static void season(uint64_t form) {
+    const char *probe = "##fileformat=VCFv4.3\n##cell=<ID=W07,K=0.98>\n#CHROM\tPOS\tID\tREF\tALT\tQUAL\tFILTER\tINFO\tFORMAT\ta\tb\n";
+    const char *twice = "##fileformat=VCFv4.3\n##FILTER=<ID=q,Description=x>\n##FILTER=<ID=q,Description=x>\n";
+    uint64_t table[64];
+    vcfh_sheet empty = {{0}}, full = {{0}};
+    vcfh_added a = vcfh_season_add(bytes(probe), strlen(probe), 0, 9, 9, form, table, 64, empty);
+    same("season, accepted", a.number, 0), same("season, lines", a.line, 3), same("season, bytes", a.start, strlen(probe)), same("season, entries", a.entries, 5);
+    vcfh_added b = vcfh_season_add(bytes(twice), strlen(twice), 1, 4, 2, form, table, 64, a.sheet);
+    same("season, refused", b.number, 19), same("season, line", b.line, 3), same("season, start", b.start, 51), same("season, kept", b.entries, 2);
+    for (unsigned i = 0; i < 39; i++) {
+        uint64_t total = i == VCFH_SEASON_READ || i == VCFH_SEASON_ENTRIES(10) ? 2 : 0;
+        if (i == VCFH_SEASON_ACCEPTED || i == VCFH_SEASON_REFUSED(19) || i == VCFH_SEASON_ENTRIES(1) || i == VCFH_SEASON_ENTRIES(7) || i == VCFH_SEASON_ENTRIES(9)) total = 1;
+        same("season, total", b.sheet.totals[i], total);
+        same("season, merged", vcfh_season_merge(a.sheet, b.sheet).sheet.totals[i], a.sheet.totals[i] + b.sheet.totals[i]);
+    }
+    same("season, merged number", vcfh_season_merge(a.sheet, b.sheet).number, 0);
+    full.totals[VCFH_SEASON_ENTRIES(10)] = UINT64_MAX - 1;
+    a = vcfh_season_add(bytes(probe), strlen(probe), 0, 0, 0, form, table, 64, full);
+    same("season, full", a.number, 30), same("season, no line", a.line, 0), same("season, no start", a.start, 0), same("season, read all the same", a.entries, 5);
+    same("season, as it was", memcmp(&a.sheet, &full, sizeof full), 0);
+    vcfh_merged m = vcfh_season_merge(full, b.sheet);
+    same("season, not merged", m.number, 30), same("season, first as it was", memcmp(&m.sheet, &full, sizeof full), 0);
+}
+
 int main(void) {
     versions(), places(), forms(), contigs();
     parts(VCFH_FIRST, VCFH_SECOND), parts(VCFH_SECOND, VCFH_FIRST), parts(0, VCFH_SECOND), parts(3, VCFH_SECOND);
@@ -224,6 +249,7 @@ int main(void) {
     stored("form 0", 0, firsts), stored("form 3", 3, firsts), stored("form 2^32 + 2", 0x100000002, firsts);
     turning(), fits(), keys();
     indexes(VCFH_FIRST, VCFH_SECOND), indexes(VCFH_SECOND, VCFH_FIRST), indexes(0, VCFH_SECOND), indexes(3, VCFH_SECOND);
+    season(VCFH_FIRST), season(VCFH_SECOND);
     long_line(VCFH_FIRST, 2, 1, 2, 2), long_line(VCFH_SECOND, 0, 3, 28, 39);
     same("UTF-8", vcfh_utf8(bytes("\xc3\xa9"), 2), 1);
     same("no UTF-8", vcfh_utf8(bytes("\xc3\xa9"), 1), 0);

@@ -107,6 +107,29 @@ vcfh_turned vcfh_to_second(const uint8_t *header, size_t length, const uint64_t 
 vcfh_turned vcfh_to_first(const uint8_t *header, size_t length, const uint64_t *second, size_t second_words,
                           uint64_t *first, size_t first_words);
 
+/* The sheet of a season: 39 totals over the headers that were added to it, all 0 where there are none. */
+typedef struct { uint64_t totals[39]; } vcfh_sheet;
+
+/* Which total is which: headers read, accepted, refused by number n (1 to 27), and entries of kind k (1 to 10) in accepted headers. */
+#define VCFH_SEASON_READ 0
+#define VCFH_SEASON_ACCEPTED 1
+#define VCFH_SEASON_REFUSED(n) (1 + (n))
+#define VCFH_SEASON_ENTRIES(k) (28 + (k))
+
+/* The same as an answer, or 30 where a total would be larger than 18446744073709551615; and the sheet after it, as it was where that is 30. */
+typedef struct { uint64_t number, line, start, entries; vcfh_sheet sheet; } vcfh_added;
+
+/* number: 0, or 30. sheet: the first one as it was where that is 30. */
+typedef struct { uint64_t number; vcfh_sheet sheet; } vcfh_merged;
+
+/* Reads a header into the table as vcfh_read does, and adds it to the sheet, whether it is accepted or refused. The totals are the same in
+   whatever order headers are added. */
+vcfh_added vcfh_season_add(const uint8_t *header, size_t length, uint64_t imposed, uint32_t major, uint32_t minor,
+                           uint64_t form, uint64_t *table, size_t words, vcfh_sheet sheet);
+
+/* The sheet of all headers of two sheets. */
+vcfh_merged vcfh_season_merge(vcfh_sheet sheet, vcfh_sheet other);
+
 /* 1 fileformat, 2 INFO, 3 FILTER, 4 FORMAT, 5 ALT, 6 contig, 7 other map, 8 other text, 9 column line, 10 sample. The table must hold
    the entry. */
 static inline unsigned vcfh_kind(const uint64_t *table, uint64_t form, uint64_t entry) {

@@ -28,6 +28,41 @@ def refused(call, *arguments, **named):
     raise AssertionError("not refused")
 
 
+class Seasons(unittest.TestCase):
+    def totals(self, season):
+        return season.read, season.accepted, season.refused, {kind: n for kind, n in season.entries.items() if n}
+
+    def test_headers_are_counted_in_whatever_order(self):
+        one, other = vcfh.Season(), vcfh.Season()
+        headers = [(PROBE, vcfh.FIRST), (TWICE, vcfh.SECOND), (b"", vcfh.FIRST), (PROBE, vcfh.SECOND)]
+        refusals = [one.add(header, form=form) for header, form in headers]
+        self.assertEqual([refusal and (refusal.number, refusal.line, refusal.start) for refusal in refusals], [None, (19, 3, 51), (25, 0, 0), None])
+        for header, form in reversed(headers):
+            other.add(header, form=form)
+        self.assertEqual(self.totals(one), (4, 2, {19: 1, 25: 1}, {"fileformat": 2, "other map": 2, "columns": 2}))
+        self.assertEqual(self.totals(other), self.totals(one))
+
+    def test_each_header_has_its_own_version(self):
+        season = vcfh.Season()
+        header = PROBE.replace(b"ID=W07,K=0.98", b"K=0.98")
+        self.assertIsNone(season.add(header, (4, 2)))
+        self.assertEqual(season.add(header).number, 14)
+        self.assertEqual(self.totals(season), (2, 1, {14: 1}, {"fileformat": 1, "other text": 1, "columns": 1}))
+
+    def test_nothing_is_counted_where_a_total_would_be_too_large(self):
+        season, power = vcfh.Season(), vcfh.Season()
+        power.add(PROBE)
+        for _ in range(63):
+            season.merge(power)
+            power.merge(power)
+        season.merge(power)
+        self.assertEqual((season.read, season.entries["columns"]), (2**64 - 1, 2**64 - 1))
+        for call, argument in ((season.merge, power), (season.add, PROBE), (season.add, b"")):
+            refusal = refused(call, argument)
+            self.assertEqual((refusal.number, refusal.line, refusal.start), (30, 0, 0))
+            self.assertEqual((season.read, season.accepted, season.refused), (2**64 - 1, 2**64 - 1, {}))
+
+
 class Cells(unittest.TestCase):
     def test_a_register_has_forty_constants(self):
         register = vcfh.Register(plate(lambda w: b"0.98" if w == 7 else b"1.00"))
@@ -119,7 +154,7 @@ class Reading(unittest.TestCase):
         self.assertEqual([entry.fields for entry in header], [[], [], [b"K=1", b'L="2,3"', b'ID="W07"'], []])
 
     def test_every_number_has_its_own_words(self):
-        self.assertEqual(sorted(vcfh.WORDS), [*range(1, 30), *range(31, 44)])
+        self.assertEqual(sorted(vcfh.WORDS), [*range(1, 44)])
         self.assertEqual(len(set(vcfh.WORDS.values())), len(vcfh.WORDS))
 
     def test_utf8_is_told_from_other_bytes(self):

@@ -73,6 +73,18 @@ class _Turned(ctypes.Structure):
     _fields_ = [(name, ctypes.c_uint64) for name in ("number", "entries")]
 
 
+class _Sheet(ctypes.Structure):
+    _fields_ = [("totals", ctypes.c_uint64 * 39)]
+
+
+class _Added(ctypes.Structure):
+    _fields_ = _Answer._fields_ + [("sheet", _Sheet)]
+
+
+class _Merged(ctypes.Structure):
+    _fields_ = [("number", ctypes.c_uint64), ("sheet", _Sheet)]
+
+
 _BYTES = [ctypes.c_char_p, ctypes.c_size_t]
 _TABLE = [ctypes.POINTER(ctypes.c_uint64), ctypes.c_size_t]
 _INDEX = [ctypes.POINTER(ctypes.c_uint32), ctypes.c_size_t]
@@ -103,6 +115,8 @@ def _library():
         ("vcfh_find", _Found, _SHOWING + _INDEX + _NUMBER + _BYTES),
         ("vcfh_to_second", _Turned, _BYTES + _TABLE + _VERSION + _TABLE),
         ("vcfh_to_first", _Turned, _BYTES + _TABLE + _TABLE),
+        ("vcfh_season_add", _Added, _READING + [_Sheet]),
+        ("vcfh_season_merge", _Merged, [_Sheet, _Sheet]),
     ):
         function = getattr(library, name)
         function.restype, function.argtypes = result, arguments
@@ -144,14 +158,18 @@ def _accepted(answer):
     return answer
 
 
-def _called(call, data, version, form, *more):
-    """The answer, the table and its size of a call that reads the header."""
+def _answered(call, data, version, form, *more):
+    """The answer, the table and its size of a call that reads the header, accepted or refused."""
     # each line and each tab gives one entry at most
     words = _WORDS[_named(form)] * (data.count(b"\n") + data.count(b"\t") + 1)
     table = (ctypes.c_uint64 * words)()
     imposed = (0, 0, 0) if version is None else (1, *version)
-    answer = _accepted(call(data, len(data), *imposed, form, table, words, *more))
-    return answer, table, words
+    return call(data, len(data), *imposed, form, table, words, *more), table, words
+
+
+def _called(call, data, version, form, *more):
+    answer, table, words = _answered(call, data, version, form, *more)
+    return _accepted(answer), table, words
 
 
 class Header:
@@ -277,6 +295,46 @@ def contigs(sam):
     out = ctypes.create_string_buffer(space)
     answer = _accepted(_vcfh.vcfh_contigs(sam, len(sam), out, space))
     return out.raw[: answer.length]
+
+
+class Season:
+    """The sheet of a season: totals over the headers that were added, which are the same in whatever order they were."""
+
+    def __init__(self):
+        self._sheet = _Sheet()
+
+    def add(self, data, version=None, *, form=FIRST):
+        """Counts a header, by the version given or else its own: why it is refused, or None where it is accepted. Raises Refused, with
+        number 30, and counts nothing where a total would be larger than 64 bits hold."""
+        answer, _, _ = _answered(_vcfh.vcfh_season_add, bytes(data), version, form, self._sheet)
+        if answer.number == 30:
+            _accepted(answer)
+        self._sheet = answer.sheet
+        return Refused(answer.number, answer.line, answer.start) if answer.number else None
+
+    def merge(self, other):
+        """Adds the totals of another sheet; raises Refused so where one would be too large."""
+        self._sheet = _accepted(_vcfh.vcfh_season_merge(self._sheet, other._sheet)).sheet
+
+    @property
+    def read(self):
+        """How many headers were read."""
+        return self._sheet.totals[0]
+
+    @property
+    def accepted(self):
+        """How many of them were accepted."""
+        return self._sheet.totals[1]
+
+    @property
+    def refused(self):
+        """How many were refused, by number, of the numbers that came."""
+        return {n: self._sheet.totals[1 + n] for n in range(1, 28) if self._sheet.totals[1 + n]}
+
+    @property
+    def entries(self):
+        """How many entries of each of KINDS the accepted headers have."""
+        return {kind: self._sheet.totals[29 + n] for n, kind in enumerate(KINDS)}
 
 
 def is_utf8(data):

@@ -96,6 +96,27 @@ pub struct Found {
     pub looked: u64,
 }
 
+#[repr(C)]
+#[derive(Clone, Copy)]
+pub struct Sheet {
+    pub totals: [u64; 39],
+}
+
+#[repr(C)]
+pub struct Added {
+    pub number: u64,
+    pub line: u64,
+    pub start: u64,
+    pub entries: u64,
+    pub sheet: Sheet,
+}
+
+#[repr(C)]
+pub struct Merged {
+    pub number: u64,
+    pub sheet: Sheet,
+}
+
 extern "C" {
     fn vcfh_utf8(bytes: *const u8, length: usize) -> u64;
     fn vcfh_read(header: *const u8, length: usize, imposed: u64, major: u32, minor: u32, form: u64, table: *mut u64, words: usize) -> Answer;
@@ -177,6 +198,18 @@ extern "C" {
         second_words: usize,
     ) -> Turned;
     fn vcfh_to_first(header: *const u8, length: usize, second: *const u64, second_words: usize, first: *mut u64, first_words: usize) -> Turned;
+    fn vcfh_season_add(
+        header: *const u8,
+        length: usize,
+        imposed: u64,
+        major: u32,
+        minor: u32,
+        form: u64,
+        table: *mut u64,
+        words: usize,
+        sheet: Sheet,
+    ) -> Added;
+    fn vcfh_season_merge(sheet: Sheet, other: Sheet) -> Merged;
 }
 
 pub fn utf8(bytes: &[u8]) -> bool {
@@ -271,4 +304,14 @@ pub fn build_index(header: &[u8], table: &[u64], form: Form, index: &mut [u32]) 
 pub fn find(header: &[u8], table: &[u64], form: Form, index: &[u32], kind: u64, id: &[u8]) -> Found {
     let (words, places) = (table.len(), index.len());
     unsafe { vcfh_find(header.as_ptr(), header.len(), table.as_ptr(), words, form as u64, index.as_ptr(), places, kind, id.as_ptr(), id.len()) }
+}
+
+pub fn season_add(header: &[u8], imposed: Option<Version>, form: Form, table: &mut [u64], totals: [u64; 39]) -> Added {
+    let (imposed, major, minor) = imposing(imposed);
+    let words = table.len();
+    unsafe { vcfh_season_add(header.as_ptr(), header.len(), imposed, major, minor, form as u64, table.as_mut_ptr(), words, Sheet { totals }) }
+}
+
+pub fn season_merge(totals: [u64; 39], other: [u64; 39]) -> Merged {
+    unsafe { vcfh_season_merge(Sheet { totals }, Sheet { totals: other }) }
 }

@@ -380,3 +380,67 @@ impl<'t, 'h> Index<'t, 'h> {
         (entry, answer.looked)
     }
 }
+
+/// The sheet of a season: totals over the headers that were added, which are the same in whatever order they were.
+#[derive(Clone, Copy, Debug, Eq, PartialEq)]
+pub struct Season {
+    totals: [u64; 39],
+}
+
+impl Default for Season {
+    fn default() -> Self {
+        Self { totals: [0; 39] }
+    }
+}
+
+impl Season {
+    /// Counts a header within the limits of the first form, by the version imposed or else by its own: why it is refused, or `None` where it
+    /// is accepted. `Err` has number 30, and nothing is counted, where a total would be larger than 64 bits hold.
+    pub fn add(&mut self, bytes: &[u8], imposed: Option<Version>) -> Result<Option<Refused>, Refused> {
+        self.add_in(bytes, imposed, Form::First)
+    }
+
+    /// Counts a header so within the limits of the form named.
+    pub fn add_in(&mut self, bytes: &[u8], imposed: Option<Version>, form: Form) -> Result<Option<Refused>, Refused> {
+        let answer = ffi::season_add(bytes, imposed, form, &mut vec![0; table_words(bytes, form)], self.totals);
+        let refused = accepted(answer.number, answer.line, answer.start).err();
+        match refused {
+            Some(full) if full.number == 30 => Err(full),
+            _ => {
+                self.totals = answer.sheet.totals;
+                Ok(refused)
+            }
+        }
+    }
+
+    /// Adds the totals of another sheet; refused so, and nothing added, where one would be too large.
+    pub fn merge(&mut self, other: &Season) -> Result<(), Refused> {
+        let answer = ffi::season_merge(self.totals, other.totals);
+        accepted(answer.number, 0, 0)?;
+        self.totals = answer.sheet.totals;
+        Ok(())
+    }
+
+    /// How many headers were read.
+    pub fn read(&self) -> u64 {
+        self.totals[0]
+    }
+
+    /// How many of them were accepted.
+    pub fn accepted(&self) -> u64 {
+        self.totals[1]
+    }
+
+    /// How many were refused by this number, from 1 to 27.
+    pub fn refused(&self, number: u64) -> u64 {
+        match number {
+            1..=27 => self.totals[1 + number as usize],
+            _ => 0,
+        }
+    }
+
+    /// How many entries of this kind the accepted headers have.
+    pub fn entries(&self, kind: Kind) -> u64 {
+        self.totals[29 + kind as usize]
+    }
+}

@@ -1,5 +1,5 @@
 //! The library through the safe functions.
-use vcfh::{Difference, Form, Header, Kind, Refused, Register, Version};
+use vcfh::{Difference, Form, Header, Kind, Refused, Register, Season, Version};
 
 const COLUMNS: &str = "#CHROM\tPOS\tID\tREF\tALT\tQUAL\tFILTER\tINFO";
 
@@ -110,12 +110,12 @@ fn entries_with_oddly_spelled_numbers_are_listed() {
 
 #[test]
 fn every_number_has_its_own_words() {
-    let mut words: Vec<&str> = (1..=29).chain([31, 32]).chain(34..=43).map(|number| Refused { number, line: 0, start: 0 }.words()).collect();
-    let none = Refused { number: 30, line: 0, start: 0 }.words();
+    let mut words: Vec<&str> = (1..=43).map(|number| Refused { number, line: 0, start: 0 }.words()).collect();
+    let none = Refused { number: 44, line: 0, start: 0 }.words();
     assert!(!words.contains(&none));
     words.sort();
     words.dedup();
-    assert_eq!(words.len(), 41);
+    assert_eq!(words.len(), 43);
 }
 
 #[test]
@@ -253,4 +253,42 @@ fn ids_are_found_by_kind_and_meaning() {
         assert_eq!(header.index_of(3).unwrap().find(Kind::Contig, b"y").1, 3);
         assert_eq!(header.index_of(2).unwrap_err(), Refused { number: 33, line: 0, start: 0 });
     }
+}
+
+#[test]
+fn headers_of_a_season_are_counted_in_whatever_order() {
+    let probe = format!("##fileformat=VCFv4.3\n##cell=<ID=W07,K=0.98>\n{COLUMNS}\tFORMAT\ta\tb\n");
+    let twice = "##fileformat=VCFv4.3\n##FILTER=<ID=q,Description=x>\n##FILTER=<ID=q,Description=x>\n";
+    let headers = [(probe.as_str(), Form::First), (twice, Form::Second), ("", Form::First), (&probe, Form::Second)];
+    let (mut one, mut other) = (Season::default(), Season::default());
+    let told: Vec<_> = headers.iter().map(|(header, form)| one.add_in(header.as_bytes(), None, *form).unwrap()).collect();
+    assert_eq!(told, [None, Some(Refused { number: 19, line: 3, start: 51 }), Some(Refused { number: 25, line: 0, start: 0 }), None]);
+    for (header, form) in headers.iter().rev() {
+        other.add_in(header.as_bytes(), None, *form).unwrap();
+    }
+    assert_eq!(one, other);
+    assert_eq!(
+        (one.read(), one.accepted(), one.refused(19), one.refused(25), one.refused(24), one.refused(0), one.refused(28)),
+        (4, 2, 1, 1, 0, 0, 0)
+    );
+    let kinds = [Kind::FileFormat, Kind::Filter, Kind::OtherMap, Kind::Columns, Kind::Sample];
+    assert_eq!(kinds.map(|kind| one.entries(kind)), [2, 0, 2, 2, 4]);
+}
+
+#[test]
+fn nothing_is_counted_where_a_total_would_be_too_large() {
+    let bare = format!("##fileformat=VCFv4.3\n##a=<K=1>\n{COLUMNS}\n");
+    let (mut all, mut power) = (Season::default(), Season::default());
+    assert_eq!(power.add(bare.as_bytes(), Some(Version { major: 4, minor: 2 })), Ok(None));
+    for _ in 0..63 {
+        all.merge(&power).unwrap();
+        power.merge(&power.clone()).unwrap();
+    }
+    all.merge(&power).unwrap();
+    assert_eq!((all.read(), all.entries(Kind::OtherText)), (u64::MAX, u64::MAX));
+    let (before, full) = (all, Refused { number: 30, line: 0, start: 0 });
+    assert_eq!((all.merge(&power), all), (Err(full), before));
+    assert_eq!((all.add(b"", None), all), (Err(full), before));
+    let mut own = Season::default();
+    assert_eq!(own.add(bare.as_bytes(), None).unwrap().unwrap().number, 14);
 }

@@ -2,3 +2,4 @@ pub mod Answers
 pub mod Dictionaries
 pub mod Contigs
 pub mod Searches
+pub mod Seasons

@@ -1,5 +1,6 @@
 // The library for programs in C, Rust or Python: answers are structs of 64-bit numbers, slices pass as pointer and length.
 pub mod indexes;
+pub mod sheets;
 
 use entries::form::Form;
 use entries::shown::KeyShown;

@@ -9,6 +9,7 @@ mod library;
 mod odd;
 mod reads;
 mod registers;
+mod seasons;
 mod text;
 mod turns;
 mod value;
@@ -67,6 +68,12 @@ fn answer(asked: &[u8], input: &[u8], form: &mut [u8], out: &mut [u8]) -> usize 
     }
     if words::is_asked(asked, b"contigs") {
         return contigs::put(out, input, asked, form);
+    }
+    if words::is_asked(asked, b"season") {
+        return seasons::put(out, input, asked);
+    }
+    if words::is_asked(asked, b"merge") {
+        return seasons::put_merge(out, asked);
     }
     if bytes::starts_with(what, b"c-") {
         return library::put(out, input, asked, form);

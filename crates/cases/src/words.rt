@@ -67,3 +67,25 @@ pub fn size(asked: &[u8], n: usize) -> usize {
         IntegerRead::Refused => 0,
     }
 }
+
+// The same of words that are at hand: 0 where there is no number.
+pub fn number_in(word: &[u8]) -> u64 {
+    match integer::parse_u64(word) {
+        IntegerRead::Value(n, _) => n,
+        IntegerRead::Refused => 0,
+    }
+}
+
+pub fn imposed_by(word: &[u8]) -> FileFormatOption {
+    match file_format::parse_file_format(word) {
+        FileFormatRead::Version(version) => FileFormatOption::Some(version),
+        FileFormatRead::Refused => FileFormatOption::None,
+    }
+}
+
+pub fn form_by(word: &[u8]) -> Form {
+    if bytes::same(word, b"2") {
+        return Form::Second;
+    }
+    Form::First
+}

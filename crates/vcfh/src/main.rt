@@ -1,5 +1,6 @@
 // What bin/vcfh runs. The first argument is `large` where the stack has room for the largest headers. Then three make a case: a command, the version to impose as a fileformat line has it (`-`: none), and a
 // file's name (`-`: standard input). The command find- has what is looked for behind it; cells-new compares with the file of the cells-old before it.
+// The commands of a season go over any number of files, and then its sheet is printed.
 // What came of a case is told on descriptor 3, by which bin/vcfh goes; sentences and notes stand on standard error.
 mod asked;
 mod cells;
@@ -11,6 +12,7 @@ mod input;
 mod listing;
 mod notes;
 mod numbers;
+mod page;
 mod say;
 mod spelled;
 mod twice;
@@ -230,7 +232,7 @@ fn run(
     }
 }
 
-// `had` are the constants that a comparison goes from.
+// `had` is what the cases before left: the constants that a comparison goes from, or a season's sheet.
 fn run_after(
     command: &[u8],
     header: &[u8],
@@ -245,6 +247,13 @@ fn run_after(
         cells::keep(header, imposed, table, had);
     } else if bytes::same(command, b"cells-new") {
         cells::say_changes(header, imposed, table, had);
+    } else if bytes::same(command, b"season") {
+        page::count_header(header, imposed, table, had);
+    } else if bytes::same(command, b"season-shown") {
+        page::count_header(header, imposed, table, had);
+        page::say_progress(had);
+    } else if bytes::same(command, b"season-merge") {
+        page::merge_pages(header, had);
     } else {
         run(command, header, imposed, table, form, strings, contigs);
     }
@@ -496,10 +505,24 @@ fn case(command: usize, version: usize, file: usize, had: &mut [u64; 40]) {
     libc::close(fd);
 }
 
+// The same command on all files that are named.
+fn season(count: usize, had: &mut [u64; 40]) {
+    let mut file = 4;
+    while file < count {
+        case(2, 3, file, had);
+        file += 1;
+    }
+    page::say_page(had);
+}
+
 fn main() {
     let mut had = [0u64; 40];
     let count = os::arg_count();
     if count < 2 {
+        return;
+    }
+    if page::is_asked() {
+        season(count, &mut had);
         return;
     }
     let cases = (count - 2) / 3;

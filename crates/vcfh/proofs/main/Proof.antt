@@ -15,6 +15,15 @@ arg-count-requires c κs = search needs
 returns : tie.Need-returns Inv-loop μ-loop
 returns c = search needs
 
+is-asked-requires : tie.Need-is-asked-requires Inv-loop μ-loop
+is-asked-requires c κs = search needs
+
+season-requires : tie.Need-season-requires Inv-loop μ-loop
+season-requires c κs = search needs
+
+returns-2 : tie.Need-returns-2 Inv-loop μ-loop
+returns-2 c = search needs
+
 loop-holds : tie.Need-loop-holds Inv-loop μ-loop
 loop-holds c = search needs
 
@@ -42,8 +51,8 @@ loop-less c = search needs
 loop-again : tie.Need-loop-again Inv-loop μ-loop
 loop-again c = search needs
 
-returns-2 : tie.Need-returns-2 Inv-loop μ-loop
-returns-2 c = search needs
+returns-3 : tie.Need-returns-3 Inv-loop μ-loop
+returns-3 c = search needs
 
 pub main-spec : {M : Type 1} → statement M
 main-spec =
@@ -53,6 +62,9 @@ main-spec =
     μ-loop
     arg-count-requires
     returns
+    is-asked-requires
+    season-requires
+    returns-2
     loop-holds
     mul-i
     add-case
@@ -62,4 +74,4 @@ main-spec =
     add-k
     loop-less
     loop-again
-    returns-2)
+    returns-3)

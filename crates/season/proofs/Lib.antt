@@ -1,0 +1,6 @@
+pub mod Sums
+pub mod Merging
+pub mod Tallies
+pub mod Adding
+pub mod Seasons
+pub mod Numbers

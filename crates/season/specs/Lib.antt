@@ -1,0 +1,4 @@
+pub mod Sheet
+pub mod Answers
+pub mod Claims
+pub mod Examples

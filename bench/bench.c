@@ -1,6 +1,7 @@
-/* Reads one header over and over, by htslib or by vcfh in the first or the second form, or writes its house form or its dictionaries:
-   bench hts|read|second|house|dictionaries FILE TIMES. Or builds the index of its IDs, or looks each of its contigs up once, at random,
-   by htslib or in an index of twice as many places as entries, in either form: bench index|hts-find|find|find-second FILE TIMES.
+/* Reads one header over and over, by htslib or by vcfh in the first or the second form, or writes its house form or its dictionaries, or holds
+   it against its house form: bench hts|read|second|house|dictionaries|is-house FILE TIMES. Or builds the index of its IDs, or looks each of
+   its contigs up once, at random, by htslib or in an index of twice as many places as entries, in either form:
+   bench index|hts-find|find|find-second FILE TIMES.
    Prints the best round's nanoseconds for one header. */
 #include <stdio.h>
 #include <stdlib.h>
@@ -123,6 +124,10 @@ static int ready(const char *what) {
     return prepare(VCFH_FIRST);
 }
 
+static int is_house(void) {
+    return vcfh_is_house((const uint8_t *)header, length, 0, 0, 0, VCFH_FIRST, table, WORDS).number == 0;
+}
+
 static double now(void) {
     struct timespec t;
     clock_gettime(CLOCK_MONOTONIC, &t);
@@ -136,6 +141,7 @@ int main(int count, char **words) {
     length = fread(header, 1, SIZE, file);
     int (*call)(void) = strcmp(words[1], "hts") == 0 ? hts : strcmp(words[1], "house") == 0 ? house
                         : strcmp(words[1], "dictionaries") == 0 ? dictionaries
+                        : strcmp(words[1], "is-house") == 0 ? is_house
                         : strcmp(words[1], "second") == 0 ? read_second : strcmp(words[1], "index") == 0 ? index_first
                         : strcmp(words[1], "hts-find") == 0 ? hts_find : strcmp(words[1], "find") == 0 ? find_first
                         : strcmp(words[1], "find-second") == 0 ? find_second : read_first;

@@ -241,8 +241,29 @@ static void season(uint64_t form) {
     same("season, not merged", m.number, 30), same("season, first as it was", memcmp(&m.sheet, &full, sizeof full), 0);
 }
 
+static vcfh_verdict judged(const char *header, uint64_t imposed, uint64_t form) {
+    return vcfh_is_house(bytes(header), strlen(header), imposed, 4, 2, form, table, WORDS);
+}
+
+/* A form, a header that differs from its form at byte 29, one that lacks its last LF, a refused one, and a version imposed. */
+static void verdicts(uint64_t form) {
+    vcfh_verdict v = judged(PLAIN, 0, form);
+    same("a form", v.house, 1), same("no difference", v.differs, 0), same("a form's number", v.number, 0);
+    same("a form's lines", v.line, 3), same("a form's bytes", v.start, 83), same("a form's entries", v.entries, 3);
+    v = judged("##fileformat=VCFv4.3\n##cell=<K=\"0.98\",ID=\"W07\">\n" COLUMNS "\n", 0, form);
+    same("no form", v.house, 0), same("where it differs", v.differs, 29), same("no form is accepted", v.number, 0);
+    v = judged("##fileformat=VCFv4.3\n" COLUMNS, 0, form);
+    same("a form without its end", v.house, 0), same("the shorter one's length", v.differs, 21 + strlen(COLUMNS));
+    v = judged("##fileformat=VCFv4.3\nx\n", 0, form);
+    same("a refused header", v.number, 6), same("the refused line", v.line, 2), same("its start", v.start, 21);
+    same("the entries kept", v.entries, 1), same("no verdict", v.house, 0), same("no place", v.differs, 0);
+    v = judged(PLAIN, 1, form);
+    same("imposed", v.house, 0), same("the version differs", v.differs, 19);
+}
+
 int main(void) {
     versions(), places(), forms(), contigs();
+    verdicts(VCFH_FIRST), verdicts(VCFH_SECOND), verdicts(0);
     parts(VCFH_FIRST, VCFH_SECOND), parts(VCFH_SECOND, VCFH_FIRST), parts(0, VCFH_SECOND), parts(3, VCFH_SECOND);
     odd(VCFH_FIRST, VCFH_SECOND), odd(VCFH_SECOND, VCFH_FIRST), odd(0, VCFH_SECOND), odd(3, VCFH_SECOND);
     stored("first form", VCFH_FIRST, firsts), stored("second form", VCFH_SECOND, seconds);

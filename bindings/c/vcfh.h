@@ -107,6 +107,15 @@ vcfh_turned vcfh_to_second(const uint8_t *header, size_t length, const uint64_t 
 vcfh_turned vcfh_to_first(const uint8_t *header, size_t length, const uint64_t *second, size_t second_words,
                           uint64_t *first, size_t first_words);
 
+/* As an answer; house: 1 if the header is its own house form, else 0; differs: of an accepted one that is not, the first place where the
+   two differ, or the shorter one's length, else 0. */
+typedef struct { uint64_t number, line, start, entries, house, differs; } vcfh_verdict;
+
+/* Reads a header so and says whether it is in house form, without writing that form. number is that of the reading, or 27 or 2 where
+   the form is longer than a header or a line may be. */
+vcfh_verdict vcfh_is_house(const uint8_t *header, size_t length, uint64_t imposed, uint32_t major, uint32_t minor,
+                           uint64_t form, uint64_t *table, size_t words);
+
 /* The sheet of a season: 39 totals over the headers that were added to it, all 0 where there are none. */
 typedef struct { uint64_t totals[39]; } vcfh_sheet;
 

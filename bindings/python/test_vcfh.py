@@ -106,6 +106,14 @@ class Reading(unittest.TestCase):
         self.assertEqual(vcfh.house_form(PROBE.replace(b"<ID=W07,K=0.98>", b'<K="0.98",ID="W07">')), PROBE)
         self.assertEqual(refused(vcfh.house_form, b"").number, 25)
 
+    def test_a_header_is_its_house_form_or_differs_somewhere(self):
+        quoted = PROBE.replace(b"<ID=W07,K=0.98>", b'<K="0.98",ID="W07">')
+        for form in (vcfh.FIRST, vcfh.SECOND):
+            self.assertEqual([vcfh.is_house(data, form=form) for data in (PROBE, quoted)], [True, False])
+            self.assertEqual([vcfh.house_difference(data, form=form) for data in (PROBE, quoted, PROBE[:-1])], [None, 29, len(PROBE) - 1])
+            self.assertEqual(vcfh.house_difference(PROBE, (4, 2), form=form), 19)
+        self.assertEqual((refused(vcfh.is_house, b"").number, refused(vcfh.house_difference, TWICE).line), (25, 3))
+
     def test_dictionaries_number_strings_and_contigs(self):
         lines = b"##FILTER=<ID=q,Description=x>\n##contig=<ID=c>\n##FORMAT=<ID=q,Number=1,Type=String,Description=x>\n##FILTER=<ID=PASS,Description=x>\n"
         self.assertEqual(vcfh.dictionaries(b"##fileformat=VCFv4.3\n" + lines + COLUMNS), ([(1, 1), (4, 0)], [(2, 0)]))
@@ -184,11 +192,11 @@ class Indexes(unittest.TestCase):
 
 
 class Forms(unittest.TestCase):
-    READERS = (vcfh.Header, vcfh.house_form, vcfh.Register, vcfh.dictionaries)
+    READERS = (vcfh.Header, vcfh.house_form, vcfh.Register, vcfh.dictionaries, vcfh.is_house)
 
     def test_a_line_too_long_for_the_first_form_is_read_in_the_second(self):
         header = long_line(vcfh.MAX_LINE[vcfh.FIRST] + 1)
-        self.assertEqual([refused(call, header).number for call in self.READERS], [2, 2, 2, 2])
+        self.assertEqual([refused(call, header).number for call in self.READERS], [2] * len(self.READERS))
         self.assertEqual(vcfh.Header(header, form=vcfh.SECOND)[2].line, header.split(b"\n")[2])
         self.assertEqual(vcfh.house_form(header, form=vcfh.SECOND), header)
         self.assertEqual(refused(vcfh.Register, header, form=vcfh.SECOND).number, 39)

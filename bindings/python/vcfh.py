@@ -85,6 +85,10 @@ class _Merged(ctypes.Structure):
     _fields_ = [("number", ctypes.c_uint64), ("sheet", _Sheet)]
 
 
+class _Verdict(ctypes.Structure):
+    _fields_ = _Answer._fields_ + [("house", ctypes.c_uint64), ("differs", ctypes.c_uint64)]
+
+
 _BYTES = [ctypes.c_char_p, ctypes.c_size_t]
 _TABLE = [ctypes.POINTER(ctypes.c_uint64), ctypes.c_size_t]
 _INDEX = [ctypes.POINTER(ctypes.c_uint32), ctypes.c_size_t]
@@ -114,6 +118,7 @@ def _library():
         ("vcfh_build_index", _Indexed, _SHOWING + _INDEX),
         ("vcfh_find", _Found, _SHOWING + _INDEX + _NUMBER + _BYTES),
         ("vcfh_to_second", _Turned, _BYTES + _TABLE + _VERSION + _TABLE),
+        ("vcfh_is_house", _Verdict, _READING),
         ("vcfh_to_first", _Turned, _BYTES + _TABLE + _TABLE),
         ("vcfh_season_add", _Added, _READING + [_Sheet]),
         ("vcfh_season_merge", _Merged, [_Sheet, _Sheet]),
@@ -335,6 +340,17 @@ class Season:
     def entries(self):
         """How many entries of each of KINDS the accepted headers have."""
         return {kind: self._sheet.totals[29 + n] for n, kind in enumerate(KINDS)}
+
+
+def house_difference(data, version=None, *, form=FIRST):
+    """The first place where a header and its house form differ, or the shorter one's length; None if the header is its house form."""
+    answer, _, _ = _called(_vcfh.vcfh_is_house, bytes(data), version, form)
+    return None if answer.house else answer.differs
+
+
+def is_house(data, version=None, *, form=FIRST):
+    """Whether a header is its own house form, told without writing that form."""
+    return house_difference(data, version, form=form) is None
 
 
 def is_utf8(data):

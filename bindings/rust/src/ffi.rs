@@ -78,6 +78,16 @@ pub struct Listed {
 }
 
 #[repr(C)]
+pub struct Verdict {
+    pub number: u64,
+    pub line: u64,
+    pub start: u64,
+    pub entries: u64,
+    pub house: u64,
+    pub differs: u64,
+}
+
+#[repr(C)]
 pub struct Turned {
     pub number: u64,
     pub entries: u64,
@@ -147,6 +157,7 @@ extern "C" {
         contig_words: usize,
     ) -> Numbers;
     fn vcfh_register(header: *const u8, length: usize, imposed: u64, major: u32, minor: u32, form: u64, table: *mut u64, words: usize) -> Cells;
+    fn vcfh_is_house(header: *const u8, length: usize, imposed: u64, major: u32, minor: u32, form: u64, table: *mut u64, words: usize) -> Verdict;
     fn vcfh_compare(old: Cells, new: Cells) -> Differences;
     fn vcfh_contigs(sam: *const u8, length: usize, out: *mut u8, space: usize) -> ContigLines;
     fn vcfh_entry(header: *const u8, length: usize, table: *const u64, words: usize, form: u64, entry: u64) -> Part;
@@ -235,6 +246,11 @@ pub fn house(header: &[u8], imposed: Option<Version>, form: Form, table: &mut [u
 pub fn register(header: &[u8], imposed: Option<Version>, form: Form, table: &mut [u64]) -> Cells {
     let (imposed, major, minor) = imposing(imposed);
     unsafe { vcfh_register(header.as_ptr(), header.len(), imposed, major, minor, form as u64, table.as_mut_ptr(), table.len()) }
+}
+
+pub fn is_house(header: &[u8], imposed: Option<Version>, form: Form, table: &mut [u64]) -> Verdict {
+    let (imposed, major, minor) = imposing(imposed);
+    unsafe { vcfh_is_house(header.as_ptr(), header.len(), imposed, major, minor, form as u64, table.as_mut_ptr(), table.len()) }
 }
 
 pub fn compare(old: [u64; 40], new: [u64; 40]) -> Differences {

@@ -136,6 +136,24 @@ pub fn house_form_in(bytes: &[u8], imposed: Option<Version>, form: Form) -> Resu
     Ok(out)
 }
 
+/// The first place where a header and its house form differ, or the shorter one's length; `None` if the header is its house form. The
+/// form is within the limits of the first form of entries, and is not written.
+pub fn house_difference(bytes: &[u8], imposed: Option<Version>) -> Result<Option<u64>, Refused> {
+    house_difference_in(bytes, imposed, Form::First)
+}
+
+/// The same within the limits of the form of entries named.
+pub fn house_difference_in(bytes: &[u8], imposed: Option<Version>, form: Form) -> Result<Option<u64>, Refused> {
+    let answer = ffi::is_house(bytes, imposed, form, &mut vec![0; table_words(bytes, form)]);
+    accepted(answer.number, answer.line, answer.start)?;
+    Ok((answer.house == 0).then_some(answer.differs))
+}
+
+/// Whether a header is its own house form.
+pub fn is_house(bytes: &[u8], imposed: Option<Version>) -> Result<bool, Refused> {
+    Ok(house_difference(bytes, imposed)?.is_none())
+}
+
 /// The two dictionaries of BCF: the entry at which an ID first stands, and the ID's number.
 #[derive(Clone, Debug, Eq, PartialEq)]
 pub struct Dictionaries {

@@ -31,6 +31,20 @@ fn fields_are_shown_as_written() {
 }
 
 #[test]
+fn a_header_is_its_house_form_or_differs_somewhere() {
+    let plain = format!("##fileformat=VCFv4.3\n##cell=<ID=W07,K=0.98>\n{COLUMNS}\n");
+    let quoted = format!("##fileformat=VCFv4.3\n##cell=<K=\"0.98\",ID=\"W07\">\n{COLUMNS}");
+    assert!(vcfh::is_house(plain.as_bytes(), None).unwrap() && !vcfh::is_house(quoted.as_bytes(), None).unwrap());
+    for form in [Form::First, Form::Second] {
+        assert_eq!(vcfh::house_difference_in(plain.as_bytes(), None, form).unwrap(), None);
+        assert_eq!(vcfh::house_difference_in(quoted.as_bytes(), None, form).unwrap(), Some(29));
+        assert_eq!(vcfh::house_difference_in(&plain.as_bytes()[..plain.len() - 1], None, form).unwrap(), Some(plain.len() as u64 - 1));
+        assert_eq!(vcfh::house_difference_in(plain.as_bytes(), Some(Version { major: 4, minor: 2 }), form).unwrap(), Some(19));
+    }
+    assert_eq!(vcfh::is_house(b"", None).unwrap_err().number, 25);
+}
+
+#[test]
 fn headers_of_one_meaning_have_one_house_form() {
     let plain = format!("##fileformat=VCFv4.3\n##cell=<ID=W07,K=0.98>\n{COLUMNS}\n");
     let quoted = format!("##fileformat=VCFv4.3\n##cell=<K=\"0.98\",ID=\"W07\">\n{COLUMNS}");

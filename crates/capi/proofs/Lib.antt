@@ -3,3 +3,4 @@ pub mod Dictionaries
 pub mod Contigs
 pub mod Searches
 pub mod Seasons
+pub mod Verdicts

@@ -1,3 +1,4 @@
 pub mod Answers
 pub mod Searches
 pub mod Seasons
+pub mod Verdicts

@@ -30,6 +30,8 @@ ghost use Rattle.register.specs.Compare.{differing};
 ghost use Rattle.spelling.specs.Odd.{oddIn, oddAnswer, oddList};
 ghost use Rattle.turning.specs.Turning.{toFirst, toSecond, turnAnswer, turnTable};
 ghost use Rattle.capi.specs.Answers.{flag, imposedBy, formBy, answerInC, formInC, dictionariesIn, dictionariesInC, partOf, partAs, Ordered, keyShownAs, keyShownIn, KeyOrdered, registerAs, differencesAs, oddAs, turnedAs, contigsInC};
+ghost use Rattle.house.specs.IsHouse.{isHouse};
+ghost use Rattle.capi.specs.Verdicts.{verdictInC};
 
 // Document 01's number, 0 if accepted; the line and its start; how many entries the table keeps.
 #[repr(C)]
@@ -483,4 +485,55 @@ pub extern "C" fn vcfh_to_first(header: &[u8], second: &[u64], first: &mut [u64]
     ensures table { λ _. ⌜ now (first .exit) ≡ turnTable toFirst (now (header .entry)) (now (second .entry)) (now (first .entry)) ⌝ }
 {
     turned(turn::to_first(header, second, first))
+}
+
+// An answer as of a reading; 1 if the header is its own house form, else 0; and where an accepted one and its form first differ.
+#[repr(C)]
+pub struct VcfhVerdict {
+    pub number: u64,
+    pub line: u64,
+    pub start: u64,
+    pub entries: u64,
+    pub house: u64,
+    pub differs: u64,
+}
+
+fn flag_of(b: bool) -> u64
+    ensures { λ r. ⌜ r ≡ flag b ⌝ }
+{
+    if b {
+        return 1;
+    }
+    0
+}
+
+// Reads a header into the table and says whether it is its own house form.
+#[no_mangle]
+pub extern "C" fn vcfh_is_house(
+    header: &[u8],
+    imposed: u64,
+    major: u32,
+    minor: u32,
+    form: u64,
+    table: &mut [u64],
+) -> VcfhVerdict
+    ensures answer { λ r. ⌜ r ≡ verdictInC (readInto (formBy form) (imposedBy imposed major minor) (now (table .entry)) (now (header .entry)))
+        (isHouse (limitsBy (formBy form)) (imposedBy imposed major minor) (room (formBy form) (now (table .entry))) (now (header .entry))) ⌝ }
+    ensures table { λ _. ⌜ now (table .exit) ≡ stored (formBy form) (now (table .entry)) 0
+        (readInto (formBy form) (imposedBy imposed major minor) (now (table .entry)) (now (header .entry)) .entries) ⌝ }
+{
+    let version = imposed_by(imposed, major, minor);
+    let named = form_of(form);
+    let answer = house::form::is_house(header, version, named, table);
+    let outcome = answer.outcome;
+    let number = number_of(outcome);
+    let house = flag_of(answer.holds);
+    VcfhVerdict {
+        number,
+        line: answer.line as u64,
+        start: answer.start as u64,
+        entries: answer.entries as u64,
+        house,
+        differs: answer.differs as u64,
+    }
 }

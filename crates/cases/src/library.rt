@@ -12,11 +12,11 @@ use records::file_format::FileFormatRead;
 use values::bytes;
 
 // What goes to the library as a version and a form: where none is imposed, numbers that are to be overlooked.
-struct Imposed {
-    imposed: u64,
-    major: u32,
-    minor: u32,
-    form: u64,
+pub struct Imposed {
+    pub imposed: u64,
+    pub major: u32,
+    pub minor: u32,
+    pub form: u64,
 }
 
 // Any number but 2 names the first form.
@@ -27,7 +27,7 @@ fn form_of(asked: &[u8]) -> u64 {
     }
 }
 
-fn imposed_by(asked: &[u8]) -> Imposed {
+pub fn imposed_by(asked: &[u8]) -> Imposed {
     match file_format::parse_file_format(words::word(asked, 1)) {
         FileFormatRead::Version(version) => Imposed {
             imposed: 1,

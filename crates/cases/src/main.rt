@@ -13,6 +13,7 @@ mod seasons;
 mod text;
 mod turns;
 mod value;
+mod verdicts;
 mod words;
 
 use entries::form::Form;
@@ -36,9 +37,38 @@ fn say_number(n: u64) {
     io::print_decimal(1, n);
 }
 
+// Of what else may be asked.
+fn answer_other(asked: &[u8], input: &[u8], form: &mut [u8], out: &mut [u8]) -> usize {
+    let what = words::word(asked, 0);
+    if words::is_asked(asked, b"to-first") {
+        return turns::put(out, input, asked, Form::Second);
+    }
+    if words::is_asked(asked, b"to-second") {
+        return turns::put(out, input, asked, Form::First);
+    }
+    if words::is_asked(asked, b"contigs") {
+        return contigs::put(out, input, asked, form);
+    }
+    if words::is_asked(asked, b"season") {
+        return seasons::put(out, input, asked);
+    }
+    if words::is_asked(asked, b"merge") {
+        return seasons::put_merge(out, asked);
+    }
+    if words::is_asked(asked, b"is-house") {
+        return verdicts::put(out, input, asked);
+    }
+    if words::is_asked(asked, b"c-is-house") {
+        return verdicts::put_in_c(out, input, asked);
+    }
+    if bytes::starts_with(what, b"c-") {
+        return library::put(out, input, asked, form);
+    }
+    value::put(out, input, what)
+}
+
 // What comes of the input: the first word says whom it is asked of.
 fn answer(asked: &[u8], input: &[u8], form: &mut [u8], out: &mut [u8]) -> usize {
-    let what = words::word(asked, 0);
     if words::is_asked(asked, b"read") {
         return reads::put(out, input, asked);
     }
@@ -60,25 +90,7 @@ fn answer(asked: &[u8], input: &[u8], form: &mut [u8], out: &mut [u8]) -> usize 
     if indexes::is_asked(asked) {
         return indexes::put(out, input, asked);
     }
-    if words::is_asked(asked, b"to-first") {
-        return turns::put(out, input, asked, Form::Second);
-    }
-    if words::is_asked(asked, b"to-second") {
-        return turns::put(out, input, asked, Form::First);
-    }
-    if words::is_asked(asked, b"contigs") {
-        return contigs::put(out, input, asked, form);
-    }
-    if words::is_asked(asked, b"season") {
-        return seasons::put(out, input, asked);
-    }
-    if words::is_asked(asked, b"merge") {
-        return seasons::put_merge(out, asked);
-    }
-    if bytes::starts_with(what, b"c-") {
-        return library::put(out, input, asked, form);
-    }
-    value::put(out, input, what)
+    answer_other(asked, input, form, out)
 }
 
 fn say_wrong(name: &[u8], came: &[u8]) {

@@ -6,6 +6,7 @@ use values::field::FieldRead;
 use values::integer;
 use values::integer::IntegerRead;
 use values::output;
+use values::sink::Sink;
 use values::string;
 use values::utf8;
 
@@ -36,12 +37,17 @@ fn put_quoted(out: &mut [u8], at: usize, quoted: bool) -> usize {
     output::put_bytes(out, at, b" bare")
 }
 
+fn put_meant(out: &mut [u8], at: usize, text: &[u8], quoted: bool, quote: bool) -> usize {
+    let next = string::put_value(out, b"", Sink { at, differs: 0 }, text, quoted, quote);
+    next.at
+}
+
 // What the value means, then how it is written in quotes.
 fn put_written(out: &mut [u8], at: usize, text: &[u8], quoted: bool) -> usize {
     let means = output::put_bytes(out, at, b" means ");
-    let meant = string::put_value(out, means, text, quoted, false);
+    let meant = put_meant(out, means, text, quoted, false);
     let written = output::put_bytes(out, meant, b" written ");
-    string::put_value(out, written, text, quoted, true)
+    put_meant(out, written, text, quoted, true)
 }
 
 // The field at the first byte: its places and its value.

@@ -11,10 +11,11 @@ use lib.Seq.{take-at}
 use Rattle.values.specs.Bytes.{Bytes, ascii, is}
 use Rattle.values.specs.Value.{meaningOf}
 use Rattle.values.specs.Field.{Field, writtenField}
-use Rattle.values.specs.Written.{last, onward, Wrote}
+use Rattle.values.specs.Written.{last, onward, Puts}
+use Rattle.values.specs.declared.sink.Sink.{Sink}
 use Rattle.values.specs.declared.string.Text.{Text}
 use Rattle.values.proofs.Tests.{never}
-use Rattle.values.proofs.Outputs.{wrote-nothing, then}
+use Rattle.values.proofs.Outputs.{puts-nothing, then}
 use Rattle.rules.specs.Answer.{ok}
 use Rattle.rules.specs.Lines.{ends, writeLine}
 use Rattle.rules.specs.Version.{Version, v4-3, since}
@@ -53,14 +54,14 @@ use Rattle.forms.proofs.Forms.{fields-as}
 
 -- The pieces of a map's line
 
-module _ (x : MapContext) (s : Bytes) (id : Text) (tag : ℕ) {out : Bytes} {at r₁ r₂ r₃ : ℕ} {o₁ o₂ o₃ : Bytes} where
-  pub fields-put : Wrote out at (writtenField (fieldBy (x .brackets) (nameOfTag tag) (meaningIn s id))) r₁ o₁ → Wrote o₁ r₁ (listedFields (x .brackets) (fieldsIn x s) (afterId (kindBy (x .key)))) r₂ o₂
-      → Wrote o₂ r₂ (othersText x (fieldsIn x s)) r₃ o₃ → Wrote out at (fieldsText x s id tag) r₃ o₃
+module _ (x : MapContext) (s : Bytes) (id : Text) (tag : ℕ) {given out : Bytes} {at r₁ r₂ r₃ : Sink} {o₁ o₂ o₃ : Bytes} where
+  pub fields-put : Puts given out at (writtenField (fieldBy (x .brackets) (nameOfTag tag) (meaningIn s id))) r₁ o₁ → Puts given o₁ r₁ (listedFields (x .brackets) (fieldsIn x s) (afterId (kindBy (x .key)))) r₂ o₂
+      → Puts given o₂ r₂ (othersText x (fieldsIn x s)) r₃ o₃ → Puts given out at (fieldsText x s id tag) r₃ o₃
   unfolding fieldsText
   fields-put w₁ w₂ w₃ = then w₁ (then w₂ w₃)
 
-  pub map-put : {p : Bytes} → p ≡ take (x .start - 0) (drop 0 s) → Wrote out at p r₁ o₁ → Wrote o₁ r₁ (fieldsText x s id tag) r₂ o₂
-      → Wrote o₂ r₂ (62 ∷ []) r₃ o₃ → Wrote out at (mapText x s id tag) r₃ o₃
+  pub map-put : {p : Bytes} → p ≡ take (x .start - 0) (drop 0 s) → Puts given out at p r₁ o₁ → Puts given o₁ r₁ (fieldsText x s id tag) r₂ o₂
+      → Puts given o₂ r₂ (62 ∷ []) r₃ o₃ → Puts given out at (mapText x s id tag) r₃ o₃
   map-put {p} b w₁ w₂ w₃ =
       let z : x .start - 0 ≡ x .start = omega arith in
       let q : p ≡ take (x .start) s = b ∙ ap (λ (i : ℕ). take i s) z in
@@ -139,26 +140,26 @@ module _ (version : FileFormat) (s : Bytes) {r : RecordRead} (a : ParsesRecord (
   told e = subst (RecordIs (versionOf version) s) e (a .is)
 
   -- a line is one record
-  alone : {y : Record} → readRecord (versionOf version) s ≡ ok y → {out : Bytes} {at n : ℕ} {o : Bytes} → Wrote out at (entryLine (versionOf version) y) n o → Wrote out at (houseLine (versionOf version) s) n o
+  alone : {y : Record} → readRecord (versionOf version) s ≡ ok y → {given out : Bytes} {at n : Sink} {o : Bytes} → Puts given out at (entryLine (versionOf version) y) n o → Puts given out at (houseLine (versionOf version) s) n o
   unfolding houseLine
   alone e w = rw (houseLine, e) w
 
-  pub version-left : {w : FileFormat} → r ≡ read.FileFormat w → {out : Bytes} {at : ℕ} → at ≤ last → length out ≤ last → Wrote out at (houseLine (versionOf version) s) at out
-  version-left e {out} {at} h l = alone (told e) (wrote-nothing out at h l)
+  pub version-left : {w : FileFormat} → r ≡ read.FileFormat w → {given out : Bytes} {at : Sink} → at .at ≤ last → length out ≤ last → Puts given out at (houseLine (versionOf version) s) at out
+  version-left e {given} {out} {at} h l = alone (told e) (puts-nothing given out at h l)
 
-  pub refused-left : {w : Refusal} → r ≡ read.Refused w → {out : Bytes} {at : ℕ} → at ≤ last → length out ≤ last → Wrote out at (houseLine (versionOf version) s) at out
+  pub refused-left : {w : Refusal} → r ≡ read.Refused w → {given out : Bytes} {at : Sink} → at .at ≤ last → length out ≤ last → Puts given out at (houseLine (versionOf version) s) at out
   unfolding houseLine
-  refused-left e {out} {at} h l = rw (houseLine, told e) (wrote-nothing out at h l)
+  refused-left e {given} {out} {at} h l = rw (houseLine, told e) (puts-nothing given out at h l)
 
-  pub text-put : {i : ℕ} → r ≡ read.Text i → {out : Bytes} {at n : ℕ} {o : Bytes} → Wrote out at s n o → Wrote out at (houseLine (versionOf version) s) n o
+  pub text-put : {i : ℕ} → r ≡ read.Text i → {given out : Bytes} {at n : Sink} {o : Bytes} → Puts given out at s n o → Puts given out at (houseLine (versionOf version) s) n o
   unfolding saying recordOf
-  text-put {i} e {out} {at} {n} {o} w = let f = told e .1 in alone f (subst (λ (l : Bytes). Wrote out at l n o) (on-ok (LineOf s) (record-in (versionOf version) s) f) w)
+  text-put {i} e {given} {out} {at} {n} {o} w = let f = told e .1 in alone f (subst (λ (l : Bytes). Puts given out at l n o) (on-ok (LineOf s) (record-in (versionOf version) s) f) w)
 
   module _ {m : MapRecord} (e : r ≡ read.Map m) where
     abbrev is-map : RecordIs (versionOf version) s (read.Map m)
     is-map = told e
 
-    pub map-short : length s ≤ m .value → {out : Bytes} {at : ℕ} → Wrote out at (houseLine (versionOf version) s) at out
+    pub map-short : length s ≤ m .value → {given out : Bytes} {at : Sink} → Puts given out at (houseLine (versionOf version) s) at out
     map-short l =
         let k = keyIn s in
         let q : s ≡ opening k ++ (writeFields (is-map .0) ++ 62 ∷ []) = on-ok (LineOf s) (record-in (versionOf version) s) (is-map .3) ∙ map-opened k (is-map .0) in
@@ -167,9 +168,9 @@ module _ (version : FileFormat) (s : Bytes) {r : RecordRead} (a : ParsesRecord (
         let p = is-map .2 in
         absurd (omega arith)
 
-    pub map-put-in : {x : MapContext} → x ≡ contextOf (m .key) version (m .value + 1) → {out : Bytes} {at n : ℕ} {o : Bytes} → Wrote out at (mapText x s (m .id) (m .tag)) n o
-        → Wrote out at (houseLine (versionOf version) s) n o
-    map-put-in f {out} {at} {n} {o} w = alone (is-map .3) (subst (λ (l : Bytes). Wrote out at l n o)
+    pub map-put-in : {x : MapContext} → x ≡ contextOf (m .key) version (m .value + 1) → {given out : Bytes} {at n : Sink} {o : Bytes} → Puts given out at (mapText x s (m .id) (m .tag)) n o
+        → Puts given out at (houseLine (versionOf version) s) n o
+    map-put-in f {given} {out} {at} {n} {o} w = alone (is-map .3) (subst (λ (l : Bytes). Puts given out at l n o)
         (ap (λ (x : MapContext). mapText x s (m .id) (m .tag)) f
         ∙ map-text version (keyIn s) (is-map .0) (m .key) s (m .value + 1) (is-map .1) (is-map .3) (omega (arith, is-map .2)) (m .id) (m .tag) (is-map .4)) w)
 
@@ -202,11 +203,11 @@ ends-last (b ∷ d ∷ s) n = let z : suc (suc (length s)) - 1 ≡ suc (suc (len
 
 pub ruleset lasts = (ends-not, ends-last)
 
-module _ (cr : Bool) {out : Bytes} {at r : ℕ} {o : Bytes} where
-  pub end-lf : cr ≡ false → Wrote out at (10 ∷ []) r o → Wrote out at (ending cr) r o
+module _ (cr : Bool) {given out : Bytes} {at r : Sink} {o : Bytes} where
+  pub end-lf : cr ≡ false → Puts given out at (10 ∷ []) r o → Puts given out at (ending cr) r o
   end-lf e w = rw e w
 
-  pub end-cr : cr ≡ true → Wrote out at (13 ∷ []) r o → {r′ : ℕ} {o′ : Bytes} → Wrote o r (10 ∷ []) r′ o′ → Wrote out at (ending cr) r′ o′
+  pub end-cr : cr ≡ true → Puts given out at (13 ∷ []) r o → {r′ : Sink} {o′ : Bytes} → Puts given o r (10 ∷ []) r′ o′ → Puts given out at (ending cr) r′ o′
   end-cr e w w′ = rw e (then w w′)
 
 pub ruleset endings = (end-lf, end-cr)
@@ -220,13 +221,13 @@ ended-line line = go (ends 13 line)
     go true = refl
     go false = refl
 
-pub line-ended : (line : Bytes) {cr : Bool} → cr ≡ ends 13 line → {out : Bytes} {at r : ℕ} {o : Bytes} → Wrote out at line r o → {r′ : ℕ} {o′ : Bytes} → Wrote o r (ending cr) r′ o′
-    → Wrote out at (writeLine line) r′ o′
-line-ended line e {out} {at} w {r′} {o′} w′ = subst (λ (t : Bytes). Wrote out at t r′ o′) (ended-line line) (then w (rw e at w′))
+pub line-ended : (line : Bytes) {cr : Bool} → cr ≡ ends 13 line → {given out : Bytes} {at r : Sink} {o : Bytes} → Puts given out at line r o → {r′ : Sink} {o′ : Bytes} → Puts given o r (ending cr) r′ o′
+    → Puts given out at (writeLine line) r′ o′
+line-ended line e {given} {out} {at} w {r′} {o′} w′ = subst (λ (t : Bytes). Puts given out at t r′ o′) (ended-line line) (then w (rw e at w′))
 
 -- what answers the needs of `put_line`
-pub line-put : (line : Bytes) {out : Bytes} {at r : ℕ} {o : Bytes} → Wrote out at line r o → {cr b : Bool} → cr ≡ b → {r′ : ℕ} {o′ : Bytes} → Wrote o r (ending cr) r′ o′
-    → WroteEnded out at line b (record { end = r; next = r′ }) o′
+pub line-put : (line : Bytes) {given out : Bytes} {at r : Sink} {o : Bytes} → Puts given out at line r o → {cr b : Bool} → cr ≡ b → {r′ : Sink} {o′ : Bytes} → Puts given o r (ending cr) r′ o′
+    → WroteEnded given out at line b (record { end = r .at; next = r′ }) o′
 line-put line w e w′ = record { place = w .place; text = then w (rw e at w′) }
 
 -- of a map or a text it is the house form's line, with its own ending
@@ -236,10 +237,10 @@ entry-is v s (fileformat w) e h = absurd h
 entry-is v s (fields k fs) e h = rw (houseLine, e)
 entry-is v s (text k t) e h = rw (houseLine, e)
 
-pub entry-ended : (v : Version) (s : Bytes) (x : Record) → readRecord v s ≡ ok x → IsEntry x → {out : Bytes} {at : ℕ} {r : LineWritten} {o : Bytes}
-    → WroteEnded out at (houseLine v s) (ends 13 s) r o → (r .end ≡ onward at (length (recordLine v x))) × Wrote out at (writeLine (recordLine v x)) (r .next) o
-entry-ended v s x e h {out} {at} {r} {o} w =
+pub entry-ended : (v : Version) (s : Bytes) (x : Record) → readRecord v s ≡ ok x → IsEntry x → {given out : Bytes} {at : Sink} {r : LineWritten} {o : Bytes}
+    → WroteEnded given out at (houseLine v s) (ends 13 s) r o → (r .end ≡ onward (at .at) (length (recordLine v x))) × Puts given out at (writeLine (recordLine v x)) (r .next) o
+entry-ended v s x e h {given} {out} {at} {r} {o} w =
     let l = entry-is v s x e h in (
       rw l at (w .place),
-      subst (λ (t : Bytes). Wrote out at t (r .next) o) (rw (l, same-ending v s x e h) (ended-line (recordLine v x))) (w .text),
+      subst (λ (t : Bytes). Puts given out at t (r .next) o) (rw (l, same-ending v s x e h) (ended-line (recordLine v x))) (w .text),
     )

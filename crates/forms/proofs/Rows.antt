@@ -9,9 +9,10 @@ use Rattle.values.specs.Bytes.{Bytes, ascii, same}
 use Rattle.values.specs.Integer.{u64Read}
 use Rattle.values.specs.Value.{meaning, meaningOf}
 use Rattle.values.specs.Field.{Field, writtenField}
-use Rattle.values.specs.Written.{last, Wrote}
+use Rattle.values.specs.Written.{last, Puts}
+use Rattle.values.specs.declared.sink.Sink.{Sink}
 use Rattle.values.specs.declared.string.Text.{Text}
-use Rattle.values.proofs.Outputs.{wrote-nothing, then}
+use Rattle.values.proofs.Outputs.{puts-nothing, then}
 use Rattle.rules.specs.Known.{INFO, FILTER, contig, KnownField, numberField, typeField, descriptionField, lengthField, md5Field, urlField, idxField, isNumeric}
 use Rattle.rules.specs.Map.{fieldsAt, fieldKeyed}
 use Rattle.records.specs.Keys.{kindBy}
@@ -33,17 +34,17 @@ module _ (s : Bytes) where
   found-some t none h = absurd h
   found-some t (some f) h = (f, refl, h)
 
-module _ {meta : Bool} {s : Bytes} {start : ℕ} {name : Bytes} {r : FieldFound} (a : FindsField meta s start name r) {out : Bytes} {at : ℕ} where
-  pub known-none : (number : Bool) → r ≡ Missing → at ≤ last → length out ≤ last → PutsKnown meta (fieldsAt meta s start) name number out at at out
+module _ {meta : Bool} {s : Bytes} {start : ℕ} {name : Bytes} {r : FieldFound} (a : FindsField meta s start name r) {given out : Bytes} {at : Sink} where
+  pub known-none : (number : Bool) → r ≡ Missing → at .at ≤ last → length out ≤ last → PutsKnown meta (fieldsAt meta s start) name number given out at at out
   known-none number e h l =
       let o = not-found s (fieldKeyed name (fieldsAt meta s start)) (subst (FoundIs s (fieldKeyed name (fieldsAt meta s start))) e (a .value)) in
-      record { is = λ n. rw o (wrote-nothing out at h l) }
+      record { is = λ n. rw o (puts-nothing given out at h l) }
 
-  module _ {t : Text} (e : r ≡ Found t) {r₁ : ℕ} {o₁ : Bytes} (w : Wrote out at (44 ∷ []) r₁ o₁) {p : Bytes} (b : p ≡ take (t .end - t .start) (drop (t .start) s)) where
+  module _ {t : Text} (e : r ≡ Found t) {r₁ : Sink} {o₁ : Bytes} (w : Puts given out at (44 ∷ []) r₁ o₁) {p : Bytes} (b : p ≡ take (t .end - t .start) (drop (t .start) s)) where
     field : (f : Field) × (fieldKeyed name (fieldsAt meta s start) ≡ some f) × FoundIs s (some f) (Found t)
     field = found-some s t (fieldKeyed name (fieldsAt meta s start)) (subst (FoundIs s (fieldKeyed name (fieldsAt meta s start))) e (a .value))
 
-    pub known-number : (number : Bool) → number ≡ true → {r₂ : ℕ} {o₂ : Bytes} → PutsNumber meta name p (t .quoted) o₁ r₁ r₂ o₂ → PutsKnown meta (fieldsAt meta s start) name number out at r₂ o₂
+    pub known-number : (number : Bool) → number ≡ true → {r₂ : Sink} {o₂ : Bytes} → PutsNumber meta name p (t .quoted) given o₁ r₁ r₂ o₂ → PutsKnown meta (fieldsAt meta s start) name number given out at r₂ o₂
     known-number number u v = record {
       is = λ n.
           let f = field in
@@ -52,7 +53,7 @@ module _ {meta : Bool} {s : Bytes} {start : ℕ} {name : Bytes} {r : FieldFound}
           rw (f .1, u) (then w (rw m at y));
     }
 
-    pub known-word : (number : Bool) → number ≡ false → {r₂ : ℕ} {o₂ : Bytes} → Wrote o₁ r₁ (writtenField (fieldBy meta name (meaning (t .quoted) p))) r₂ o₂ → PutsKnown meta (fieldsAt meta s start) name number out at r₂ o₂
+    pub known-word : (number : Bool) → number ≡ false → {r₂ : Sink} {o₂ : Bytes} → Puts given o₁ r₁ (writtenField (fieldBy meta name (meaning (t .quoted) p))) r₂ o₂ → PutsKnown meta (fieldsAt meta s start) name number given out at r₂ o₂
     known-word number u v = record {
       is = λ n.
           let f = field in
@@ -64,31 +65,31 @@ pub ruleset knowns = (known-none, known-number, known-word)
 
 -- Known fields one after the other
 
-module _ {meta : Bool} {fs : List Field} {out : Bytes} {at r : ℕ} {o : Bytes} (row : KnownField) (n : isNumeric (row .reads) && same (row .name) (ascii "Description") ≡ false)
-    (p : PutsKnown meta fs (row .name) (isNumeric (row .reads)) out at r o) where
-  last-known : Wrote out at (listedFields meta fs (row ∷ [])) r o
+module _ {meta : Bool} {fs : List Field} {given out : Bytes} {at r : Sink} {o : Bytes} (row : KnownField) (n : isNumeric (row .reads) && same (row .name) (ascii "Description") ≡ false)
+    (p : PutsKnown meta fs (row .name) (isNumeric (row .reads)) given out at r o) where
+  last-known : Puts given out at (listedFields meta fs (row ∷ [])) r o
   unfolding listedFields
   last-known = rw (append-nil (knownText meta (row .name) (isNumeric (row .reads)) (fieldKeyed (row .name) fs))) (p .is n)
 
-  more-known : (rows : List KnownField) {r′ : ℕ} {o′ : Bytes} → Wrote o r (listedFields meta fs rows) r′ o′ → Wrote out at (listedFields meta fs (row ∷ rows)) r′ o′
+  more-known : (rows : List KnownField) {r′ : Sink} {o′ : Bytes} → Puts given o r (listedFields meta fs rows) r′ o′ → Puts given out at (listedFields meta fs (row ∷ rows)) r′ o′
   unfolding listedFields
   more-known rows w = then (p .is n) w
 
-module _ {meta : Bool} {fs : List Field} {out : Bytes} {at r₁ r₂ : ℕ} {o₁ o₂ : Bytes} where
-  pub filter-known : PutsKnown meta fs (ascii "Description") false out at r₁ o₁ → PutsKnown meta fs (ascii "IDX") true o₁ r₁ r₂ o₂ → Wrote out at (listedFields meta fs (afterId FILTER)) r₂ o₂
+module _ {meta : Bool} {fs : List Field} {given out : Bytes} {at r₁ r₂ : Sink} {o₁ o₂ : Bytes} where
+  pub filter-known : PutsKnown meta fs (ascii "Description") false given out at r₁ o₁ → PutsKnown meta fs (ascii "IDX") true given o₁ r₁ r₂ o₂ → Puts given out at (listedFields meta fs (afterId FILTER)) r₂ o₂
   unfolding same
   filter-known p q = more-known descriptionField refl p (idxField ∷ []) (last-known idxField refl q)
 
-  module _ {r₃ r₄ : ℕ} {o₃ o₄ : Bytes} where
-    pub typed-known : PutsKnown meta fs (ascii "Number") true out at r₁ o₁ → PutsKnown meta fs (ascii "Type") false o₁ r₁ r₂ o₂
-        → PutsKnown meta fs (ascii "Description") false o₂ r₂ r₃ o₃ → PutsKnown meta fs (ascii "IDX") true o₃ r₃ r₄ o₄ → Wrote out at (listedFields meta fs (afterId INFO)) r₄ o₄
+  module _ {r₃ r₄ : Sink} {o₃ o₄ : Bytes} where
+    pub typed-known : PutsKnown meta fs (ascii "Number") true given out at r₁ o₁ → PutsKnown meta fs (ascii "Type") false given o₁ r₁ r₂ o₂
+        → PutsKnown meta fs (ascii "Description") false given o₂ r₂ r₃ o₃ → PutsKnown meta fs (ascii "IDX") true given o₃ r₃ r₄ o₄ → Puts given out at (listedFields meta fs (afterId INFO)) r₄ o₄
     unfolding same
     typed-known p q u v =
         more-known numberField refl p (typeField ∷ descriptionField ∷ idxField ∷ [])
         (more-known typeField refl q (descriptionField ∷ idxField ∷ []) (more-known descriptionField refl u (idxField ∷ []) (last-known idxField refl v)))
 
-    pub contig-known : PutsKnown meta fs (ascii "length") true out at r₁ o₁ → PutsKnown meta fs (ascii "md5") false o₁ r₁ r₂ o₂
-        → PutsKnown meta fs (ascii "URL") false o₂ r₂ r₃ o₃ → PutsKnown meta fs (ascii "IDX") true o₃ r₃ r₄ o₄ → Wrote out at (listedFields meta fs (afterId contig)) r₄ o₄
+    pub contig-known : PutsKnown meta fs (ascii "length") true given out at r₁ o₁ → PutsKnown meta fs (ascii "md5") false given o₁ r₁ r₂ o₂
+        → PutsKnown meta fs (ascii "URL") false given o₂ r₂ r₃ o₃ → PutsKnown meta fs (ascii "IDX") true given o₃ r₃ r₄ o₄ → Puts given out at (listedFields meta fs (afterId contig)) r₄ o₄
     unfolding same
     contig-known p q u v =
         more-known lengthField refl p (md5Field ∷ urlField ∷ idxField ∷ [])
@@ -97,15 +98,15 @@ module _ {meta : Bool} {fs : List Field} {out : Bytes} {at r₁ r₂ : ℕ} {o�
 pub ruleset rows = (filter-known, typed-known, contig-known)
 
 -- by the case of the map's key
-module _ (meta : Bool) (fs : List Field) {out : Bytes} {at : ℕ} (key : MapKey) {x : MapKey} (e : key ≡ x) where
-  pub rows-told : {r : ℕ} {o : Bytes} → Wrote out at (listedFields meta fs (afterId (kindBy x))) r o → Wrote out at (listedFields meta fs (afterId (kindBy key))) r o
+module _ (meta : Bool) (fs : List Field) {given out : Bytes} {at : Sink} (key : MapKey) {x : MapKey} (e : key ≡ x) where
+  pub rows-told : {r : Sink} {o : Bytes} → Puts given out at (listedFields meta fs (afterId (kindBy x))) r o → Puts given out at (listedFields meta fs (afterId (kindBy key))) r o
   rows-told w = rw e w
 
-  pub row-told : afterId (kindBy x) ≡ descriptionField ∷ [] → {r : ℕ} {o : Bytes} → PutsKnown meta fs (ascii "Description") false out at r o → Wrote out at (listedFields meta fs (afterId (kindBy key))) r o
+  pub row-told : afterId (kindBy x) ≡ descriptionField ∷ [] → {r : Sink} {o : Bytes} → PutsKnown meta fs (ascii "Description") false given out at r o → Puts given out at (listedFields meta fs (afterId (kindBy key))) r o
   row-told f p = rw (e, f) (last-known descriptionField refl p)
 
-  pub no-rows : afterId (kindBy x) ≡ [] → at ≤ last → length out ≤ last → Wrote out at (listedFields meta fs (afterId (kindBy key))) at out
+  pub no-rows : afterId (kindBy x) ≡ [] → at .at ≤ last → length out ≤ last → Puts given out at (listedFields meta fs (afterId (kindBy key))) at out
   unfolding listedFields
-  no-rows f h l = rw (e, f) (wrote-nothing out at h l)
+  no-rows f h l = rw (e, f) (puts-nothing given out at h l)
 
 pub ruleset tables = (rows-told, row-told, no-rows)

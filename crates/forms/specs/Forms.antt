@@ -1,6 +1,5 @@
 -- A line of the house form, as the code writes it from a line of a header. Bytes by their numbers: `"` 34, `,` 44, `[` 91, `]` 93.
 -- Assumes nothing.
-use Prim.Native.Nat.{ℕ}
 use mathlib.Core.Path.{_≡_}
 use mathlib.Core.Bool.{Bool, true, false, not, _||_, _&&_}
 use mathlib.Core.List.{List, [], _∷_, _++_}
@@ -9,7 +8,8 @@ use Rattle.values.specs.Bytes.{Bytes, ascii, begins, same}
 use Rattle.values.specs.Integer.{u64Read}
 use Rattle.values.specs.Value.{meaning, meaningOf, valueOf}
 use Rattle.values.specs.Field.{Field, writtenField}
-use Rattle.values.specs.Written.{Wrote}
+use Rattle.values.specs.Written.{Puts}
+use Rattle.values.specs.declared.sink.Sink.{Sink}
 use Rattle.rules.specs.Known.{KnownField, isNumeric}
 use Rattle.rules.specs.Map.{isSome, fieldsAt, fieldKeyed, knownNamed}
 use Rattle.rules.specs.Meaning.{numberOrWord}
@@ -32,8 +32,8 @@ shownValue true t = writeKnown (numberOrWord t (u64Read t))
 shownValue false t = t
 
 -- the text s was written as the number that it spells, if its meaning spells the same
-pub record PutsNumber (meta : Bool) (key s : Bytes) (q : Bool) (old : Bytes) (at r : ℕ) (new : Bytes) : Type 0 where
-  pub is : same key (ascii "Description") ≡ false → u64Read (meaning q s) ≡ u64Read s → Wrote old at (writtenField (fieldBy meta key (shownValue true (meaning q s)))) r new
+pub record PutsNumber (meta : Bool) (key s : Bytes) (q : Bool) (given old : Bytes) (at r : Sink) (new : Bytes) : Type 0 where
+  pub is : same key (ascii "Description") ≡ false → u64Read (meaning q s) ≡ u64Read s → Puts given old at (writtenField (fieldBy meta key (shownValue true (meaning q s)))) r new
 
 -- the fields of a map
 abbrev pub fieldsIn : MapContext → Bytes → List Field
@@ -45,8 +45,8 @@ knownText meta name number none = []
 knownText meta name number (some f) = 44 ∷ writtenField (fieldBy meta name (shownValue number (meaningOf (f .value))))
 
 -- the field of this name was written, if there is one; a number is never a Description
-pub record PutsKnown (meta : Bool) (fs : List Field) (name : Bytes) (number : Bool) (old : Bytes) (at r : ℕ) (new : Bytes) : Type 0 where
-  pub is : number && same name (ascii "Description") ≡ false → Wrote old at (knownText meta name number (fieldKeyed name fs)) r new
+pub record PutsKnown (meta : Bool) (fs : List Field) (name : Bytes) (number : Bool) (given old : Bytes) (at r : Sink) (new : Bytes) : Type 0 where
+  pub is : number && same name (ascii "Description") ≡ false → Puts given old at (knownText meta name number (fieldKeyed name fs)) r new
 
 -- the known fields of these rows, an integer as its number
 unfoldable pub listedFields : Bool → List Field → List KnownField → Bytes

@@ -6,7 +6,8 @@ use mathlib.Core.List.{[], _∷_, _++_}
 use lib.ListN.{length, take}
 use Rattle.values.specs.Bytes.{Bytes, CR, LF}
 use Rattle.values.specs.Field.{writtenField}
-use Rattle.values.specs.Written.{onward, Wrote}
+use Rattle.values.specs.Written.{onward, Puts}
+use Rattle.values.specs.declared.sink.Sink.{Sink}
 use Rattle.values.specs.declared.string.Text.{Text}
 use Rattle.rules.specs.Answer.{Answer, ok, refuse}
 use Rattle.rules.specs.Version.{Version}
@@ -54,6 +55,6 @@ ending true = CR ∷ LF ∷ []
 ending false = LF ∷ []
 
 -- a line was written, and an ending; cr: it is CR LF
-pub record WroteEnded (old : Bytes) (at : ℕ) (line : Bytes) (cr : Bool) (r : LineWritten) (new : Bytes) : Type 0 where
-  pub place : r .end ≡ onward at (length line)
-  pub text : Wrote old at (line ++ ending cr) (r .next) new
+pub record WroteEnded (given old : Bytes) (at : Sink) (line : Bytes) (cr : Bool) (r : LineWritten) (new : Bytes) : Type 0 where
+  pub place : r .end ≡ onward (at .at) (length line)
+  pub text : Puts given old at (line ++ ending cr) (r .next) new

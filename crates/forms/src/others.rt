@@ -5,21 +5,23 @@ use values::bytes;
 use values::cursor::Cursor;
 use values::field::FieldRead;
 use values::field::Separator;
-use values::output;
+use values::sink;
+use values::sink::Sink;
 ghost use Rattle.values.specs.Value.{meaning};
-ghost use Rattle.values.specs.Written.{Wrote};
+ghost use Rattle.values.specs.Written.{Puts};
 ghost use Rattle.forms.specs.Forms.{fieldsIn, otherText, othersText};
 
 // A `,` and the field, unless it is a known one.
 fn put_other(
     out: &mut [u8],
-    at: usize,
+    given: &[u8],
+    at: Sink,
     map: MapContext,
     name: &[u8],
     value: &[u8],
     quoted: bool,
-) -> usize
-    ensures { λ r. ⌜ Wrote (now (out .entry)) at (otherText map (now (name .entry)) (meaning quoted (now (value .entry)))) r (now (out .exit)) ⌝ }
+) -> Sink
+    ensures { λ r. ⌜ Puts (now (given .entry)) (now (out .entry)) at (otherText map (now (name .entry)) (meaning quoted (now (value .entry)))) r (now (out .exit)) ⌝ }
 {
     let key = map.key;
     let version = map.version;
@@ -27,13 +29,13 @@ fn put_other(
     if tag.is_known() {
         return at;
     }
-    let next = output::put_byte(out, at, b',');
-    field::put_field(out, next, name, value, quoted, map.brackets)
+    let next = sink::put_byte(out, given, at, b',');
+    field::put_field(out, given, next, name, value, quoted, map.brackets)
 }
 
 // Of the fields that stand past the map's `<`, those that are no known ones, each after a `,`.
-pub fn put_others(out: &mut [u8], at: usize, s: &[u8], map: MapContext) -> usize
-    ensures { λ r. ⌜ Wrote (now (out .entry)) at (othersText map (fieldsIn map (now (s .entry)))) r (now (out .exit)) ⌝ }
+pub fn put_others(out: &mut [u8], given: &[u8], at: Sink, s: &[u8], map: MapContext) -> Sink
+    ensures { λ r. ⌜ Puts (now (given .entry)) (now (out .entry)) at (othersText map (fieldsIn map (now (s .entry)))) r (now (out .exit)) ⌝ }
 {
     let mut next = at;
     let mut c = Cursor { at: map.start };
@@ -44,7 +46,7 @@ pub fn put_others(out: &mut [u8], at: usize, s: &[u8], map: MapContext) -> usize
         };
         let name = bytes::part(s, from, equals);
         let value = bytes::part(s, text.start, text.end);
-        next = put_other(out, next, map, name, value, text.quoted);
+        next = put_other(out, given, next, map, name, value, text.quoted);
         let Separator::Comma(d) = past.consume_separator(s) else {
             return next;
         };

@@ -1,7 +1,7 @@
 -- What a house-form call answers is what the rules say. Assumes nothing.
 use Prim.Native.Nat.{ℕ, suc, _<_}
 use native.Mathlib.Omega.{arith}
-use mathlib.Core.Path.{_≡_, refl, sym, ap, subst, _∙_}
+use mathlib.Core.Path.{_≡_, refl, ap, _∙_}
 use mathlib.Core.List.{List}
 use mathlib.Core.Option.{Option, none, some}
 use lib.Dec.{leb}
@@ -37,7 +37,7 @@ use Rattle.house.specs.Keys.{AllReadable}
 use Rattle.house.specs.Forms.{formLines, fittedAs, linedAs, outcomeOf, writtenOf, WritesForm}
 use Rattle.house.specs.Answers.{FormMeaning, formAnswerMeans, houseMeans, refusedAnswer, formAnswered, AnswersForm, HouseCall}
 use Rattle.house.proofs.Arranged.{FormIs, form-is}
-use Rattle.rules.specs.Claims.{Accepted}
+use Rattle.rules.specs.Claims.{Sized, Accepted}
 
 -- what answers the needs of `answer`
 module _ (a : ReadAnswer) (form : FormOutcome) where
@@ -65,9 +65,9 @@ form-answered a f i j w e = record { written = _; writes = w; answers = e; sized
 abbrev sizing : ℕ → AnswerMeaning → FormMeaning
 sizing n x = record { number = x .number; line = x .line; start = x .start; entries = x .entries; size = n; accepted = x .accepted }
 
-record Answers (a : ReadAnswer) (r : Reading) (ls : List Bytes) (form : FormOutcome) (f : HouseReading) : Type 0 where
-  tells-it : formAnswerMeans (formAnswered a form) ≡ houseMeans r f
-  writes-it : writtenOf form ls ≡ f .form
+pub record Answers (a : ReadAnswer) (r : Reading) (ls : List Bytes) (form : FormOutcome) (f : HouseReading) : Type 0 where
+  pub tells-it : formAnswerMeans (formAnswered a form) ≡ houseMeans r f
+  pub writes-it : writtenOf form ls ≡ f .form
 
 module _ (lim : Limits) (a : ReadAnswer) (r : Reading) (e : answerMeans a ≡ readingMeans r) (z : r .number ≡ 0) (room : ℕ) (m : Meaning) where
   abbrev ls : List Bytes
@@ -113,11 +113,11 @@ module _ (form : Form) (imposed : Option Version) (h : Bytes) (t₀ : List ℕ) 
   form-in size = house (limitsBy form) imposed (room form t₀) size h
 
   module _ {x : Refusal} (o : a .outcome ≡ outcome.Refused x) where
-    refused-house : (size : ℕ) → form-in size ≡ refusedForm (read .number) (read .line) (read .start)
+    pub refused-house : (size : ℕ) → form-in size ≡ refusedForm (read .number) (read .line) (read .start)
     unfolding house
     refused-house size = let n = number-suc x in house-refused (limitsBy form) size read (read-refused call o ∙ n .1)
 
-    refused-told : (size : ℕ) {r : HouseAnswer} → r ≡ refusedAnswer x (a .line) (a .start) (a .entries) → formAnswerMeans r ≡ houseMeans read (form-in size)
+    pub refused-told : (size : ℕ) {r : HouseAnswer} → r ≡ refusedAnswer x (a .line) (a .start) (a .entries) → formAnswerMeans r ≡ houseMeans read (form-in size)
     refused-told size q =
         let n = number-suc x in
         ap formAnswerMeans q ∙ rw (refused-house size, read-refused call o, read-line call, read-start call, read-entries call) (rw (n .1))
@@ -125,8 +125,8 @@ module _ (form : Form) (imposed : Option Version) (h : Bytes) (t₀ : List ℕ) 
     pub house-refused-call : (out : Bytes) {r : HouseAnswer} → r ≡ refusedAnswer x (a .line) (a .start) (a .entries) → HouseCall form imposed h t₀ out r t out
     house-refused-call out q = record { answer = refused-told (length out) q; table = call .table; output = rw (refused-house (length out)) }
 
-  module _ {f : FileFormat} {n : ℕ} (o : a .outcome ≡ outcome.Accepted f n) {kept : List ℕ} (ek : kept ≡ firstEntries form t (a .entries))
-      {out : Bytes} {r : HouseAnswer} {new : Bytes} (w : AnswersForm (limitsBy form) a f h (entriesIn form kept) out r new) where
+  -- an accepted reading: o is what came of its form, where the output has `space` bytes
+  module _ {f : FileFormat} {n : ℕ} (o : a .outcome ≡ outcome.Accepted f n) (sized : Sized (versionOf f)) where
     abbrev was-read : Read read (versionOf f) n
     was-read = read-records call o
 
@@ -136,31 +136,28 @@ module _ (form : Form) (imposed : Option Version) (h : Bytes) (t₀ : List ℕ) 
     is-form : FormIs (versionOf f) h (was-read .records) (was-read .columns) (read .entries)
     is-form =
         let t = header-traced (limitsBy form) imposed (room form t₀) h (was-read .accepted) in
-        form-is (limitsBy form) imposed h (versionOf f) (was-read .records) (was-read .columns) (read .entries) t (read-good call o (w .sized))
+        form-is (limitsBy form) imposed h (versionOf f) (was-read .records) (was-read .columns) (read .entries) t (read-good call o sized)
 
-    is-readable : AllReadable (versionOf f) h (entriesIn form kept)
-    is-readable = rw (read-kept call o ek) (is-form .readable)
+    module _ {kept : List ℕ} (ek : kept ≡ firstEntries form t (a .entries)) where
+      pub is-readable : AllReadable (versionOf f) h (entriesIn form kept)
+      is-readable = rw (read-kept call o ek) (is-form .readable)
 
-    the-lines : formLines (versionOf f) h (entriesIn form kept) ≡ houseLines means
-    the-lines = ap (formLines (versionOf f) h) (read-kept call o ek) ∙ is-form .lines
+      the-lines : formLines (versionOf f) h (entriesIn form kept) ≡ houseLines means
+      the-lines = ap (formLines (versionOf f) h) (read-kept call o ek) ∙ is-form .lines
 
-    abbrev space : ℕ
-    space = length out
+      pub answers-it : (space : ℕ) (written : FormOutcome) → written ≡ outcomeOf (limitsBy form) space (formLines (versionOf f) h (entriesIn form kept))
+          → Answers a read (formLines (versionOf f) h (entriesIn form kept)) written (form-in space)
+      unfolding house
+      answers-it space written e =
+          let house-is : form-in space ≡ formAnswer (limitsBy form) space read means = rw (house, was-read .accepted .state, read-accepted call o) in
+          rw (e, the-lines, house-is) (answers-form (limitsBy form) a read (call .answer) (read-accepted call o) space means)
 
-    house-is : form-in space ≡ formAnswer (limitsBy form) space read means
-    unfolding house
-    house-is = rw (was-read .accepted .state, read-accepted call o)
-
-    answers-it : Answers a read (houseLines means) (w .written) (form-in space)
-    answers-it =
-        subst (λ (x : FormOutcome). Answers a read (houseLines means) x (form-in space)) (sym (w .writes .is is-readable ∙ ap (outcomeOf (limitsBy form) space) the-lines))
-        (subst (Answers a read (houseLines means) (outcomeOf (limitsBy form) space (houseLines means))) (sym house-is) (answers-form (limitsBy form) a read (call .answer) (read-accepted call o) space means))
-
+  module _ {f : FileFormat} {n : ℕ} (o : a .outcome ≡ outcome.Accepted f n) {kept : List ℕ} (ek : kept ≡ firstEntries form t (a .entries))
+      {out : Bytes} {r : HouseAnswer} {new : Bytes} (w : AnswersForm (limitsBy form) a f h (entriesIn form kept) out r new) where
     pub house-accepted-call : HouseCall form imposed h t₀ out r t new
-    house-accepted-call = record {
-      answer = ap formAnswerMeans (w .answers) ∙ answers-it .tells-it;
-      table = call .table;
-      output = w .writes .output is-readable ∙ ap (sets out 0) (ap (writtenOf (w .written)) the-lines ∙ answers-it .writes-it);
-    }
+    house-accepted-call =
+        let d = is-readable o (w .sized) ek in
+        let x = answers-it o (w .sized) ek (length out) (w .written) (w .writes .is d) in
+        record { answer = ap formAnswerMeans (w .answers) ∙ x .tells-it; table = call .table; output = w .writes .output d ∙ ap (sets out 0) (x .writes-it) }
 
 pub ruleset houses = (house-refused-call, house-accepted-call)

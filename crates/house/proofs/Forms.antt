@@ -2,14 +2,15 @@
 use Prim.Native.Nat.{ℕ, zero, suc, _+_, _≤_, _<_, _^_}
 use native.Mathlib.Omega.{arith}
 use mathlib.Core.Path.{_≡_, refl, sym, ap, _∙_, subst}
-use mathlib.Core.Bool.{true}
+use mathlib.Core.Bool.{Bool, true, false, not, true≢false, false≢true}
 use mathlib.Core.List.{List, [], _∷_}
-use mathlib.Core.Option.{none, some, orElse}
+use mathlib.Core.Option.{none, orElse}
 use lib.Dec.{leb}
 use lib.ListN.{length, take, drop}
-use borrow.Author.Tests.{eq-eqb, ne-eqb, le-leb, lt-leb}
+use borrow.Author.Tests.{eq-eqb, ne-eqb, le-leb, lt-leb, leb-true, leb-false}
 use Rattle.values.specs.Bytes.{Bytes}
 use Rattle.values.specs.Written.{onward}
+use Rattle.values.proofs.Tests.{pass, fail, test, not-true, not-false}
 use Rattle.rules.specs.Sizes.{Limits}
 use Rattle.rules.specs.Lines.{writeLines}
 use Rattle.rules.specs.Version.{Version}
@@ -27,7 +28,7 @@ use Rattle.house.specs.declared.form.FormOutcome.{FormOutcome}
 use Rattle.house.specs.declared.form.FormOutcome.the-variants.{Whole, TooLong, LineTooLong, NoRoom}
 use Rattle.house.specs.Writes.{longIn, WroteLines}
 use Rattle.house.specs.Keys.{AllReadable, PutsKeys, PutsOthers}
-use Rattle.house.specs.Forms.{columnLine, recordLines, formLines, begun, PutsRecords, PutsForm, outcomeOf, fittedAs, linedAs, WritesForm}
+use Rattle.house.specs.Forms.{columnLine, recordLines, formLines, begun, PutsRecords, PutsForm, isWhole, measuredAs, outcomeOf, fittedAs, linedAs, writtenOf, WritesForm, ComparesForm}
 use Rattle.house.proofs.Writes.{lines-count, then-lines}
 use Rattle.entries.specs.Values.{limitsOf, limitsBy}
 use Rattle.entries.specs.declared.limits.Limits.{Limits as CodeLimits}
@@ -62,93 +63,115 @@ module _ {form : Form} {h : Bytes} {t : List ℕ} {k : ℕ} (g : Columns form h 
 pub ruleset columns = (column-start, column-end, column-here, column-later)
 
 -- what answers the needs of `put_records` and `put_form`
-module _ {v : Version} {h : Bytes} {es : List Entry} {old : Bytes} where
-  pub records-put : {s r : Progress} {o : Bytes} → PutsKeys v h es typedKeys old s r o → {r′ : Progress} {o′ : Bytes} → PutsOthers v h es o r r′ o′ → PutsRecords v h es old s r′ o′
+module _ {v : Version} {h : Bytes} {es : List Entry} {given old : Bytes} where
+  pub records-put : {s r : Progress} {o : Bytes} → PutsKeys v h es typedKeys given old s r o → {r′ : Progress} {o′ : Bytes} → PutsOthers v h es given o r r′ o′ → PutsRecords v h es given old s r′ o′
   unfolding recordLines
   records-put p q = record { is = λ a. then-lines (p .is a) (q .is a) }
 
-  pub form-put : {limit : ℕ} {r₁ : Progress} {o₁ : Bytes} → WroteLines old (begun limit) (writeRecord (fileformat v) ∷ []) r₁ o₁ → {r₂ : Progress} {o₂ : Bytes} → PutsRecords v h es o₁ r₁ r₂ o₂
-      → {l : Bytes} → l ≡ columnLine h es → {r₃ : Progress} {o₃ : Bytes} → WroteLines o₂ r₂ (l ∷ []) r₃ o₃ → PutsForm limit v h es old r₃ o₃
+  pub form-put : {limit : ℕ} {r₁ : Progress} {o₁ : Bytes} → WroteLines given old (begun limit) (writeRecord (fileformat v) ∷ []) r₁ o₁ → {r₂ : Progress} {o₂ : Bytes} → PutsRecords v h es given o₁ r₁ r₂ o₂
+      → {l : Bytes} → l ≡ columnLine h es → {r₃ : Progress} {o₃ : Bytes} → WroteLines given o₂ r₂ (l ∷ []) r₃ o₃ → PutsForm limit v h es given old r₃ o₃
   unfolding formLines
   form-put p q e t = record { is = λ a. then-lines p (then-lines (q .is a) (rw e at t)) }
 
 -- What becomes of a form; m is what the measuring of it told
 
-module _ (lim : Limits) (small : lim .header < 2 ^ 24) {v : Version} {h : Bytes} {es : List Entry} {none-out none-left : Bytes} {m : Progress} (p : PutsForm (lim .line) v h es none-out m none-left) where
+module _ (lim : Limits) (small : lim .header < 2 ^ 24) {v : Version} {h : Bytes} {es : List Entry} {given none-out none-left : Bytes} {m : Progress} (p : PutsForm (lim .line) v h es given none-out m none-left)
+    (a : AllReadable v h es) where
   abbrev ls : List Bytes
   ls = formLines v h es
 
   abbrev size : ℕ
   size = length (writeLines ls)
 
-  at-size : AllReadable v h es → m .next ≡ onward 0 size
-  at-size a = p .is a .text .place
+  at-size : m .next .at ≡ onward 0 size
+  at-size = p .is a .text .place
 
-  whole-size : AllReadable v h es → m .next ≤ lim .header → size ≡ m .next
+  whole-size : m .next .at ≤ lim .header → m .next .at ≡ size
   unfolding onward
-  whole-size a l = omega (arith, at-size a, small)
+  whole-size l = omega (arith, at-size, small)
 
-  first-long : AllReadable v h es → m .next ≤ lim .header → longIn m ≡ tooLong (lim .line) 0 0 ls
+  first-long : m .next .at ≤ lim .header → longIn m ≡ tooLong (lim .line) 0 0 ls
   unfolding orElse
-  first-long a l =
-      let s = whole-size a l in
+  first-long l =
+      let s = whole-size l in
       p .is a .long (omega (arith, s, small)) (omega (arith, s, small, lines-count ls))
 
-  short-form : AllReadable v h es → m .next ≤ lim .header → leb size (lim .header) ≡ true
-  short-form a l = le-leb size (lim .header) (omega (arith, whole-size a l))
+  measured-is : (room : ℕ) → measuredAs lim room m ≡ outcomeOf lim room ls
+  unfolding measuredAs outcomeOf onward
+  measured-is room = elim (test (leb (m .next .at) (lim .header))) [
+    | pass q ↦
+        let l = leb-true (m .next .at) (lim .header) q in
+        let s = whole-size l in
+        rw (measuredAs, q, first-long l, s, outcomeOf, rw s at q)
+    | fail q ↦ rw (measuredAs, q, outcomeOf, lt-leb size (lim .header) (omega (arith, at-size, leb-false (m .next .at) (lim .header) q)))
+  ]
 
-  too-long : {out : Bytes} → lim .header < m .next → WritesForm lim v h es out TooLong out
-  unfolding onward outcomeOf
-  too-long l = record { is = λ a. rw (outcomeOf, lt-leb size (lim .header) (omega (arith, at-size a))); output = λ a. refl }
+-- what is written of a form that does not come whole
+not-whole : (o : FormOutcome) → isWhole o ≡ false → (ls : List Bytes) → writtenOf o ls ≡ []
+not-whole (Whole n) e ls = absurd (true≢false e)
+not-whole TooLong e ls = refl
+not-whole (LineTooLong l s) e ls = refl
+not-whole NoRoom e ls = refl
 
-  module _ (l : m .next ≤ lim .header) where
-    line-long : {out : Bytes} → 0 < m .long → WritesForm lim v h es out (LineTooLong (m .long) (m .start)) out
-    unfolding outcomeOf
-    line-long {out} b = record { is = λ a. rw (outcomeOf, short-form a l, ← first-long a l) (go (m .long) b); output = λ a. refl }
-      where
-        go : (k : ℕ) → 0 < k → LineTooLong k (m .start) ≡ linedAs (length out) size (elim k [ zero ↦ none | suc n ↦ some (suc n, m .start) ])
-        go zero b = absurd (omega arith)
-        go (suc n) b = refl
-
-    module _ (b : m .long ≤ 0) where
-      none-long : AllReadable v h es → tooLong (lim .line) 0 0 ls ≡ none
-      none-long a = let z : m .long ≡ 0 = omega arith in sym (first-long a l) ∙ rw z
-
-      no-room : {out : Bytes} → length out < m .next → WritesForm lim v h es out NoRoom out
-      unfolding outcomeOf
-      no-room {out} r = record { is = λ a. rw (outcomeOf, short-form a l, none-long a) (rw (linedAs, fittedAs, lt-leb size (length out) (omega (arith, whole-size a l)))); output = λ a. refl }
-
-      whole-form : {out : Bytes} → m .next ≤ length out → {m′ : Progress} {o : Bytes} → PutsForm (lim .line) v h es out m′ o → WritesForm lim v h es out (Whole (m .next)) o
-      unfolding outcomeOf
-      whole-form {out} r q = record {
-        is = λ a. rw (outcomeOf, short-form a l, none-long a) (rw (linedAs, fittedAs, le-leb size (length out) (omega (arith, whole-size a l))) (ap Whole (sym (whole-size a l))));
-        output = λ a. q .is a .text .output;
-      }
+pub is-whole : (o : FormOutcome) → isWhole o ≡ true → (ls : List Bytes) → writtenOf o ls ≡ writeLines ls
+is-whole (Whole n) e ls = refl
+is-whole TooLong e ls = absurd (false≢true e)
+is-whole (LineTooLong l s) e ls = absurd (false≢true e)
+is-whole NoRoom e ls = absurd (false≢true e)
 
 -- the code has the form's limits in hand
-module _ (form : Form) {given : CodeLimits} (g : limitsOf given ≡ limitsBy form) {v : Version} {h : Bytes} {es : List Entry} {none-out none-left : Bytes} {m : Progress}
-    (p : PutsForm (given .line) v h es none-out m none-left) where
-  abbrev lim : Limits
-  lim = limitsOf given
-
-  small : given .header < 2 ^ 24
+module _ (form : Form) {limits : CodeLimits} (g : limitsOf limits ≡ limitsBy form) {v : Version} {h : Bytes} {es : List Entry} {given none-out none-left : Bytes} {m : Progress}
+    (p : PutsForm (limits .line) v h es given none-out m none-left) where
+  small : limits .header < 2 ^ 24
   small = subst (λ (x : Limits). x .header < 2 ^ 24) (sym g) (limits-small form)
 
-  as-limits : {out : Bytes} {o : FormOutcome} {out′ : Bytes} → WritesForm lim v h es out o out′ → WritesForm (limitsBy form) v h es out o out′
-  as-limits {out} {o} {out′} w = subst (λ (x : Limits). WritesForm x v h es out o out′) g w
+  outcome-is : (room : ℕ) {o : FormOutcome} → o ≡ measuredAs (limitsOf limits) room m → AllReadable v h es → o ≡ outcomeOf (limitsBy form) room (formLines v h es)
+  outcome-is room e a = e ∙ measured-is (limitsOf limits) small p a room ∙ ap (λ (x : Limits). outcomeOf x room (formLines v h es)) g
 
-  pub form-long : {out : Bytes} → given .header < m .next → WritesForm (limitsBy form) v h es out TooLong out
-  form-long l = as-limits (too-long lim small p l)
+  module _ {out : Bytes} {o : FormOutcome} (e : o ≡ measuredAs (limitsOf limits) (length out) m) {q : Bool} (w : q ≡ isWhole o) where
+    pub form-refused : not q ≡ true → WritesForm (limitsBy form) v h es out o out
+    form-refused n = record { is = outcome-is (length out) e; output = λ a. rw (not-whole o (sym w ∙ not-true q n) (formLines v h es)) }
 
-  module _ (l : m .next ≤ given .header) where
-    pub form-line : {out : Bytes} → 0 < m .long → WritesForm (limitsBy form) v h es out (LineTooLong (m .long) (m .start)) out
-    form-line b = as-limits (line-long lim small p l b)
+    pub form-whole : not q ≡ false → {given′ : Bytes} {m′ : Progress} {new : Bytes} → PutsForm (limits .line) v h es given′ out m′ new → WritesForm (limitsBy form) v h es out o new
+    form-whole n p′ = record { is = outcome-is (length out) e; output = λ a. p′ .is a .text .output ∙ rw (is-whole o (sym w ∙ not-false q n) (formLines v h es)) }
+
+pub ruleset writes = (form-refused, form-whole)
+
+-- what answers the needs of `compare_form`
+pub form-compared : (form : Form) {limits : CodeLimits} → limitsOf limits ≡ limitsBy form → {v : Version} {h : Bytes} {es : List Entry} {none-out none-left : Bytes} {m : Progress}
+    → PutsForm (limits .line) v h es h none-out m none-left → {o : FormOutcome} → o ≡ measuredAs (limitsOf limits) (limits .header) m
+    → ComparesForm (limitsBy form) v h es (record { outcome = o; differs = m .next .differs })
+form-compared form {limits} g {v} {h} {es} p e = record {
+  is = λ a. outcome-is form g p (limits .header) e a ∙ ap (λ (x : Limits). outcomeOf (limitsBy form) (x .header) (formLines v h es)) g;
+  differs = λ a. p .is a .text .differs;
+}
+
+-- what answers the needs of `outcome_of`
+module _ (lim : Limits) (room : ℕ) (m : Progress) where
+  pub outcome-long : lim .header < m .next .at → TooLong ≡ measuredAs lim room m
+  unfolding measuredAs
+  outcome-long l = rw (measuredAs, lt-leb (m .next .at) (lim .header) l)
+
+  module _ (l : m .next .at ≤ lim .header) where
+    within : measuredAs lim room m ≡ linedAs room (m .next .at) (longIn m)
+    unfolding measuredAs
+    within = rw (measuredAs, le-leb (m .next .at) (lim .header) l)
+
+    pub outcome-line : 0 < m .long → LineTooLong (m .long) (m .start) ≡ measuredAs lim room m
+    outcome-line b = go (m .long) refl ∙ sym within
+      where
+        go : (k : ℕ) → m .long ≡ k → LineTooLong (m .long) (m .start) ≡ linedAs room (m .next .at) (longIn m)
+        go zero e = absurd (omega arith)
+        go (suc n) e = rw e
 
     module _ (b : m .long ≤ 0) where
-      pub form-room : {out : Bytes} → length out < m .next → WritesForm (limitsBy form) v h es out NoRoom out
-      form-room r = as-limits (no-room lim small p l b r)
+      no-line : longIn m ≡ none
+      no-line = let z : m .long ≡ 0 = omega arith in rw z
 
-      pub form-whole : {out : Bytes} → m .next ≤ length out → {m′ : Progress} {o : Bytes} → PutsForm (given .line) v h es out m′ o → WritesForm (limitsBy form) v h es out (Whole (m .next)) o
-      form-whole r q = as-limits (whole-form lim small p l b r q)
+      pub outcome-room : room < m .next .at → NoRoom ≡ measuredAs lim room m
+      outcome-room r = sym (within ∙ rw no-line (rw (linedAs, fittedAs, lt-leb (m .next .at) room r)))
 
-pub ruleset writes = (form-long, form-line, form-room, form-whole)
+      pub outcome-whole : m .next .at ≤ room → Whole (m .next .at) ≡ measuredAs lim room m
+      outcome-whole r = sym (within ∙ rw no-line (rw (linedAs, fittedAs, le-leb (m .next .at) room r)))
+
+pub ruleset outcomes = (outcome-long, outcome-line, outcome-room, outcome-whole)

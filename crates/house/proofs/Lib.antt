@@ -7,4 +7,6 @@ pub mod Arranged
 pub mod Answers
 pub mod Program
 pub mod Determined
+pub mod Verdicts
+pub mod IsHouse
 pub mod Exchange

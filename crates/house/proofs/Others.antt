@@ -83,22 +83,22 @@ pub ruleset firsts = (first-low, first-high, first-seen)
 
 -- The loop over the keys: the lines of those that appear before number k are written
 
-pub record Others (form : Form) (v : Version) (h : Bytes) (t : List ℕ) (old : Bytes) (s₀ : Progress) (new : Bytes) (s : Progress) (k : ℕ) : Type 0 where
+pub record Others (form : Form) (v : Version) (h : Bytes) (t : List ℕ) (given old : Bytes) (s₀ : Progress) (new : Bytes) (s : Progress) (k : ℕ) : Type 0 where
   pub lines : List Bytes
   pub whole : otherLines v h (entriesIn form t) [] (entriesIn form t) ≡ lines ++ otherLines v h (entriesIn form t) (take k (entriesIn form t)) (drop k (entriesIn form t))
-  pub wrote : WroteLines old s₀ lines s new
+  pub wrote : WroteLines given old s₀ lines s new
 
-pub record Othering (form : Form) (v : Version) (h : Bytes) (t : List ℕ) (old : Bytes) (s₀ : Progress) (new : Bytes) (s : Progress) (k : ℕ) : Type 0 where
+pub record Othering (form : Form) (v : Version) (h : Bytes) (t : List ℕ) (given old : Bytes) (s₀ : Progress) (new : Bytes) (s : Progress) (k : ℕ) : Type 0 where
   pub size : length new ≡ length old
-  pub is : AllReadable v h (entriesIn form t) → Others form v h t old s₀ new s k
+  pub is : AllReadable v h (entriesIn form t) → Others form v h t given old s₀ new s k
 
-pub other-start : (form : Form) (v : Version) (h : Bytes) (t : List ℕ) (old : Bytes) (s : Progress) → s .next ≤ last → s .lines ≤ last → length old ≤ last → Othering form v h t old s old s 0
-other-start form v h t old s a b d = record {
+pub other-start : (form : Form) (v : Version) (h : Bytes) (t : List ℕ) (given old : Bytes) (s : Progress) → s .next .at ≤ last → s .lines ≤ last → length old ≤ last → Othering form v h t given old s old s 0
+other-start form v h t given old s a b d = record {
   size = refl;
-  is = λ g. record { lines = []; whole = refl; wrote = wrote-no-lines old s a b d };
+  is = λ g. record { lines = []; whole = refl; wrote = wrote-no-lines given old s a b d };
 }
 
-module _ {form : Form} {v : Version} {h : Bytes} {t : List ℕ} {old : Bytes} {s₀ : Progress} {new : Bytes} {s : Progress} {k : ℕ} (g : Othering form v h t old s₀ new s k) {n : ℕ} (en : n ≡ room form t) where
+module _ {form : Form} {v : Version} {h : Bytes} {t : List ℕ} {given old : Bytes} {s₀ : Progress} {new : Bytes} {s : Progress} {k : ℕ} (g : Othering form v h t given old s₀ new s k) {n : ℕ} (en : n ≡ room form t) where
   abbrev es : List Entry
   es = entriesIn form t
 
@@ -113,7 +113,7 @@ module _ {form : Form} {v : Version} {h : Bytes} {t : List ℕ} {old : Bytes} {s
     unfolding otherLines
     turn = let more : take (k + 1) es ≡ take k es ++ entryOf e ∷ [] = take-add k 1 es ∙ rw here in rw (here, ← first, more)
 
-    pub other-first : q ≡ true → {p : Bytes} → p ≡ prefixIn h (entryOf e) → {r : Progress} {o : Bytes} → PutsKey v h es p new s r o → length o ≡ length new → Othering form v h t old s₀ o r (k + 1)
+    pub other-first : q ≡ true → {p : Bytes} → p ≡ prefixIn h (entryOf e) → {r : Progress} {o : Bytes} → PutsKey v h es p given new s r o → length o ≡ length new → Othering form v h t given old s₀ o r (k + 1)
     other-first f {p} i {r} {o} a m = record {
       size = m ∙ g .size;
       is = λ x.
@@ -126,18 +126,18 @@ module _ {form : Form} {v : Version} {h : Bytes} {t : List ℕ} {old : Bytes} {s
           };
     }
 
-    pub other-later : q ≡ false → Othering form v h t old s₀ new s (k + 1)
+    pub other-later : q ≡ false → Othering form v h t given old s₀ new s (k + 1)
     other-later f = record {
       size = g .size;
       is = λ x. let d = g .is x in record { lines = d .lines; whole = d .whole ∙ ap (d .lines ++_) (turn ∙ rw f); wrote = d .wrote };
     }
 
-  pub other-end : n ≤ k → PutsOthers v h es old s₀ s new
+  pub other-end : n ≤ k → PutsOthers v h es given old s₀ s new
   unfolding otherLines
   other-end l = record {
     is = λ x.
         let d = g .is x in
-        subst (λ (ls : List Bytes). WroteLines old s₀ ls s new) (sym (d .whole ∙ ap (d .lines ++_) (rw (entries-past form t k (rw (← en) l))) ∙ append-nil (d .lines))) (d .wrote);
+        subst (λ (ls : List Bytes). WroteLines given old s₀ ls s new) (sym (d .whole ∙ ap (d .lines ++_) (rw (entries-past form t k (rw (← en) l))) ∙ append-nil (d .lines))) (d .wrote);
   }
 
 pub ruleset others = (other-first, other-later, other-end)

@@ -53,23 +53,23 @@ module _ (v : Version) (h prefix : Bytes) (e : Entry) (es : List Entry) where
 
 -- The loop over the entries of a key: the lines of those before number k are written
 
-pub record Picks (form : Form) (v : Version) (h : Bytes) (t : List ℕ) (prefix old : Bytes) (s₀ : Progress) (new : Bytes) (s : Progress) (k : ℕ) : Type 0 where
+pub record Picks (form : Form) (v : Version) (h : Bytes) (t : List ℕ) (prefix given old : Bytes) (s₀ : Progress) (new : Bytes) (s : Progress) (k : ℕ) : Type 0 where
   pub before : List Bytes
   pub whole : picked v h prefix (entriesIn form t) ≡ before ++ picked v h prefix (drop k (entriesIn form t))
   pub ready : AllReadable v h (drop k (entriesIn form t))
-  pub wrote : WroteLines old s₀ before s new
+  pub wrote : WroteLines given old s₀ before s new
 
-pub record Picking (form : Form) (v : Version) (h : Bytes) (t : List ℕ) (prefix old : Bytes) (s₀ : Progress) (new : Bytes) (s : Progress) (k : ℕ) : Type 0 where
+pub record Picking (form : Form) (v : Version) (h : Bytes) (t : List ℕ) (prefix given old : Bytes) (s₀ : Progress) (new : Bytes) (s : Progress) (k : ℕ) : Type 0 where
   pub size : length new ≡ length old
-  pub is : AllReadable v h (entriesIn form t) → Picks form v h t prefix old s₀ new s k
+  pub is : AllReadable v h (entriesIn form t) → Picks form v h t prefix given old s₀ new s k
 
-pub pick-start : (form : Form) (v : Version) (h : Bytes) (t : List ℕ) (prefix old : Bytes) (s : Progress) → s .next ≤ last → s .lines ≤ last → length old ≤ last → Picking form v h t prefix old s old s 0
-pick-start form v h t prefix old s a b d = record {
+pub pick-start : (form : Form) (v : Version) (h : Bytes) (t : List ℕ) (prefix given old : Bytes) (s : Progress) → s .next .at ≤ last → s .lines ≤ last → length old ≤ last → Picking form v h t prefix given old s old s 0
+pick-start form v h t prefix given old s a b d = record {
   size = refl;
-  is = λ g. record { before = []; whole = refl; ready = g; wrote = wrote-no-lines old s a b d };
+  is = λ g. record { before = []; whole = refl; ready = g; wrote = wrote-no-lines given old s a b d };
 }
 
-module _ {form : Form} {v : Version} {h : Bytes} {t : List ℕ} {prefix old : Bytes} {s₀ : Progress} {new : Bytes} {s : Progress} {k : ℕ} (g : Picking form v h t prefix old s₀ new s k) {n : ℕ} (en : n ≡ room form t) where
+module _ {form : Form} {v : Version} {h : Bytes} {t : List ℕ} {prefix given old : Bytes} {s₀ : Progress} {new : Bytes} {s : Progress} {k : ℕ} (g : Picking form v h t prefix given old s₀ new s k) {n : ℕ} (en : n ≡ room form t) where
   -- e is the entry that the code got
   module _ (l : k < n) {e : CodeEntry} (ee : entryOf e ≡ entryIn form t k) {q : Bool} (u : q ≡ isUnder h prefix (entryOf e)) where
     abbrev rest : List Entry
@@ -81,7 +81,7 @@ module _ {form : Form} {v : Version} {h : Bytes} {t : List ℕ} {prefix old : By
     ready-here : AllReadable v h (drop k (entriesIn form t)) → (isRecord (entryOf e) ≡ true → Readable v (lineIn h (entryOf e))) × AllReadable v h rest
     ready-here a = subst (AllReadable v h) here a
 
-    pub pick-more : q ≡ true → {r : Progress} {o : Bytes} → PutsEntry v (lineIn h (entryOf e)) new s r o → length o ≡ length new → Picking form v h t prefix old s₀ o r (k + 1)
+    pub pick-more : q ≡ true → {r : Progress} {o : Bytes} → PutsEntry v (lineIn h (entryOf e)) given new s r o → length o ≡ length new → Picking form v h t prefix given old s₀ o r (k + 1)
     unfolding isUnder
     pick-more f {r} {o} p m = record {
       size = m ∙ g .size;
@@ -98,7 +98,7 @@ module _ {form : Form} {v : Version} {h : Bytes} {t : List ℕ} {prefix old : By
           };
     }
 
-    pub pick-other : q ≡ false → Picking form v h t prefix old s₀ new s (k + 1)
+    pub pick-other : q ≡ false → Picking form v h t prefix given old s₀ new s (k + 1)
     pick-other f = record {
       size = g .size;
       is = λ a.
@@ -111,32 +111,32 @@ module _ {form : Form} {v : Version} {h : Bytes} {t : List ℕ} {prefix old : By
           };
     }
 
-  pub pick-end : n ≤ k → PutsKey v h (entriesIn form t) prefix old s₀ s new
+  pub pick-end : n ≤ k → PutsKey v h (entriesIn form t) prefix given old s₀ s new
   unfolding picked
   pick-end l = record {
     is = λ a.
         let d = g .is a in
-        subst (λ (ls : List Bytes). WroteLines old s₀ ls s new) (sym (d .whole ∙ ap (d .before ++_) (rw (entries-past form t k (rw (← en) l))) ∙ append-nil (d .before))) (d .wrote);
+        subst (λ (ls : List Bytes). WroteLines given old s₀ ls s new) (sym (d .whole ∙ ap (d .before ++_) (rw (entries-past form t k (rw (← en) l))) ∙ append-nil (d .before))) (d .wrote);
   }
 
 pub ruleset picks = (pick-more, pick-other, pick-end)
 
 -- what answers the needs of `put_later_typed` and `put_typed`
-module _ {v : Version} {h : Bytes} {es : List Entry} where
-  one-key : {k old : Bytes} {s : Progress} {ks : List Bytes} {r : Progress} {o : Bytes} {r′ : Progress} {o′ : Bytes} → PutsKey v h es (prefixOf k) old s r o → PutsKeys v h es ks o r r′ o′ → PutsKeys v h es (k ∷ ks) old s r′ o′
+module _ {v : Version} {h : Bytes} {es : List Entry} {given : Bytes} where
+  one-key : {k old : Bytes} {s : Progress} {ks : List Bytes} {r : Progress} {o : Bytes} {r′ : Progress} {o′ : Bytes} → PutsKey v h es (prefixOf k) given old s r o → PutsKeys v h es ks given o r r′ o′ → PutsKeys v h es (k ∷ ks) given old s r′ o′
   unfolding linesUnder
   one-key p q = record { is = λ a. then-lines (p .is a) (q .is a) }
 
-  last-key : {k old : Bytes} {s r : Progress} {o : Bytes} → PutsKey v h es (prefixOf k) old s r o → PutsKeys v h es (k ∷ []) old s r o
+  last-key : {k old : Bytes} {s r : Progress} {o : Bytes} → PutsKey v h es (prefixOf k) given old s r o → PutsKeys v h es (k ∷ []) given old s r o
   unfolding linesUnder
-  last-key {k} {old} {s} {r} {o} p = record { is = λ a. subst (λ (ls : List Bytes). WroteLines old s ls r o) (sym (append-nil (picked v h (prefixOf k) es))) (p .is a) }
+  last-key {k} {old} {s} {r} {o} p = record { is = λ a. subst (λ (ls : List Bytes). WroteLines given old s ls r o) (sym (append-nil (picked v h (prefixOf k) es))) (p .is a) }
 
-  pub later-keys : {old : Bytes} {s r₁ : Progress} {o₁ : Bytes} → PutsKey v h es (prefixOf (ascii "FORMAT")) old s r₁ o₁
-      → {r₂ : Progress} {o₂ : Bytes} → PutsKey v h es (prefixOf (ascii "ALT")) o₁ r₁ r₂ o₂
-      → {r₃ : Progress} {o₃ : Bytes} → PutsKey v h es (prefixOf (ascii "contig")) o₂ r₂ r₃ o₃ → PutsKeys v h es laterKeys old s r₃ o₃
+  pub later-keys : {old : Bytes} {s r₁ : Progress} {o₁ : Bytes} → PutsKey v h es (prefixOf (ascii "FORMAT")) given old s r₁ o₁
+      → {r₂ : Progress} {o₂ : Bytes} → PutsKey v h es (prefixOf (ascii "ALT")) given o₁ r₁ r₂ o₂
+      → {r₃ : Progress} {o₃ : Bytes} → PutsKey v h es (prefixOf (ascii "contig")) given o₂ r₂ r₃ o₃ → PutsKeys v h es laterKeys given old s r₃ o₃
   later-keys a b c = one-key a (one-key b (last-key c))
 
-  pub typed-keys : {old : Bytes} {s r₁ : Progress} {o₁ : Bytes} → PutsKey v h es (prefixOf (ascii "INFO")) old s r₁ o₁
-      → {r₂ : Progress} {o₂ : Bytes} → PutsKey v h es (prefixOf (ascii "FILTER")) o₁ r₁ r₂ o₂
-      → {r₃ : Progress} {o₃ : Bytes} → PutsKeys v h es laterKeys o₂ r₂ r₃ o₃ → PutsKeys v h es typedKeys old s r₃ o₃
+  pub typed-keys : {old : Bytes} {s r₁ : Progress} {o₁ : Bytes} → PutsKey v h es (prefixOf (ascii "INFO")) given old s r₁ o₁
+      → {r₂ : Progress} {o₂ : Bytes} → PutsKey v h es (prefixOf (ascii "FILTER")) given o₁ r₁ r₂ o₂
+      → {r₃ : Progress} {o₃ : Bytes} → PutsKeys v h es laterKeys given o₂ r₂ r₃ o₃ → PutsKeys v h es typedKeys given old s r₃ o₃
   typed-keys a b c = one-key a (one-key b c)

@@ -34,7 +34,7 @@ use Rattle.house.specs.declared.form.HouseAnswer.{HouseAnswer}
 use Rattle.house.specs.Answers.{FormMeaning, HouseCall, IsAccepted, formWritten, meant, means}
 use Rattle.rules.specs.Claims.{SizedOption, Accepted, Fits}
 
-take-sets : (t₀ ws : List ℕ) (n : ℕ) → n ≡ length ws → length ws ≤ length t₀ → take n (sets t₀ 0 ws) ≡ ws
+pub take-sets : (t₀ ws : List ℕ) (n : ℕ) → n ≡ length ws → length ws ≤ length t₀ → take n (sets t₀ 0 ws) ≡ ws
 take-sets t₀ ws n e l = rw (e, sets-eq ws t₀ 0 (omega arith)) (take-append-seam ws (drop (0 + length ws) t₀))
 
 -- A form that was accepted
@@ -128,14 +128,14 @@ pub means-is : (lim : Limits) (imposed : Option Version) (room : ℕ) (h : Bytes
 means-is lim imposed room h a = rw (a .number, a .state)
 
 -- a header with a meaning was accepted
-record Meant (m : Meaning) (r : Reading) : Type 0 where
-  version : Version
-  records : List Record
-  columns : Columns
-  accepted : Accepted version records columns r
-  is : headerMeaning version records columns ≡ m
+pub record Meant (m : Meaning) (r : Reading) : Type 0 where
+  pub version : Version
+  pub records : List Record
+  pub columns : Columns
+  pub accepted : Accepted version records columns r
+  pub is : headerMeaning version records columns ≡ m
 
-was-meant : (r : Reading) {m : Meaning} → meant (r .number) (r .state) ≡ some m → Meant m r
+pub was-meant : (r : Reading) {m : Meaning} → meant (r .number) (r .state) ≡ some m → Meant m r
 was-meant r {m} e = go (r .number) refl (r .state) refl e
   where
     go : (n : ℕ) → r .number ≡ n → (s : State) → r .state ≡ s → meant n s ≡ some m → Meant m r
@@ -144,7 +144,7 @@ was-meant r {m} e = go (r .number) refl (r .state) refl e
     go zero z (done v rs c) q e = record { version = v; records = rs; columns = c; accepted = record { number = z; state = q }; is = some-is e }
     go (suc n) z s q e = none-not e
 
-is-accepted : (o : Outcome) → outcomeNumber o ≡ 0 → (f : FileFormat) × (n : ℕ) × (o ≡ outcome.Accepted f n)
+pub is-accepted : (o : Outcome) → outcomeNumber o ≡ 0 → (f : FileFormat) × (n : ℕ) × (o ≡ outcome.Accepted f n)
 is-accepted (outcome.Accepted f n) e = (f, n, refl)
 is-accepted (outcome.Refused x) e = let n = number-suc x in absurd (omega (arith, n .1, e))
 

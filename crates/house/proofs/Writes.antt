@@ -10,11 +10,12 @@ use lib.ListN.{length, length-append}
 use borrow.Author.Tests.{eq-eqb, ne-eqb, lt-ltb, le-ltb, leb-true, leb-false}
 use Rattle.values.specs.Bytes.{Bytes, ascii, is, any}
 use Rattle.values.specs.Integer.{decimal}
-use Rattle.values.specs.Written.{last, onward, Wrote}
+use Rattle.values.specs.Written.{last, onward, Puts}
+use Rattle.values.specs.declared.sink.Sink.{Sink}
 use Rattle.values.proofs.Tests.{pass, fail, test, and-off}
 use Rattle.values.proofs.Lists.{any-append}
 use Rattle.values.proofs.Decimals.{decimal-lacks}
-use Rattle.values.proofs.Outputs.{wrote-nothing, then}
+use Rattle.values.proofs.Outputs.{puts-nothing, then}
 use Rattle.rules.specs.Version.{Version, writeVersion}
 use Rattle.rules.specs.Lines.{ends, writeLine, writeLines}
 use Rattle.rules.specs.Record.{fileformat, readRecord}
@@ -38,8 +39,8 @@ count-full n h l = omega arith
 pub ruleset counts = (count-more, count-full)
 
 -- what answers the needs of `note_line`
-module _ (s : Progress) (end next : ℕ) where
-  is-noted : isLong s end ≡ true → record { limit = s .limit; next = next; lines = onward (s .lines) 1; long = onward (s .lines) 1; start = s .next } ≡ noted s end next
+module _ (s : Progress) (end : ℕ) (next : Sink) where
+  is-noted : isLong s end ≡ true → record { limit = s .limit; next = next; lines = onward (s .lines) 1; long = onward (s .lines) 1; start = s .next .at } ≡ noted s end next
   unfolding noted
   is-noted e = rw (noted, e)
 
@@ -48,14 +49,14 @@ module _ (s : Progress) (end next : ℕ) where
   not-noted e = rw (noted, e)
 
   module _ {n : ℕ} (c : n ≡ onward (s .lines) 1) where
-    pub note-long : s .long ≡ 0 → s .next ≤ end → s .limit < end - s .next → _≡_ {A = Progress} (record { limit = s .limit; next = next; lines = n; long = n; start = s .next }) (noted s end next)
-    note-long a b d = rw c (is-noted (rw (eq-eqb (s .long) 0 a) (lt-ltb (s .limit) (end - s .next) d)))
+    pub note-long : s .long ≡ 0 → s .next .at ≤ end → s .limit < end - s .next .at → _≡_ {A = Progress} (record { limit = s .limit; next = next; lines = n; long = n; start = s .next .at }) (noted s end next)
+    note-long a b d = rw c (is-noted (rw (eq-eqb (s .long) 0 a) (lt-ltb (s .limit) (end - s .next .at) d)))
 
-    pub note-short : s .long ≡ 0 → s .next ≤ end → end - s .next ≤ s .limit → _≡_ {A = Progress} (record { limit = s .limit; next = next; lines = n; long = s .long; start = s .start }) (noted s end next)
-    note-short a b d = rw c (not-noted (and-off (eqb (s .long) 0) (le-ltb (s .limit) (end - s .next) d)))
+    pub note-short : s .long ≡ 0 → s .next .at ≤ end → end - s .next .at ≤ s .limit → _≡_ {A = Progress} (record { limit = s .limit; next = next; lines = n; long = s .long; start = s .start }) (noted s end next)
+    note-short a b d = rw c (not-noted (and-off (eqb (s .long) 0) (le-ltb (s .limit) (end - s .next .at) d)))
 
-    pub note-back : s .long ≡ 0 → end < s .next → _≡_ {A = Progress} (record { limit = s .limit; next = next; lines = n; long = s .long; start = s .start }) (noted s end next)
-    note-back a d = rw c (not-noted (and-off (eqb (s .long) 0) (le-ltb (s .limit) (end - s .next) (omega arith))))
+    pub note-back : s .long ≡ 0 → end < s .next .at → _≡_ {A = Progress} (record { limit = s .limit; next = next; lines = n; long = s .long; start = s .start }) (noted s end next)
+    note-back a d = rw c (not-noted (and-off (eqb (s .long) 0) (le-ltb (s .limit) (end - s .next .at) (omega arith))))
 
     pub note-later : (s .long ≡ 0 → ⊥) → _≡_ {A = Progress} (record { limit = s .limit; next = next; lines = n; long = s .long; start = s .start }) (noted s end next)
     note-later a = rw c (not-noted (rw (ne-eqb (s .long) 0 a)))
@@ -97,29 +98,29 @@ lines-count (l ∷ ls) = rw (length-append (writeLine l) (writeLines ls)) (omega
 
 -- Lines after lines
 
-pub wrote-no-lines : (out : Bytes) (s : Progress) → s .next ≤ last → s .lines ≤ last → length out ≤ last → WroteLines out s [] s out
+pub wrote-no-lines : (given out : Bytes) (s : Progress) → s .next .at ≤ last → s .lines ≤ last → length out ≤ last → WroteLines given out s [] s out
 unfolding writeLines tooLong onward orElse
-wrote-no-lines out s a b d = record { limit = refl; text = wrote-nothing out (s .next) a d; count = omega arith; long = λ x y. none-else (longIn s) }
+wrote-no-lines given out s a b d = record { limit = refl; text = puts-nothing given out (s .next) a d; count = omega arith; long = λ x y. none-else (longIn s) }
   where
     none-else : (x : Option (ℕ × ℕ)) → x ≡ orElse x none
     none-else none = refl
     none-else (some p) = refl
 
-pub then-lines : {out : Bytes} {s : Progress} {ls : List Bytes} {r : Progress} {o : Bytes} {ms : List Bytes} {r′ : Progress} {o′ : Bytes}
-    → WroteLines out s ls r o → WroteLines o r ms r′ o′ → WroteLines out s (ls ++ ms) r′ o′
+pub then-lines : {given out : Bytes} {s : Progress} {ls : List Bytes} {r : Progress} {o : Bytes} {ms : List Bytes} {r′ : Progress} {o′ : Bytes}
+    → WroteLines given out s ls r o → WroteLines given o r ms r′ o′ → WroteLines given out s (ls ++ ms) r′ o′
 unfolding onward orElse
-then-lines {out} {s} {ls} {r} {o} {ms} {r′} {o′} p q = record {
+then-lines {given} {out} {s} {ls} {r} {o} {ms} {r′} {o′} p q = record {
   limit = q .limit ∙ p .limit;
-  text = subst (λ (t : Bytes). Wrote out (s .next) t (r′ .next) o′) (sym (lines-append ls ms)) (then (p .text) (q .text));
+  text = subst (λ (t : Bytes). Puts given out (s .next) t (r′ .next) o′) (sym (lines-append ls ms)) (then (p .text) (q .text));
   count = q .count ∙ rw (p .count, length-append ls ms) (omega arith);
   long = λ x y.
       let a = ap length (lines-append ls ms) ∙ length-append (writeLines ls) (writeLines ms) in
       let b = length-append ls ms in
-      let at : r .next ≡ s .next + length (writeLines ls) = p .text .place ∙ omega (arith, a) in
+      let at : r .next .at ≡ s .next .at + length (writeLines ls) = p .text .place ∙ omega (arith, a) in
       let n : r .lines ≡ s .lines + length ls = p .count ∙ omega (arith, b) in
       q .long (omega (arith, at, a)) (omega (arith, n, b))
-      ∙ rw (p .long (omega (arith, a)) (omega (arith, b)), p .limit, at, n, too-long-append (s .limit) (s .lines) (s .next) ls ms)
-      (else-assoc (longIn s) (tooLong (s .limit) (s .lines) (s .next) ls) (tooLong (s .limit) (s .lines + length ls) (s .next + length (writeLines ls)) ms));
+      ∙ rw (p .long (omega (arith, a)) (omega (arith, b)), p .limit, at, n, too-long-append (s .limit) (s .lines) (s .next .at) ls ms)
+      (else-assoc (longIn s) (tooLong (s .limit) (s .lines) (s .next .at) ls) (tooLong (s .limit) (s .lines + length ls) (s .next .at + length (writeLines ls)) ms));
 }
   where
     else-assoc : (x y z : Option (ℕ × ℕ)) → orElse (orElse x y) z ≡ orElse x (orElse y z)
@@ -128,7 +129,7 @@ then-lines {out} {s} {ls} {r} {o} {ms} {r′} {o′} p q = record {
 
 -- One line
 
-module _ (s : Progress) (end next : ℕ) where
+module _ (s : Progress) (end : ℕ) (next : Sink) where
   noted-next : noted s end next .next ≡ next
   unfolding noted
   noted-next = elim (test (isLong s end)) [ pass e ↦ rw (noted, e) | fail e ↦ rw (noted, e) ]
@@ -147,21 +148,21 @@ module _ (s : Progress) (end next : ℕ) where
   long-before {n} e = rw (noted, e, ne-eqb (suc n) 0 (λ z. omega arith)) (rw e)
 
   module _ (none-yet : s .long ≡ 0) where
-    long-now : s .limit < end - s .next → s .lines + 1 ≤ last → longIn (noted s end next) ≡ some (suc (s .lines), s .next)
+    long-now : s .limit < end - s .next .at → s .lines + 1 ≤ last → longIn (noted s end next) ≡ some (suc (s .lines), s .next .at)
     unfolding noted onward
     long-now h l =
         let n : min (s .lines + 1) last ≡ suc (s .lines) = omega arith in
-        rw (noted, none-yet, lt-ltb (s .limit) (end - s .next) h, n)
+        rw (noted, none-yet, lt-ltb (s .limit) (end - s .next .at) h, n)
 
-    short-now : end - s .next ≤ s .limit → longIn (noted s end next) ≡ none
+    short-now : end - s .next .at ≤ s .limit → longIn (noted s end next) ≡ none
     unfolding noted
-    short-now h = rw (noted, none-yet, le-ltb (s .limit) (end - s .next) h) (rw none-yet)
+    short-now h = rw (noted, none-yet, le-ltb (s .limit) (end - s .next .at) h) (rw none-yet)
 
-  noted-long : (l : Bytes) → end - s .next ≡ length l → s .lines + 1 ≤ last → longIn (noted s end next) ≡ orElse (longIn s) (tooLong (s .limit) (s .lines) (s .next) (l ∷ []))
+  noted-long : (l : Bytes) → end - s .next .at ≡ length l → s .lines + 1 ≤ last → longIn (noted s end next) ≡ orElse (longIn s) (tooLong (s .limit) (s .lines) (s .next .at) (l ∷ []))
   unfolding tooLong orElse
   noted-long l size h = go (s .long) refl
     where
-      go : (k : ℕ) → s .long ≡ k → longIn (noted s end next) ≡ orElse (longIn s) (tooLong (s .limit) (s .lines) (s .next) (l ∷ []))
+      go : (k : ℕ) → s .long ≡ k → longIn (noted s end next) ≡ orElse (longIn s) (tooLong (s .limit) (s .lines) (s .next .at) (l ∷ []))
       go (suc n) e = long-before e ∙ rw e
       go zero e = elim (test (leb (length l) (s .limit))) [
         | pass q ↦ short-now e (rw size (leb-true (length l) (s .limit) q)) ∙ rw (e, tooLong, q)
@@ -169,10 +170,10 @@ module _ (s : Progress) (end next : ℕ) where
       ]
 
 -- a line, and what is noted of it
-pub one-line : {out : Bytes} {s : Progress} (l : Bytes) {end next : ℕ} {o : Bytes} → end ≡ onward (s .next) (length l) → Wrote out (s .next) (writeLine l) next o
-    → {r : Progress} → r ≡ noted s end next → WroteLines out s (l ∷ []) r o
+pub one-line : {given out : Bytes} {s : Progress} (l : Bytes) {end : ℕ} {next : Sink} {o : Bytes} → end ≡ onward (s .next .at) (length l) → Puts given out (s .next) (writeLine l) next o
+    → {r : Progress} → r ≡ noted s end next → WroteLines given out s (l ∷ []) r o
 unfolding writeLines onward
-one-line {out} {s} l {end} {next} {o} place w {r} e = record {
+one-line {given} {out} {s} l {end} {next} {o} place w {r} e = record {
   limit = ap (λ (x : Progress). x .limit) e ∙ noted-limit s end next;
   text = rw (e, noted-next s end next, append-nil (writeLine l)) w;
   count = ap (λ (x : Progress). x .lines) e ∙ noted-lines s end next;
@@ -182,17 +183,17 @@ one-line {out} {s} l {end} {next} {o} place w {r} e = record {
 }
 
 -- what answers the needs of `put_entry`
-pub entry-line : (v : Version) (s : Progress) {p l : Bytes} → p ≡ l → {out : Bytes} {put : LineWritten} {o : Bytes} → WroteEnded out (s .next) (houseLine v p) (ends 13 p) put o
-    → {r : Progress} → r ≡ noted s (put .end) (put .next) → PutsEntry v l out s r o
-entry-line v s {p} {l} e {out} {put} {o} w {r} n = record {
+pub entry-line : (v : Version) (s : Progress) {p l : Bytes} → p ≡ l → {given out : Bytes} {put : LineWritten} {o : Bytes} → WroteEnded given out (s .next) (houseLine v p) (ends 13 p) put o
+    → {r : Progress} → r ≡ noted s (put .end) (put .next) → PutsEntry v l given out s r o
+entry-line v s {p} {l} e {given} {out} {put} {o} w {r} n = record {
   is = λ x.
       let d = entry-ended v p (x .line) (ap (readRecord v) e ∙ x .read) (x .entry) w in
       rw (entry-is v l (x .line) (x .read) (x .entry)) (one-line (recordLine v (x .line)) (d .0) (d .1) n);
 }
 
 -- what answers the needs of `put_plain`
-pub plain-line : {out : Bytes} {s : Progress} (l : Bytes) {end : ℕ} {o : Bytes} → Wrote out (s .next) l end o → {cr : Bool} → cr ≡ ends 13 l
-    → {next : ℕ} {o′ : Bytes} → Wrote o end (ending cr) next o′ → {r : Progress} → r ≡ noted s end next → WroteLines out s (l ∷ []) r o′
+pub plain-line : {given out : Bytes} {s : Progress} (l : Bytes) {end : Sink} {o : Bytes} → Puts given out (s .next) l end o → {cr : Bool} → cr ≡ ends 13 l
+    → {next : Sink} {o′ : Bytes} → Puts given o end (ending cr) next o′ → {r : Progress} → r ≡ noted s (end .at) next → WroteLines given out s (l ∷ []) r o′
 plain-line l w e w′ n = one-line l (w .place) (line-ended l e w w′) n
 
 -- a version's line ends in a digit
@@ -202,13 +203,13 @@ version-ends v = sym (no-end 13 (writeRecord (fileformat v))
     (any-append (is 13) (decimal (v .major)) (46 ∷ decimal (v .minor)) ∙ rw (decimal-lacks 13 (v .major) refl) (decimal-lacks 13 (v .minor) refl)))
 
 -- what answers the needs of `put_format`
-pub format-put : (v : Version) {out : Bytes} {at a : ℕ} {o₁ : Bytes} → Wrote out at (ascii "##fileformat=VCFv") a o₁
-    → {b : ℕ} {o₂ : Bytes} → Wrote o₁ a (decimal (v .major)) b o₂ → {c : ℕ} {o₃ : Bytes} → Wrote o₂ b (46 ∷ []) c o₃
-    → {end : ℕ} {o₄ : Bytes} → Wrote o₃ c (decimal (v .minor)) end o₄ → Wrote out at (writeRecord (fileformat v)) end o₄
+pub format-put : (v : Version) {given out : Bytes} {at a : Sink} {o₁ : Bytes} → Puts given out at (ascii "##fileformat=VCFv") a o₁
+    → {b : Sink} {o₂ : Bytes} → Puts given o₁ a (decimal (v .major)) b o₂ → {c : Sink} {o₃ : Bytes} → Puts given o₂ b (46 ∷ []) c o₃
+    → {end : Sink} {o₄ : Bytes} → Puts given o₃ c (decimal (v .minor)) end o₄ → Puts given out at (writeRecord (fileformat v)) end o₄
 unfolding writeRecord writeVersion
 format-put v w₁ w₂ w₃ w₄ = then w₁ (then w₂ (then w₃ w₄))
 
 -- what answers the needs of `put_version`
-pub version-line : (v : Version) {out : Bytes} {s : Progress} {end : ℕ} {o : Bytes} → Wrote out (s .next) (writeRecord (fileformat v)) end o
-    → {next : ℕ} {o′ : Bytes} → Wrote o end (ending false) next o′ → {r : Progress} → r ≡ noted s end next → WroteLines out s (writeRecord (fileformat v) ∷ []) r o′
+pub version-line : (v : Version) {given out : Bytes} {s : Progress} {end : Sink} {o : Bytes} → Puts given out (s .next) (writeRecord (fileformat v)) end o
+    → {next : Sink} {o′ : Bytes} → Puts given o end (ending false) next o′ → {r : Progress} → r ≡ noted s (end .at) next → WroteLines given out s (writeRecord (fileformat v) ∷ []) r o′
 version-line v w w′ n = plain-line (writeRecord (fileformat v)) w (version-ends v) w′ n

@@ -8,6 +8,7 @@ use lib.Dec.{eqb, leb}
 use lib.ListN.{length}
 use lib.Seq.{sets}
 use Rattle.values.specs.Bytes.{Bytes}
+use Rattle.values.specs.Written.{last, differing, sooner}
 use Rattle.rules.specs.Sizes.{Limits}
 use Rattle.rules.specs.Lines.{writeLines}
 use Rattle.rules.specs.Version.{Version}
@@ -17,9 +18,10 @@ use Rattle.rules.specs.Entry.{Entry, columnsKind}
 use Rattle.rules.specs.Shown.{lineIn}
 use Rattle.rules.specs.House.{writeRecord, tooLong}
 use Rattle.house.specs.declared.progress.Progress.{Progress}
+use Rattle.house.specs.declared.form.Compared.{Compared}
 use Rattle.house.specs.declared.form.FormOutcome.{FormOutcome}
 use Rattle.house.specs.declared.form.FormOutcome.the-variants.{Whole, TooLong, LineTooLong, NoRoom}
-use Rattle.house.specs.Writes.{WroteLines}
+use Rattle.house.specs.Writes.{longIn, WroteLines}
 use Rattle.house.specs.Keys.{AllReadable, linesUnder, otherLines}
 
 abbrev pub lineOr : Bool → Bytes → Bytes → Bytes
@@ -37,15 +39,15 @@ recordLines v h es = linesUnder v h es typedKeys ++ otherLines v h es [] es
 unfoldable pub formLines : Version → Bytes → List Entry → List Bytes
 formLines v h es = writeRecord (fileformat v) ∷ (recordLines v h es ++ columnLine h es ∷ [])
 
--- nothing is written yet; how long a line may be
+-- nothing is written yet, and no difference was met; how long a line may be
 abbrev pub begun : ℕ → Progress
-begun limit = record { limit = limit; next = 0; lines = 0; long = 0; start = 0 }
+begun limit = record { limit = limit; next = record { at = 0; differs = last }; lines = 0; long = 0; start = 0 }
 
-pub record PutsRecords (v : Version) (h : Bytes) (es : List Entry) (old : Bytes) (s r : Progress) (new : Bytes) : Type 0 where
-  pub is : AllReadable v h es → WroteLines old s (recordLines v h es) r new
+pub record PutsRecords (v : Version) (h : Bytes) (es : List Entry) (given old : Bytes) (s r : Progress) (new : Bytes) : Type 0 where
+  pub is : AllReadable v h es → WroteLines given old s (recordLines v h es) r new
 
-pub record PutsForm (limit : ℕ) (v : Version) (h : Bytes) (es : List Entry) (old : Bytes) (r : Progress) (new : Bytes) : Type 0 where
-  pub is : AllReadable v h es → WroteLines old (begun limit) (formLines v h es) r new
+pub record PutsForm (limit : ℕ) (v : Version) (h : Bytes) (es : List Entry) (given old : Bytes) (r : Progress) (new : Bytes) : Type 0 where
+  pub is : AllReadable v h es → WroteLines given old (begun limit) (formLines v h es) r new
 
 abbrev pub fittedAs : ℕ → ℕ → FormOutcome
 fittedAs room size = elim (leb size room) [ true ↦ Whole size | false ↦ NoRoom ]
@@ -54,12 +56,22 @@ abbrev pub linedAs : ℕ → ℕ → Option (ℕ × ℕ) → FormOutcome
 linedAs room size none = fittedAs room size
 linedAs room size (some p) = LineTooLong (p .0) (p .1)
 
+-- what becomes of a form whose writing told this
+unfoldable pub measuredAs : Limits → ℕ → Progress → FormOutcome
+measuredAs lim room m = elim (leb (m .next .at) (lim .header)) [ true ↦ linedAs room (m .next .at) (longIn m) | false ↦ TooLong ]
+
 -- what becomes of these lines, where the output has `room` bytes
 unfoldable pub outcomeOf : Limits → ℕ → List Bytes → FormOutcome
 outcomeOf lim room ls = elim (leb (length (writeLines ls)) (lim .header)) [
   | true ↦ linedAs room (length (writeLines ls)) (tooLong (lim .line) 0 0 ls)
   | false ↦ TooLong
 ]
+
+abbrev pub isWhole : FormOutcome → Bool
+isWhole (Whole n) = true
+isWhole TooLong = false
+isWhole (LineTooLong l s) = false
+isWhole NoRoom = false
 
 -- the bytes that are written
 abbrev pub writtenOf : FormOutcome → List Bytes → Bytes
@@ -71,3 +83,8 @@ writtenOf NoRoom ls = []
 pub record WritesForm (lim : Limits) (v : Version) (h : Bytes) (es : List Entry) (old : Bytes) (r : FormOutcome) (new : Bytes) : Type 0 where
   pub is : AllReadable v h es → r ≡ outcomeOf lim (length old) (formLines v h es)
   pub output : AllReadable v h es → new ≡ sets old 0 (writtenOf r (formLines v h es))
+
+-- the form was held against the header, the header limit being room enough for it
+pub record ComparesForm (lim : Limits) (v : Version) (h : Bytes) (es : List Entry) (r : Compared) : Type 0 where
+  pub is : AllReadable v h es → r .outcome ≡ outcomeOf lim (lim .header) (formLines v h es)
+  pub differs : AllReadable v h es → r .differs ≡ sooner last (differing h 0 (writeLines (formLines v h es)))

@@ -37,8 +37,8 @@ abbrev pub AllReadable : Version → Bytes → List Entry → Type 0
 AllReadable v h [] = Unit {0}
 AllReadable v h (e ∷ es) = (isRecord e ≡ true → Readable v (lineIn h e)) × AllReadable v h es
 
-pub record PutsKey (v : Version) (h : Bytes) (es : List Entry) (prefix old : Bytes) (s r : Progress) (new : Bytes) : Type 0 where
-  pub is : AllReadable v h es → WroteLines old s (picked v h prefix es) r new
+pub record PutsKey (v : Version) (h : Bytes) (es : List Entry) (prefix given old : Bytes) (s r : Progress) (new : Bytes) : Type 0 where
+  pub is : AllReadable v h es → WroteLines given old s (picked v h prefix es) r new
 
 -- the form's lines of all records under these keys, key by key
 unfoldable pub linesUnder : Version → Bytes → List Entry → List Bytes → List Bytes
@@ -49,8 +49,8 @@ linesUnder v h es (k ∷ ks) = picked v h (prefixOf k) es ++ linesUnder v h es k
 abbrev pub laterKeys : List Bytes
 laterKeys = ascii "FORMAT" ∷ ascii "ALT" ∷ ascii "contig" ∷ []
 
-pub record PutsKeys (v : Version) (h : Bytes) (es : List Entry) (ks : List Bytes) (old : Bytes) (s r : Progress) (new : Bytes) : Type 0 where
-  pub is : AllReadable v h es → WroteLines old s (linesUnder v h es ks) r new
+pub record PutsKeys (v : Version) (h : Bytes) (es : List Entry) (ks : List Bytes) (given old : Bytes) (s r : Progress) (new : Bytes) : Type 0 where
+  pub is : AllReadable v h es → WroteLines given old s (linesUnder v h es ks) r new
 
 -- the line of an entry through its first `=`
 unfoldable pub prefixIn : Bytes → Entry → Bytes
@@ -78,5 +78,5 @@ unfoldable pub otherLines : Version → Bytes → List Entry → List Entry → 
 otherLines v h all ahead [] = []
 otherLines v h all ahead (e ∷ es) = linesIf (isFirst h ahead e) (picked v h (prefixIn h e) all) ++ otherLines v h all (ahead ++ e ∷ []) es
 
-pub record PutsOthers (v : Version) (h : Bytes) (es : List Entry) (old : Bytes) (s r : Progress) (new : Bytes) : Type 0 where
-  pub is : AllReadable v h es → WroteLines old s (otherLines v h es [] es) r new
+pub record PutsOthers (v : Version) (h : Bytes) (es : List Entry) (given old : Bytes) (s r : Progress) (new : Bytes) : Type 0 where
+  pub is : AllReadable v h es → WroteLines given old s (otherLines v h es [] es) r new

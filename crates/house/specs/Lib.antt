@@ -2,3 +2,6 @@ pub mod Writes
 pub mod Keys
 pub mod Forms
 pub mod Answers
+pub mod IsHouse
+pub mod Verdicts
+pub mod Examples

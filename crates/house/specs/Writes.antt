@@ -7,7 +7,8 @@ use mathlib.Core.Option.{Option, none, some, orElse}
 use lib.Dec.{eqb, ltb}
 use lib.ListN.{length}
 use Rattle.values.specs.Bytes.{Bytes}
-use Rattle.values.specs.Written.{last, onward, Wrote}
+use Rattle.values.specs.Written.{last, onward, Puts}
+use Rattle.values.specs.declared.sink.Sink.{Sink}
 use Rattle.rules.specs.Answer.{ok}
 use Rattle.rules.specs.Version.{Version}
 use Rattle.rules.specs.Lines.{writeLines}
@@ -22,21 +23,21 @@ longIn s = elim (s .long) [ zero ↦ none | suc n ↦ some (suc n, s .start) ]
 
 -- a line that ends at `end` is the first that is too long
 abbrev pub isLong : Progress → ℕ → Bool
-isLong s end = eqb (s .long) 0 && ltb (s .limit) (end - s .next)
+isLong s end = eqb (s .long) 0 && ltb (s .limit) (end - s .next .at)
 
--- one line more, whose text ends at `end` and whose ending at `next`
-unfoldable pub noted : Progress → ℕ → ℕ → Progress
+-- one line more, whose text ends at `end`; `next` stands after its ending
+unfoldable pub noted : Progress → ℕ → Sink → Progress
 noted s end next = elim (isLong s end) [
-  | true ↦ record { limit = s .limit; next = next; lines = onward (s .lines) 1; long = onward (s .lines) 1; start = s .next }
+  | true ↦ record { limit = s .limit; next = next; lines = onward (s .lines) 1; long = onward (s .lines) 1; start = s .next .at }
   | false ↦ record { limit = s .limit; next = next; lines = onward (s .lines) 1; long = s .long; start = s .start }
 ]
 
 -- these lines were written; where no number was too large, the first that is too long is that of the rules
-pub record WroteLines (old : Bytes) (s : Progress) (ls : List Bytes) (r : Progress) (new : Bytes) : Type 0 where
+pub record WroteLines (given old : Bytes) (s : Progress) (ls : List Bytes) (r : Progress) (new : Bytes) : Type 0 where
   pub limit : r .limit ≡ s .limit
-  pub text : Wrote old (s .next) (writeLines ls) (r .next) new
+  pub text : Puts given old (s .next) (writeLines ls) (r .next) new
   pub count : r .lines ≡ onward (s .lines) (length ls)
-  pub long : s .next + length (writeLines ls) ≤ last → s .lines + length ls ≤ last → longIn r ≡ orElse (longIn s) (tooLong (s .limit) (s .lines) (s .next) ls)
+  pub long : s .next .at + length (writeLines ls) ≤ last → s .lines + length ls ≤ last → longIn r ≡ orElse (longIn s) (tooLong (s .limit) (s .lines) (s .next .at) ls)
 
 -- a line that is read as a map or a text
 pub record Readable (v : Version) (l : Bytes) : Type 0 where
@@ -44,5 +45,5 @@ pub record Readable (v : Version) (l : Bytes) : Type 0 where
   pub read : readRecord v l ≡ ok line
   pub entry : IsEntry line
 
-pub record PutsEntry (v : Version) (l old : Bytes) (s r : Progress) (new : Bytes) : Type 0 where
-  pub is : Readable v l → WroteLines old s (houseLine v l ∷ []) r new
+pub record PutsEntry (v : Version) (l given old : Bytes) (s r : Progress) (new : Bytes) : Type 0 where
+  pub is : Readable v l → WroteLines given old s (houseLine v l ∷ []) r new

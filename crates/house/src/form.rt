@@ -1,9 +1,11 @@
-// The house form of a header: measured first, then written if it may stand and fits.
+// The house form of a header: measured first, then written if it may stand and fits; and whether a header is in house form, told by
+// the measuring alone, which holds the form against the header.
 use crate::keys;
 use crate::progress;
 use crate::progress::Progress;
 use entries::form::Form;
 use entries::kind;
+use entries::limits::Limits;
 use entries::part;
 use entries::table;
 use header::file_format_option::FileFormatOption;
@@ -12,15 +14,17 @@ use header::parser::Outcome;
 use header::parser::ReadAnswer;
 use records::file_format::FileFormat;
 use records::refusal::Refusal;
+use values::sink::Sink;
 ghost use mathlib.Core.Path.{_≡_};
 ghost use lib.ListN.{length};
 ghost use Rattle.rules.specs.House.{house};
 ghost use Rattle.records.specs.Formats.{versionOf};
-ghost use Rattle.entries.specs.Values.{limitsBy};
+ghost use Rattle.entries.specs.Values.{limitsOf, limitsBy};
 ghost use Rattle.entries.specs.Tables.{entriesIn};
-ghost use Rattle.house.specs.Forms.{columnLine, PutsRecords, PutsForm, WritesForm};
+ghost use Rattle.house.specs.Forms.{columnLine, PutsRecords, PutsForm, isWhole, measuredAs, WritesForm, ComparesForm};
 ghost use Rattle.header.specs.Verdicts.{imposedOf};
 ghost use Rattle.house.specs.Answers.{refusedAnswer, formAnswered, AnswersForm, HouseCall};
+ghost use Rattle.house.specs.Verdicts.{toldAnswer, verdict, AnswersComparison, IsHouseCall};
 
 // The outcome, the line and its start, how many entries the table keeps, and the form's length, 0 if none was written.
 pub struct HouseAnswer {
@@ -31,12 +35,42 @@ pub struct HouseAnswer {
     pub length: usize,
 }
 
+// The outcome, the line and its start, and how many entries the table keeps, as `house_form` gives them where the output is large enough;
+// whether the header is its house form, and if it is accepted and is not, the first place where the two differ, or the shorter one's length.
+pub struct IsHouseAnswer {
+    pub outcome: Outcome,
+    pub line: usize,
+    pub start: usize,
+    pub entries: usize,
+    pub holds: bool,
+    pub differs: usize,
+}
+
 // What came of a form: its length; or it is too long, or a line of it, with the line's number and start, or it does not fit.
 enum FormOutcome {
     Whole(usize),
     TooLong,
     LineTooLong(usize, usize),
     NoRoom,
+}
+
+impl FormOutcome {
+    fn is_whole(self) -> bool
+        ensures { λ r. ⌜ r ≡ isWhole self ⌝ }
+    {
+        match self {
+            FormOutcome::Whole(_) => true,
+            FormOutcome::TooLong => false,
+            FormOutcome::LineTooLong(_, _) => false,
+            FormOutcome::NoRoom => false,
+        }
+    }
+}
+
+// What came of a form that was held against the header, and the first place where it is not the header: the largest number if it all is.
+struct Compared {
+    outcome: FormOutcome,
+    differs: usize,
 }
 
 // The column line, no bytes if there is none.
@@ -61,12 +95,13 @@ fn put_records(
     form: Form,
     version: FileFormat,
     out: &mut [u8],
+    given: &[u8],
     s: Progress,
 ) -> Progress
-    ensures { λ r. ⌜ PutsRecords (versionOf version) (now (h .entry)) (entriesIn form (now (kept .entry))) (now (out .entry)) s r (now (out .exit)) ⌝ }
+    ensures { λ r. ⌜ PutsRecords (versionOf version) (now (h .entry)) (entriesIn form (now (kept .entry))) (now (given .entry)) (now (out .entry)) s r (now (out .exit)) ⌝ }
 {
-    let typed = keys::put_typed(h, kept, form, version, out, s);
-    keys::put_others(h, kept, form, version, out, typed)
+    let typed = keys::put_typed(h, kept, form, version, out, given, s);
+    keys::put_others(h, kept, form, version, out, given, typed)
 }
 
 // All lines; `kept` are the header's entries.
@@ -77,19 +112,42 @@ fn put_form(
     version: FileFormat,
     limit: usize,
     out: &mut [u8],
+    given: &[u8],
 ) -> Progress
-    ensures { λ r. ⌜ PutsForm limit (versionOf version) (now (h .entry)) (entriesIn form (now (kept .entry))) (now (out .entry)) r (now (out .exit)) ⌝ }
+    ensures { λ r. ⌜ PutsForm limit (versionOf version) (now (h .entry)) (entriesIn form (now (kept .entry))) (now (given .entry)) (now (out .entry)) r (now (out .exit)) ⌝ }
 {
     let begun = Progress {
         limit,
-        next: 0,
+        next: Sink {
+            at: 0,
+            differs: 0xFFFF_FFFF_FFFF_FFFF,
+        },
         lines: 0,
         long: 0,
         start: 0,
     };
-    let formatted = progress::put_version(version, out, begun);
-    let recorded = put_records(h, kept, form, version, out, formatted);
-    progress::put_plain(column_line(h, kept, form), out, recorded)
+    let formatted = progress::put_version(version, out, given, begun);
+    let recorded = put_records(h, kept, form, version, out, given, formatted);
+    progress::put_plain(column_line(h, kept, form), out, given, recorded)
+}
+
+// What comes of a form that was measured, where `room` bytes are lent for it.
+fn outcome_of(measured: Progress, limits: Limits, room: usize) -> FormOutcome
+    ensures { λ r. ⌜ r ≡ measuredAs (limitsOf limits) room measured ⌝ }
+{
+    let end = measured.next;
+    let size = end.at;
+    let long = measured.long;
+    if limits.header < size {
+        return FormOutcome::TooLong;
+    }
+    if 0 < long {
+        return FormOutcome::LineTooLong(long, measured.start);
+    }
+    if room < size {
+        return FormOutcome::NoRoom;
+    }
+    FormOutcome::Whole(size)
 }
 
 // Nothing is written unless the whole form may stand and fits.
@@ -105,20 +163,28 @@ fn write_form(
 {
     let limits = form.limits();
     let mut nothing = [0u8; 0];
-    let measured = put_form(h, kept, form, version, limits.line, &mut nothing);
-    let size = measured.next;
-    let long = measured.long;
-    if limits.header < size {
-        return FormOutcome::TooLong;
+    let measured = put_form(h, kept, form, version, limits.line, &mut nothing, b"");
+    let outcome = outcome_of(measured, limits, out.len());
+    if !outcome.is_whole() {
+        return outcome;
     }
-    if 0 < long {
-        return FormOutcome::LineTooLong(long, measured.start);
+    put_form(h, kept, form, version, limits.line, out, b"");
+    outcome
+}
+
+// The form is held against the header, and written nowhere; the header limit is room enough for it.
+fn compare_form(h: &[u8], kept: &[u64], form: Form, version: FileFormat) -> Compared
+    ensures { λ r. ⌜ ComparesForm (limitsBy form) (versionOf version) (now (h .entry)) (entriesIn form (now (kept .entry))) r ⌝ }
+{
+    let limits = form.limits();
+    let mut nothing = [0u8; 0];
+    let measured = put_form(h, kept, form, version, limits.line, &mut nothing, h);
+    let outcome = outcome_of(measured, limits, limits.header);
+    let end = measured.next;
+    Compared {
+        outcome,
+        differs: end.differs,
     }
-    if out.len() < size {
-        return FormOutcome::NoRoom;
-    }
-    put_form(h, kept, form, version, limits.line, out);
-    FormOutcome::Whole(size)
 }
 
 fn refuse(x: Refusal, line: usize, start: usize, entries: usize) -> HouseAnswer
@@ -192,6 +258,79 @@ pub fn house_form(
                 read,
                 version,
                 out,
+            )
+        }
+    }
+}
+
+fn told(answered: HouseAnswer, holds: bool, differs: usize) -> IsHouseAnswer
+    ensures { λ r. ⌜ r ≡ toldAnswer answered holds differs ⌝ }
+{
+    let outcome = answered.outcome;
+    IsHouseAnswer {
+        outcome,
+        line: answered.line,
+        start: answered.start,
+        entries: answered.entries,
+        holds,
+        differs,
+    }
+}
+
+// The verdict on a header of `size` bytes; `differs` is the first place within the form where the two differ, if there is one.
+fn judge(answered: HouseAnswer, size: usize, differs: usize) -> IsHouseAnswer
+    ensures { λ r. ⌜ r ≡ verdict answered size differs ⌝ }
+{
+    let outcome = answered.outcome;
+    let length = answered.length;
+    let Outcome::Accepted(_, _) = outcome else {
+        return told(answered, false, 0);
+    };
+    if differs < length {
+        return told(answered, false, differs);
+    }
+    if length == size {
+        return told(answered, true, 0);
+    }
+    told(answered, false, length)
+}
+
+// The verdict on a header that was read and accepted; `kept` are its entries.
+fn judge_accepted(
+    h: &[u8],
+    kept: &[u64],
+    form: Form,
+    read: ReadAnswer,
+    version: FileFormat,
+) -> IsHouseAnswer
+    ensures { λ r. ⌜ AnswersComparison (limitsBy form) read version (now (h .entry)) (entriesIn form (now (kept .entry))) r ⌝ }
+{
+    let compared = compare_form(h, kept, form, version);
+    let written = compared.outcome;
+    judge(answer(read, written), h.len(), compared.differs)
+}
+
+// Reads a header into the table and says whether it is its own house form, and if not, where the two first differ.
+pub fn is_house(
+    header: &[u8],
+    imposed: FileFormatOption,
+    form: Form,
+    table: &mut [u64],
+) -> IsHouseAnswer
+    ensures { λ r. ⌜ IsHouseCall form (imposedOf imposed) (now (header .entry)) (now (table .entry)) r (now (table .exit)) ⌝ }
+{
+    let read = parser::read(header, imposed, form, table);
+    let entries = read.entries;
+    let outcome = read.outcome;
+    match outcome {
+        Outcome::Refused(x) => told(refuse(x, read.line, read.start, entries), false, 0),
+        Outcome::Accepted(version, _) => {
+            judge_accepted(
+                header,
+                table::kept(table, form, entries),
+                form,
+                read,
+                version,
             )
         }
     }

@@ -36,9 +36,10 @@ pub fn put_key(
     prefix: &[u8],
     version: FileFormat,
     out: &mut [u8],
+    given: &[u8],
     s: Progress,
 ) -> Progress
-    ensures { λ r. ⌜ PutsKey (versionOf version) (now (h .entry)) (entriesIn form (now (kept .entry))) (now (prefix .entry)) (now (out .entry)) s r
+    ensures { λ r. ⌜ PutsKey (versionOf version) (now (h .entry)) (entriesIn form (now (kept .entry))) (now (prefix .entry)) (now (given .entry)) (now (out .entry)) s r
         (now (out .exit)) ⌝ }
 {
     let mut progress = s;
@@ -47,7 +48,7 @@ pub fn put_key(
         let e = table::get(kept, form, k);
         k += 1;
         if is_under(h, e, prefix) {
-            progress = progress::put_entry(h, e, version, out, progress);
+            progress = progress::put_entry(h, e, version, out, given, progress);
         }
     }
     progress
@@ -60,13 +61,14 @@ fn put_later_typed(
     form: Form,
     version: FileFormat,
     out: &mut [u8],
+    given: &[u8],
     s: Progress,
 ) -> Progress
-    ensures { λ r. ⌜ PutsKeys (versionOf version) (now (h .entry)) (entriesIn form (now (kept .entry))) laterKeys (now (out .entry)) s r (now (out .exit)) ⌝ }
+    ensures { λ r. ⌜ PutsKeys (versionOf version) (now (h .entry)) (entriesIn form (now (kept .entry))) laterKeys (now (given .entry)) (now (out .entry)) s r (now (out .exit)) ⌝ }
 {
-    let format = put_key(h, kept, form, b"##FORMAT=", version, out, s);
-    let alt = put_key(h, kept, form, b"##ALT=", version, out, format);
-    put_key(h, kept, form, b"##contig=", version, out, alt)
+    let format = put_key(h, kept, form, b"##FORMAT=", version, out, given, s);
+    let alt = put_key(h, kept, form, b"##ALT=", version, out, given, format);
+    put_key(h, kept, form, b"##contig=", version, out, given, alt)
 }
 
 // The typed keys, in the form's order.
@@ -76,13 +78,14 @@ pub fn put_typed(
     form: Form,
     version: FileFormat,
     out: &mut [u8],
+    given: &[u8],
     s: Progress,
 ) -> Progress
-    ensures { λ r. ⌜ PutsKeys (versionOf version) (now (h .entry)) (entriesIn form (now (kept .entry))) typedKeys (now (out .entry)) s r (now (out .exit)) ⌝ }
+    ensures { λ r. ⌜ PutsKeys (versionOf version) (now (h .entry)) (entriesIn form (now (kept .entry))) typedKeys (now (given .entry)) (now (out .entry)) s r (now (out .exit)) ⌝ }
 {
-    let info = put_key(h, kept, form, b"##INFO=", version, out, s);
-    let filter = put_key(h, kept, form, b"##FILTER=", version, out, info);
-    put_later_typed(h, kept, form, version, out, filter)
+    let info = put_key(h, kept, form, b"##INFO=", version, out, given, s);
+    let filter = put_key(h, kept, form, b"##FILTER=", version, out, given, info);
+    put_later_typed(h, kept, form, version, out, given, filter)
 }
 
 // The line through its first `=`.
@@ -132,9 +135,10 @@ pub fn put_others(
     form: Form,
     version: FileFormat,
     out: &mut [u8],
+    given: &[u8],
     s: Progress,
 ) -> Progress
-    ensures { λ r. ⌜ PutsOthers (versionOf version) (now (h .entry)) (entriesIn form (now (kept .entry))) (now (out .entry)) s r (now (out .exit)) ⌝ }
+    ensures { λ r. ⌜ PutsOthers (versionOf version) (now (h .entry)) (entriesIn form (now (kept .entry))) (now (given .entry)) (now (out .entry)) s r (now (out .exit)) ⌝ }
 {
     let mut progress = s;
     let mut k = 0;
@@ -144,7 +148,7 @@ pub fn put_others(
         k += 1;
         if is_first(h, ahead, form, e) {
             let prefix = prefix_part(h, e);
-            progress = put_key(h, kept, form, prefix, version, out, progress);
+            progress = put_key(h, kept, form, prefix, version, out, given, progress);
         }
     }
     progress

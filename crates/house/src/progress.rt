@@ -1,11 +1,12 @@
-// Lines of the form, one after another: what does not fit into the output is counted and not written.
+// Lines of the form, one after another: what does not fit into the output is counted and not written, and all is held against what is given.
 use entries::entry::Entry;
 use entries::part;
 use forms::line;
 use records::file_format::FileFormat;
-use values::output;
+use values::sink;
+use values::sink::Sink;
 ghost use mathlib.Core.Path.{_≡_};
-ghost use Rattle.values.specs.Written.{onward, Wrote};
+ghost use Rattle.values.specs.Written.{onward, Puts};
 ghost use Rattle.records.specs.Formats.{versionOf};
 ghost use Rattle.rules.specs.Shown.{lineIn};
 ghost use Rattle.entries.specs.Values.{entryOf};
@@ -14,11 +15,11 @@ ghost use Rattle.rules.specs.Record.{fileformat};
 ghost use Rattle.rules.specs.House.{writeRecord};
 ghost use Rattle.house.specs.Writes.{noted, WroteLines, PutsEntry};
 
-// How long a line may be; the place after what was written, the number of lines, and the first line that was too long: its number, 0 if
+// How long a line may be; where the writing stands, the number of lines, and the first line that was too long: its number, 0 if
 // none was, and its start.
 pub struct Progress {
     pub limit: usize,
-    pub next: usize,
+    pub next: Sink,
     pub lines: usize,
     pub long: usize,
     pub start: usize,
@@ -35,10 +36,11 @@ fn count_line(lines: usize) -> usize
 }
 
 // A line was written whose text ends at `end` and whose ending at `next`.
-fn note_line(s: Progress, end: usize, next: usize) -> Progress
+fn note_line(s: Progress, end: usize, next: Sink) -> Progress
     ensures { λ r. ⌜ r ≡ noted s end next ⌝ }
 {
-    let at = s.next;
+    let here = s.next;
+    let at = here.at;
     let long = s.long;
     let lines = count_line(s.lines);
     if long == 0 {
@@ -64,42 +66,49 @@ fn note_line(s: Progress, end: usize, next: usize) -> Progress
 }
 
 // The line of an entry.
-pub fn put_entry(h: &[u8], e: Entry, version: FileFormat, out: &mut [u8], s: Progress) -> Progress
-    ensures { λ r. ⌜ PutsEntry (versionOf version) (lineIn (now (h .entry)) (entryOf e)) (now (out .entry)) s r (now (out .exit)) ⌝ }
+pub fn put_entry(
+    h: &[u8],
+    e: Entry,
+    version: FileFormat,
+    out: &mut [u8],
+    given: &[u8],
+    s: Progress,
+) -> Progress
+    ensures { λ r. ⌜ PutsEntry (versionOf version) (lineIn (now (h .entry)) (entryOf e)) (now (given .entry)) (now (out .entry)) s r (now (out .exit)) ⌝ }
 {
     let line = part::line_part(h, e);
     let at = s.next;
-    let put = line::put_line(out, at, line, version);
+    let put = line::put_line(out, given, at, line, version);
     note_line(s, put.end, put.next)
 }
 
 // The version's line, without its ending.
-fn put_format(version: FileFormat, out: &mut [u8], at: usize) -> usize
-    ensures { λ r. ⌜ Wrote (now (out .entry)) at (writeRecord (fileformat (versionOf version))) r (now (out .exit)) ⌝ }
+fn put_format(version: FileFormat, out: &mut [u8], given: &[u8], at: Sink) -> Sink
+    ensures { λ r. ⌜ Puts (now (given .entry)) (now (out .entry)) at (writeRecord (fileformat (versionOf version))) r (now (out .exit)) ⌝ }
 {
-    let named = output::put_bytes(out, at, b"##fileformat=VCFv");
-    let major = output::put_decimal(out, named, version.major as u64);
-    let point = output::put_byte(out, major, b'.');
-    output::put_decimal(out, point, version.minor as u64)
+    let named = sink::put_bytes(out, given, at, b"##fileformat=VCFv");
+    let major = sink::put_decimal(out, given, named, version.major as u64);
+    let point = sink::put_byte(out, given, major, b'.');
+    sink::put_decimal(out, given, point, version.minor as u64)
 }
 
 // The version's line: a digit is its last byte.
-pub fn put_version(version: FileFormat, out: &mut [u8], s: Progress) -> Progress
-    ensures { λ r. ⌜ WroteLines (now (out .entry)) s (writeRecord (fileformat (versionOf version)) ∷ []) r (now (out .exit)) ⌝ }
+pub fn put_version(version: FileFormat, out: &mut [u8], given: &[u8], s: Progress) -> Progress
+    ensures { λ r. ⌜ WroteLines (now (given .entry)) (now (out .entry)) s (writeRecord (fileformat (versionOf version)) ∷ []) r (now (out .exit)) ⌝ }
 {
     let at = s.next;
-    let end = put_format(version, out, at);
-    let next = line::end_line(out, end, false);
-    note_line(s, end, next)
+    let end = put_format(version, out, given, at);
+    let next = line::end_line(out, given, end, false);
+    note_line(s, end.at, next)
 }
 
 // A line as it stands.
-pub fn put_plain(text: &[u8], out: &mut [u8], s: Progress) -> Progress
-    ensures { λ r. ⌜ WroteLines (now (out .entry)) s (now (text .entry) ∷ []) r (now (out .exit)) ⌝ }
+pub fn put_plain(text: &[u8], out: &mut [u8], given: &[u8], s: Progress) -> Progress
+    ensures { λ r. ⌜ WroteLines (now (given .entry)) (now (out .entry)) s (now (text .entry) ∷ []) r (now (out .exit)) ⌝ }
 {
     let at = s.next;
-    let end = output::put_bytes(out, at, text);
+    let end = sink::put_bytes(out, given, at, text);
     let cr = line::ends_with_cr(text);
-    let next = line::end_line(out, end, cr);
-    note_line(s, end, next)
+    let next = line::end_line(out, given, end, cr);
+    note_line(s, end.at, next)
 }

@@ -14,7 +14,7 @@ use Rattle.values.specs.Written.{last, Wrote}
 use Rattle.values.proofs.Tests.{Test, pass, fail, test, both}
 use Rattle.values.proofs.Sames.{same-sound}
 use Rattle.values.proofs.Markings.{mark-length, mark-own, mark-kept, sure}
-use Rattle.values.proofs.Outputs.{wrote-nothing, wrote-length, then}
+use Rattle.values.proofs.Outputs.{wrote-nothing, puts-length, then}
 use Rattle.rules.specs.Answer.{Answer, ok, refuse, _>>=_, unless, judged}
 use Rattle.rules.specs.Lines.{pieces, lineOf, writeLine, writeLines}
 use Rattle.rules.specs.Known.{isIn}
@@ -236,7 +236,7 @@ module _ {sam ms₀ out₀ ms out : Bytes} {at lines contigs next : ℕ} (g : Wa
             few = omega (arith, g .few, f .moves i);
             counted = omega (arith, g .counted);
             long = ap length (d .marks m k) ∙ mark-length (mark ms 0 name) 1 name ∙ mark-length ms 0 name ∙ g .long;
-            size = wrote-length v ∙ g .size;
+            size = puts-length v ∙ g .size;
             cs = g .cs ++ contigIn t m ∷ [];
             count = length-append (g .cs) (contigIn t m ∷ []) ∙ ap (_+ 1) (g .count);
             whole = taken (read-as ∙ ap (λ (m : SequenceRead). sequenceMeans t m >>= λ c. ok (g .cs ++ c ∷ [])) k);

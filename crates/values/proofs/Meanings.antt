@@ -8,14 +8,15 @@ use lib.ListN.{length, drop}
 use Rattle.values.specs.Bytes.{Bytes, same}
 use Rattle.values.specs.Value.{written, meaning, isEscapable, escapedByte, escape, spelling, writeValue}
 use Rattle.values.specs.Places.{unescapedAt}
-use Rattle.values.specs.Written.{last, Wrote}
+use Rattle.values.specs.Written.{last, Puts}
+use Rattle.values.specs.declared.sink.Sink.{Sink}
 use Rattle.values.specs.declared.cursor.Cursor.{Cursor}
 use Rattle.values.specs.declared.cursor.ByteRead.{ByteRead}
 use Rattle.values.specs.declared.cursor.ByteRead.the-variants.{Byte, End}
 use Rattle.values.proofs.Tests.{not-true, not-false}
 use Rattle.values.proofs.Sames.{same-hit, same-miss}
 use Rattle.values.proofs.Cursors.{Shows, shows}
-use Rattle.values.proofs.Outputs.{wrote-nothing, wrote-length, wrote-capped, then}
+use Rattle.values.proofs.Outputs.{puts-nothing, puts-length, puts-capped, then}
 
 -- what the code was told of the next byte
 module _ (q : Bool) (s : Bytes) (i : ℕ) {r : ByteRead} (a : r ≡ unescapedAt q s i) where
@@ -83,44 +84,44 @@ spelling-cons true b bs = rw append-nil
 spelling-cons false b bs = refl
 
 -- what answers the needs of `put_spelled`
-module _ {out : Bytes} {at : ℕ} (b : ℕ) (quote : Bool) where
-  pub bare-spelled : not quote ≡ true → {r : ℕ} {o : Bytes} → Wrote out at (b ∷ []) r o → Wrote out at (spelling quote (b ∷ [])) r o
+module _ {given out : Bytes} {at : Sink} (b : ℕ) (quote : Bool) where
+  pub bare-spelled : not quote ≡ true → {r : Sink} {o : Bytes} → Puts given out at (b ∷ []) r o → Puts given out at (spelling quote (b ∷ [])) r o
   bare-spelled n w = rw (not-true quote n) w
 
   -- q is what the code's test of the byte answered
   module _ (n : not quote ≡ false) {q : Bool} (a : q ≡ isEscapable b) where
-    pub plain-spelled : q ≡ false → {r : ℕ} {o : Bytes} → Wrote out at (b ∷ []) r o → Wrote out at (spelling quote (b ∷ [])) r o
+    pub plain-spelled : q ≡ false → {r : Sink} {o : Bytes} → Puts given out at (b ∷ []) r o → Puts given out at (spelling quote (b ∷ [])) r o
     unfolding escape
     plain-spelled e w = rw (not-false quote n, sym a ∙ e, escapedByte) w
 
-    pub slash-spelled : q ≡ true → {r : ℕ} {o : Bytes} → Wrote out at (92 ∷ []) r o → {r′ : ℕ} {o′ : Bytes} → Wrote o r (b ∷ []) r′ o′
-        → Wrote out at (spelling quote (b ∷ [])) r′ o′
+    pub slash-spelled : q ≡ true → {r : Sink} {o : Bytes} → Puts given out at (92 ∷ []) r o → {r′ : Sink} {o′ : Bytes} → Puts given o r (b ∷ []) r′ o′
+        → Puts given out at (spelling quote (b ∷ [])) r′ o′
     unfolding escape
     slash-spelled e w w′ = rw (not-false quote n, sym a ∙ e, escapedByte) (then w w′)
 
 pub ruleset spells = (bare-spelled, plain-spelled, slash-spelled)
 
 -- the meaning before the place c is written
-pub record Writing (out₀ : Bytes) (at : ℕ) (s : Bytes) (q quote : Bool) (out : Bytes) (next c : ℕ) : Type 0 where
-  pub capped : next ≤ last
+pub record Writing (given out₀ : Bytes) (at : Sink) (s : Bytes) (q quote : Bool) (out : Bytes) (next : Sink) (c : ℕ) : Type 0 where
+  pub capped : next .at ≤ last
   pub fits : length out ≤ last
   pub size : length out ≡ length out₀
-  pub still : (r : ℕ) (o : Bytes) → Wrote out next (spelling quote (meaning q (drop c s))) r o → Wrote out₀ at (spelling quote (meaning q s)) r o
+  pub still : (r : Sink) (o : Bytes) → Puts given out next (spelling quote (meaning q (drop c s))) r o → Puts given out₀ at (spelling quote (meaning q s)) r o
 
-pub write : (out : Bytes) (at : ℕ) (s : Bytes) (q quote : Bool) → at ≤ last → length out ≤ last → Writing out at s q quote out at 0
-write out at s q quote h l = record { capped = h; fits = l; size = refl; still = λ r o w. w }
+pub write : (given out : Bytes) (at : Sink) (s : Bytes) (q quote : Bool) → at .at ≤ last → length out ≤ last → Writing given out at s q quote out at 0
+write given out at s q quote h l = record { capped = h; fits = l; size = refl; still = λ r o w. w }
 
-module _ {out₀ : Bytes} {at : ℕ} {s : Bytes} {q quote : Bool} {out : Bytes} {next c : ℕ} (g : Writing out₀ at s q quote out next c)
+module _ {given out₀ : Bytes} {at : Sink} {s : Bytes} {q quote : Bool} {out : Bytes} {next : Sink} {c : ℕ} (g : Writing given out₀ at s q quote out next c)
     {r : ByteRead} (a : r ≡ unescapedAt q s c) where
-  pub wrote-all : r ≡ End → Wrote out₀ at (spelling quote (meaning q s)) next out
-  wrote-all e = g .still next out (rw (told-end q s c a e, spelling-nil quote) (wrote-nothing out next (g .capped) (g .fits)))
+  pub wrote-all : r ≡ End → Puts given out₀ at (spelling quote (meaning q s)) next out
+  wrote-all e = g .still next out (rw (told-end q s c a e, spelling-nil quote) (puts-nothing given out next (g .capped) (g .fits)))
 
-  pub wrote-one : {b : ℕ} {d : Cursor} → r ≡ Byte b d → {n : ℕ} {o : Bytes} → Wrote out next (spelling quote (b ∷ [])) n o
-      → Writing out₀ at s q quote o n (d .at)
+  pub wrote-one : {b : ℕ} {d : Cursor} → r ≡ Byte b d → {n : Sink} {o : Bytes} → Puts given out next (spelling quote (b ∷ [])) n o
+      → Writing given out₀ at s q quote o n (d .at)
   wrote-one {b} {d} e w = record {
-    capped = wrote-capped w;
-    fits = rw (wrote-length w) (g .fits);
-    size = wrote-length w ∙ g .size;
+    capped = puts-capped w;
+    fits = rw (puts-length w) (g .fits);
+    size = puts-length w ∙ g .size;
     still = λ r′ o′ w′. g .still r′ o′ (rw (told-byte q s c a e, spelling-cons quote b (meaning q (drop (d .at) s))) (then w w′));
   }
 
@@ -128,13 +129,13 @@ module _ {out₀ : Bytes} {at : ℕ} {s : Bytes} {q quote : Bool} {out : Bytes} 
 pub ruleset writes = (wrote-all, wrote-one, told-less)
 
 -- what answers the needs of `put_value`
-module _ {out : Bytes} {at : ℕ} (v : Bytes) (quote : Bool) where
-  pub bare-value : not quote ≡ true → {r : ℕ} {o : Bytes} → Wrote out at (spelling quote v) r o → Wrote out at (writeValue quote v) r o
+module _ {given out : Bytes} {at : Sink} (v : Bytes) (quote : Bool) where
+  pub bare-value : not quote ≡ true → {r : Sink} {o : Bytes} → Puts given out at (spelling quote v) r o → Puts given out at (writeValue quote v) r o
   unfolding written
   bare-value n w = rw (not-true quote n) (rw (not-true quote n) at w)
 
-  pub quoted-value : not quote ≡ false → {r : ℕ} {o : Bytes} → Wrote out at (34 ∷ []) r o → {r′ : ℕ} {o′ : Bytes} → Wrote o r (spelling quote v) r′ o′
-      → {r″ : ℕ} {o″ : Bytes} → Wrote o′ r′ (34 ∷ []) r″ o″ → Wrote out at (writeValue quote v) r″ o″
+  pub quoted-value : not quote ≡ false → {r : Sink} {o : Bytes} → Puts given out at (34 ∷ []) r o → {r′ : Sink} {o′ : Bytes} → Puts given o r (spelling quote v) r′ o′
+      → {r″ : Sink} {o″ : Bytes} → Puts given o′ r′ (34 ∷ []) r″ o″ → Puts given out at (writeValue quote v) r″ o″
   unfolding written
   quoted-value n w w′ w″ = rw (not-false quote n) (then w (then (rw (not-false quote n) at w′) w″))
 

@@ -6,5 +6,6 @@ pub mod hash;
 pub mod integer;
 pub mod marks;
 pub mod output;
+pub mod sink;
 pub mod string;
 pub mod utf8;

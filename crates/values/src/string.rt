@@ -3,7 +3,8 @@ use crate::bytes;
 use crate::cursor::ByteRead;
 use crate::cursor::Cursor;
 use crate::cursor::is_escapable;
-use crate::output;
+use crate::sink;
+use crate::sink::Sink;
 ghost use mathlib.Core.Path.{_≡_};
 ghost use mathlib.Core.Bool.{false};
 ghost use mathlib.Core.List.{[], _∷_};
@@ -12,7 +13,7 @@ ghost use lib.ListN.{length, drop};
 ghost use Rattle.values.specs.Bytes.{before, same};
 ghost use Rattle.values.specs.Value.{isStop, quotedText, readBare, readValues, meaning, spelling, writeValue};
 ghost use Rattle.values.specs.Places.{closingAt, escapedFrom, valuePlaced};
-ghost use Rattle.values.specs.Written.{Wrote};
+ghost use Rattle.values.specs.Written.{Puts};
 
 // A text without its quotes.
 pub struct Text {
@@ -166,22 +167,22 @@ pub fn same_meaning(a: &[u8], aq: bool, b: &[u8], bq: bool) -> bool
 }
 
 // One byte of a meaning, as it stands between quotes or bare.
-fn put_spelled(out: &mut [u8], at: usize, b: u8, quote: bool) -> usize
-    ensures { λ r. ⌜ Wrote (now (out .entry)) at (spelling quote (b ∷ [])) r (now (out .exit)) ⌝ }
+fn put_spelled(out: &mut [u8], given: &[u8], at: Sink, b: u8, quote: bool) -> Sink
+    ensures { λ r. ⌜ Puts (now (given .entry)) (now (out .entry)) at (spelling quote (b ∷ [])) r (now (out .exit)) ⌝ }
 {
     if !quote {
-        return output::put_byte(out, at, b);
+        return sink::put_byte(out, given, at, b);
     }
     if is_escapable(b) {
-        let next = output::put_byte(out, at, b'\\');
-        return output::put_byte(out, next, b);
+        let next = sink::put_byte(out, given, at, b'\\');
+        return sink::put_byte(out, given, next, b);
     }
-    output::put_byte(out, at, b)
+    sink::put_byte(out, given, at, b)
 }
 
 // The meaning of a text, as it stands between quotes or bare.
-fn put_meaning(out: &mut [u8], at: usize, s: &[u8], quoted: bool, quote: bool) -> usize
-    ensures { λ r. ⌜ Wrote (now (out .entry)) at (spelling quote (meaning quoted (now (s .entry)))) r (now (out .exit)) ⌝ }
+fn put_meaning(out: &mut [u8], given: &[u8], at: Sink, s: &[u8], quoted: bool, quote: bool) -> Sink
+    ensures { λ r. ⌜ Puts (now (given .entry)) (now (out .entry)) at (spelling quote (meaning quoted (now (s .entry)))) r (now (out .exit)) ⌝ }
 {
     let mut next = at;
     let mut c = Cursor { at: 0 };
@@ -189,19 +190,26 @@ fn put_meaning(out: &mut [u8], at: usize, s: &[u8], quoted: bool, quote: bool) -
         let ByteRead::Byte(b, d) = c.next_unescaped(s, quoted) else {
             return next;
         };
-        next = put_spelled(out, next, b, quote);
+        next = put_spelled(out, given, next, b, quote);
         c = d;
     }
 }
 
 // A value with the meaning of the text s, quoted or bare.
-pub fn put_value(out: &mut [u8], at: usize, s: &[u8], quoted: bool, quote: bool) -> usize
-    ensures { λ r. ⌜ Wrote (now (out .entry)) at (writeValue quote (meaning quoted (now (s .entry)))) r (now (out .exit)) ⌝ }
+pub fn put_value(
+    out: &mut [u8],
+    given: &[u8],
+    at: Sink,
+    s: &[u8],
+    quoted: bool,
+    quote: bool,
+) -> Sink
+    ensures { λ r. ⌜ Puts (now (given .entry)) (now (out .entry)) at (writeValue quote (meaning quoted (now (s .entry)))) r (now (out .exit)) ⌝ }
 {
     if !quote {
-        return put_meaning(out, at, s, quoted, quote);
+        return put_meaning(out, given, at, s, quoted, quote);
     }
-    let text = output::put_byte(out, at, b'"');
-    let end = put_meaning(out, text, s, quoted, quote);
-    output::put_byte(out, end, b'"')
+    let text = sink::put_byte(out, given, at, b'"');
+    let end = put_meaning(out, given, text, s, quoted, quote);
+    sink::put_byte(out, given, end, b'"')
 }

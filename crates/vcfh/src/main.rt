@@ -16,6 +16,7 @@ mod page;
 mod say;
 mod spelled;
 mod twice;
+mod verdict;
 mod why;
 
 use entries::table;
@@ -223,6 +224,8 @@ fn run(
         house(header, imposed, table, form, true);
     } else if bytes::same(command, b"form") {
         house(header, imposed, table, form, false);
+    } else if bytes::same(command, b"is-house") {
+        verdict::say_verdict(header, imposed, table);
     } else if bytes::same(command, b"text") {
         say::text(1, header);
     } else if bytes::same(command, b"cells") {

@@ -6,13 +6,13 @@ use Rattle.forms.proofs.others.put_others.Statement.{statement}
 use Rattle.forms.proofs.others.put_others.Tie as tie
 
 abbrev Inv-loop : tie.InvT-loop
-Inv-loop out₀ at s map next₀ c₀ out next c = Copying map s out₀ at out next (c .at)
+Inv-loop out₀ given s map next₀ c₀ out next c = Copying map s given out₀ next₀ out next (c .at)
 
 abbrev μ-loop : tie.MeasureT-loop
-μ-loop out₀ at s map next₀ c₀ out next c = length s - c .at
+μ-loop out₀ given s map next₀ c₀ out next c = length s - c .at
 
 loop-holds : tie.Need-loop-holds Inv-loop μ-loop
-loop-holds c = copy-all _ _ _ _ (search needs) (search needs)
+loop-holds c = copy-all _ _ _ _ _ (search needs) (search needs)
 
 split-field-requires : tie.Need-split-field-requires Inv-loop μ-loop
 split-field-requires c κs = search (copies, needs)

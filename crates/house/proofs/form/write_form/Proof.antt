@@ -9,17 +9,23 @@ limits-requires c κs = search (writes, needs)
 slice-aggregate-put-form : tie.Need-slice-aggregate-put-form
 slice-aggregate-put-form c = search (writes, needs)
 
+slice-aggregate-put-form-2 : tie.Need-slice-aggregate-put-form-2
+slice-aggregate-put-form-2 c = search (writes, needs)
+
 put-form-requires : tie.Need-put-form-requires
 put-form-requires c κs = search (writes, needs)
+
+outcome-of-requires : tie.Need-outcome-of-requires
+outcome-of-requires c κs = search (writes, needs)
+
+is-whole-requires : tie.Need-is-whole-requires
+is-whole-requires c κs = search (writes, needs)
 
 returns : tie.Need-returns
 returns c = search (writes, needs)
 
-returns-2 : tie.Need-returns-2
-returns-2 c = search (writes, needs)
-
-returns-3 : tie.Need-returns-3
-returns-3 c = search (writes, needs)
+slice-aggregate-put-form-3 : tie.Need-slice-aggregate-put-form-3
+slice-aggregate-put-form-3 c = search (writes, needs)
 
 put-form-requires-2 : tie.Need-put-form-requires-2
 put-form-requires-2 c κs = search (writes, needs)
@@ -27,8 +33,8 @@ put-form-requires-2 c κs = search (writes, needs)
 same-length : tie.Need-same-length
 same-length c = search (writes, needs)
 
-returns-4 : tie.Need-returns-4
-returns-4 c = search (writes, needs)
+returns-2 : tie.Need-returns-2
+returns-2 c = search (writes, needs)
 
 pub write-form-spec : {M : Type 1} → statement M
 write-form-spec =
@@ -36,10 +42,12 @@ write-form-spec =
     (tie.spec
     limits-requires
     slice-aggregate-put-form
+    slice-aggregate-put-form-2
     put-form-requires
+    outcome-of-requires
+    is-whole-requires
     returns
-    returns-2
-    returns-3
+    slice-aggregate-put-form-3
     put-form-requires-2
     same-length
-    returns-4)
+    returns-2)

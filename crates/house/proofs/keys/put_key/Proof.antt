@@ -7,13 +7,13 @@ use Rattle.house.proofs.keys.put_key.Statement.{statement}
 use Rattle.house.proofs.keys.put_key.Tie as tie
 
 abbrev Inv-loop : tie.InvT-loop
-Inv-loop h kept form prefix version out₀ progress₀ k₀ out progress k = Picking form (versionOf version) h kept prefix out₀ progress₀ out progress k
+Inv-loop h kept form prefix version out₀ given progress₀ k₀ out progress k = Picking form (versionOf version) h kept prefix given out₀ progress₀ out progress k
 
 abbrev μ-loop : tie.MeasureT-loop
-μ-loop h kept form prefix version out₀ progress₀ k₀ out progress k = room form kept - k
+μ-loop h kept form prefix version out₀ given progress₀ k₀ out progress k = room form kept - k
 
 loop-holds : tie.Need-loop-holds Inv-loop μ-loop
-loop-holds c = pick-start _ _ _ _ _ _ _ (search needs) (search needs) (search needs)
+loop-holds c = pick-start _ _ _ _ _ _ _ _ (search needs) (search needs) (search needs)
 
 count-requires : tie.Need-count-requires Inv-loop μ-loop
 count-requires c κs = search (picks, needs)

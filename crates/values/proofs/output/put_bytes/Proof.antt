@@ -1,51 +1,20 @@
+use Rattle.values.proofs.Outputs.{only-written}
 use borrow.Author.Needs.{needs}
-use Prim.Native.Nat.{_-_}
-use lib.ListN.{length}
-use Rattle.values.proofs.Outputs.{Putting, started, more, ended}
 use Rattle.values.proofs.output.put_bytes.Statement.{statement}
 use Rattle.values.proofs.output.put_bytes.Tie as tie
 
-abbrev Inv-loop : tie.InvT-loop
-Inv-loop out₀ at s next₀ i₀ out next i = Putting out₀ at s out next i
+slice-aggregate-put-bytes : tie.Need-slice-aggregate-put-bytes
+slice-aggregate-put-bytes c = search (only-written, needs)
 
-abbrev μ-loop : tie.MeasureT-loop
-μ-loop out₀ at s next₀ i₀ out next i = length s - i
+put-bytes-requires : tie.Need-put-bytes-requires
+put-bytes-requires c κs = search (only-written, needs)
 
-loop-holds : tie.Need-loop-holds Inv-loop μ-loop
-loop-holds c = started _ _ _ (search needs) (search needs)
+same-length : tie.Need-same-length
+same-length c = search (only-written, needs)
 
-shared-slice-read-b : tie.Need-shared-slice-read-b Inv-loop μ-loop
-shared-slice-read-b c = search (more, ended, needs)
-
-add-i : tie.Need-add-i Inv-loop μ-loop
-add-i c = search (more, ended, needs)
-
-put-byte-requires : tie.Need-put-byte-requires Inv-loop μ-loop
-put-byte-requires c κs = search (more, ended, needs)
-
-loop-less : tie.Need-loop-less Inv-loop μ-loop
-loop-less c = search (more, ended, needs)
-
-loop-again : tie.Need-loop-again Inv-loop μ-loop
-loop-again c = search (more, ended, needs)
-
-same-length : tie.Need-same-length Inv-loop μ-loop
-same-length c = search (more, ended, needs)
-
-returns : tie.Need-returns Inv-loop μ-loop
-returns c = search (more, ended, needs)
+returns : tie.Need-returns
+returns c = search (only-written, needs)
 
 pub put-bytes-spec : {M : Type 1} → statement M
 put-bytes-spec =
-    tie.close
-    (tie.spec
-    Inv-loop
-    μ-loop
-    loop-holds
-    shared-slice-read-b
-    add-i
-    put-byte-requires
-    loop-less
-    loop-again
-    same-length
-    returns)
+    tie.close (tie.spec slice-aggregate-put-bytes put-bytes-requires same-length returns)

@@ -6,13 +6,13 @@ use Rattle.values.proofs.string.put_meaning.Statement.{statement}
 use Rattle.values.proofs.string.put_meaning.Tie as tie
 
 abbrev Inv-loop : tie.InvT-loop
-Inv-loop out₀ at s quoted quote next₀ c₀ out next c = Writing out₀ at s quoted quote out next (c .at)
+Inv-loop out₀ given s quoted quote next₀ c₀ out next c = Writing given out₀ next₀ s quoted quote out next (c .at)
 
 abbrev μ-loop : tie.MeasureT-loop
-μ-loop out₀ at s quoted quote next₀ c₀ out next c = length s - c .at
+μ-loop out₀ given s quoted quote next₀ c₀ out next c = length s - c .at
 
 loop-holds : tie.Need-loop-holds Inv-loop μ-loop
-loop-holds c = write _ _ _ _ _ (search needs) (search needs)
+loop-holds c = write _ _ _ _ _ _ (search needs) (search needs)
 
 next-unescaped-requires : tie.Need-next-unescaped-requires Inv-loop μ-loop
 next-unescaped-requires c κs = search (writes, needs)

@@ -3,23 +3,23 @@ use Rattle.values.proofs.Outputs.{small-number, large-number}
 use Prim.Native.Nat.{ℕ, _<_}
 use borrow.Fn.Kinds.{In}
 use borrow.Fn.PlainCycle.{Measures, is, falls, and}
-use Rattle.values.proofs.output.put_decimal.Reads as put-decimal
-use Rattle.values.proofs.output.put_decimal.Kinds as put-decimal-kinds
-use Rattle.values.proofs.output.+put_decimal.Lts-put_decimal as put-decimal-lts
-use Rattle.values.proofs.output.put_byte.Reads as put-byte-reads
-use Rattle.values.proofs.output.+put_decimal.{statement}
-use Rattle.values.proofs.output.+put_decimal.Tie.{close}
+use Rattle.values.proofs.sink.put_decimal.Reads as put-decimal
+use Rattle.values.proofs.sink.put_decimal.Kinds as put-decimal-kinds
+use Rattle.values.proofs.sink.+put_decimal.Lts-put_decimal as put-decimal-lts
+use Rattle.values.proofs.sink.put_byte.Reads as put-byte-reads
+use Rattle.values.proofs.sink.+put_decimal.{statement}
+use Rattle.values.proofs.sink.+put_decimal.Tie.{close}
 
-abbrev μ-put-decimal : Measures 1 put-decimal-kinds.ps ℕ
-μ-put-decimal κs a = a .1 .1 .0
+abbrev μ-put-decimal : Measures 2 put-decimal-kinds.ps ℕ
+μ-put-decimal κs a = a .1 .1 .1 .0
 
-abbrev put-decimal-at : ℕ → In 1 put-decimal-kinds.ps
+abbrev put-decimal-at : ℕ → In 2 put-decimal-kinds.ps
 put-decimal-at t =
-    and 1 put-decimal-kinds.ps (is 1 put-decimal-kinds.ps μ-put-decimal t) put-decimal.Pre
+    and 2 put-decimal-kinds.ps (is 2 put-decimal-kinds.ps μ-put-decimal t) put-decimal.Pre
 
-abbrev put-decimal-below : ℕ → In 1 put-decimal-kinds.ps
+abbrev put-decimal-below : ℕ → In 2 put-decimal-kinds.ps
 put-decimal-below t =
-    and 1 put-decimal-kinds.ps (falls 1 put-decimal-kinds.ps _<_ μ-put-decimal t) put-decimal.Pre
+    and 2 put-decimal-kinds.ps (falls 2 put-decimal-kinds.ps _<_ μ-put-decimal t) put-decimal.Pre
 
 put-decimal-add-put-byte : (t : ℕ) → put-decimal-lts.Need-add-put-byte (
   put-byte-reads.Asked,

@@ -1,5 +1,6 @@
-/* Reads one header over and over, by htslib or by vcfh in the first or the second form, or writes its house form or its dictionaries, or holds
-   it against its house form: bench hts|read|second|house|dictionaries|is-house FILE TIMES. Or builds the index of its IDs, or looks each of
+/* Reads one header over and over, by htslib or by vcfh in the first or the second form, or in pieces of 4,096, of 64 bytes or of one, or
+   writes its house form or its dictionaries, or holds it against its house form:
+   bench hts|read|second|fed4096|fed64|fed1|house|dictionaries|is-house FILE TIMES. Or builds the index of its IDs, or looks each of
    its contigs up once, at random, by htslib or in an index of twice as many places as entries, in either form:
    bench index|hts-find|find|find-second FILE TIMES.
    Prints the best round's nanoseconds for one header. */
@@ -128,6 +129,19 @@ static int is_house(void) {
     return vcfh_is_house((const uint8_t *)header, length, 0, 0, 0, VCFH_FIRST, table, WORDS).number == 0;
 }
 
+static int fed(size_t size) {
+    vcfh_feeding state = vcfh_feed_start(0, 0, 0);
+    for (size_t at = 0; at < length; at += size) {
+        size_t left = length - at;
+        state = vcfh_feed(state, (const uint8_t *)header + at, left < size ? left : size, VCFH_FIRST, out, SIZE, table, WORDS).state;
+    }
+    return vcfh_close(state, VCFH_FIRST, out, SIZE, table, WORDS).number == 0;
+}
+
+static int fed_4096(void) { return fed(4096); }
+static int fed_64(void) { return fed(64); }
+static int fed_1(void) { return fed(1); }
+
 static double now(void) {
     struct timespec t;
     clock_gettime(CLOCK_MONOTONIC, &t);
@@ -141,6 +155,9 @@ int main(int count, char **words) {
     length = fread(header, 1, SIZE, file);
     int (*call)(void) = strcmp(words[1], "hts") == 0 ? hts : strcmp(words[1], "house") == 0 ? house
                         : strcmp(words[1], "dictionaries") == 0 ? dictionaries
+                        : strcmp(words[1], "fed4096") == 0 ? fed_4096
+                        : strcmp(words[1], "fed64") == 0 ? fed_64
+                        : strcmp(words[1], "fed1") == 0 ? fed_1
                         : strcmp(words[1], "is-house") == 0 ? is_house
                         : strcmp(words[1], "second") == 0 ? read_second : strcmp(words[1], "index") == 0 ? index_first
                         : strcmp(words[1], "hts-find") == 0 ? hts_find : strcmp(words[1], "find") == 0 ? find_first

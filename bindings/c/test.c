@@ -261,6 +261,74 @@ static void verdicts(uint64_t form) {
     same("imposed", v.house, 0), same("the version differs", v.differs, 19);
 }
 
+/* A header of 83 bytes in pieces of this size, and its close; the table's words are those of reading it whole. */
+static vcfh_fed fed_in(const char *header, size_t piece, uint64_t form, uint64_t imposed, uint32_t major, uint32_t minor, uint8_t *buffer, size_t space) {
+    size_t length = strlen(header);
+    vcfh_feeding state = vcfh_feed_start(imposed, major, minor);
+    for (size_t at = 0; at < length; at += piece) {
+        vcfh_fed f = vcfh_feed(state, bytes(header) + at, length - at < piece ? length - at : piece, form, buffer, space, table, WORDS);
+        state = f.state;
+    }
+    return vcfh_close(state, form, buffer, space, table, WORDS);
+}
+
+static void same_state(const char *what, vcfh_feeding a, vcfh_feeding b) {
+    same(what, memcmp(&a, &b, sizeof a) == 0, 1);
+}
+
+/* Cut into pieces of each size. */
+static void pieces(uint64_t form) {
+    uint8_t buffer[100];
+    uint64_t whole[WORDS];
+    memset(table, 7, sizeof table);
+    read_in(PLAIN, form);
+    memcpy(whole, table, sizeof table);
+    for (size_t piece = 1; piece <= 84; piece++) {
+        memset(table, 7, sizeof table);
+        vcfh_fed f = fed_in(PLAIN, piece, form, 0, 9, 9, buffer, sizeof buffer);
+        same("fed", f.number, 0), same("fed lines", f.line, 3), same("fed bytes", f.start, 83), same("fed entries", f.entries, 3);
+        same("fed table", memcmp(table, whole, sizeof table) == 0, 1), same("fed buffer", memcmp(buffer, PLAIN, 83) == 0, 1);
+        same("its phase", f.state.phase, 2), same("major", f.state.major, 4), same("minor", f.state.minor, 3), same("samples", f.state.samples, 0);
+        same("held", f.state.held, 83), same("at", f.state.at, 83), same("lines", f.state.lines, 3), same("kept", f.state.kept, 3), same("over", f.state.over, 1);
+    }
+}
+
+/* Answers between pieces, a refusal that is repeated, a piece that does not fit, and states that cannot be. */
+static void feeding(void) {
+    uint8_t buffer[100];
+    const char *twice = "##fileformat=VCFv4.3\n##FILTER=<ID=q,Description=x>\n##FILTER=<ID=\"q\",Description=x>\n";
+    vcfh_feeding start = vcfh_feed_start(0, 8, 9), by = vcfh_feed_start(1, 4, 2);
+    same("imposed none", start.imposed, 0), same("imposed", by.imposed, 1), same("imposed major", by.imposed_major, 4), same("imposed minor", by.imposed_minor, 2);
+    vcfh_fed f = vcfh_feed(start, bytes(twice), 30, VCFH_FIRST, buffer, 100, table, WORDS);
+    same("so far", f.number, 0), same("lines so far", f.line, 1), same("bytes so far", f.start, 30), same("entries so far", f.entries, 1), same("not over", f.state.over, 0);
+    vcfh_fed g = vcfh_feed(f.state, bytes(twice) + 30, strlen(twice) - 30, VCFH_FIRST, buffer, 100, table, WORDS);
+    same("fed twice", g.number, 19), same("twice line", g.line, 3), same("twice start", g.start, 51), same("twice entries", g.entries, 2);
+    vcfh_fed again = vcfh_feed(g.state, bytes("x"), 1, VCFH_FIRST, buffer, 100, table, WORDS), closed = vcfh_close(again.state, VCFH_FIRST, buffer, 100, table, WORDS);
+    same("again", again.number, 19), same("again line", again.line, 3), same("again start", again.start, 51), same("again entries", again.entries, 2);
+    same("closed", closed.number, 19), same_state("the state stays", g.state, closed.state);
+    f = vcfh_feed(f.state, bytes(twice), 71, VCFH_FIRST, buffer, 100, table, WORDS);
+    same("too long", f.number, 27), same("no line", f.line, 0), same("no start", f.start, 0), same("entries then", f.entries, 1), same("nothing taken", f.state.held, 30);
+    same("no line at all", vcfh_close(start, VCFH_FIRST, buffer, 100, table, WORDS).number, 25);
+    vcfh_feeding wrong = g.state;
+    wrong.phase = 3;
+    vcfh_fed w = vcfh_close(wrong, VCFH_FIRST, buffer, 100, table, WORDS);
+    same("no phase", w.number, 29), same("29 line", w.line, 0), same("29 start", w.start, 0), same("29 entries", w.entries, 0), same_state("29 keeps the state", wrong, w.state);
+    wrong = start, wrong.phase = 0x100000000;
+    same("no such phase", vcfh_feed(wrong, bytes("x"), 1, VCFH_FIRST, buffer, 100, table, WORDS).number, 29);
+    wrong = g.state, wrong.held = 101;
+    same("held past the buffer", vcfh_feed(wrong, bytes("x"), 1, VCFH_FIRST, buffer, 100, table, WORDS).number, 29);
+    wrong = start, wrong.held = 20, wrong.at = 21;
+    same("places out of order", vcfh_close(wrong, VCFH_FIRST, buffer, 100, table, WORDS).number, 29);
+    wrong = start, wrong.held = 20, wrong.at = 10, wrong.lines = 11;
+    same("more lines than bytes", vcfh_close(wrong, VCFH_FIRST, buffer, 100, table, WORDS).number, 29);
+    wrong = start, wrong.kept = WORDS / 2 + 1;
+    same("more entries than room", vcfh_close(wrong, VCFH_FIRST, buffer, 100, table, WORDS).number, 29);
+    table[0] = 0;
+    same("a broken entry", vcfh_close(g.state, VCFH_FIRST, buffer, 100, table, WORDS).number, 29);
+    same("imposed in pieces", fed_in("##fileformat=VCFv4.3\n##META=<ID=x,Values=[a,b]>\n", 7, VCFH_FIRST, 1, 4, 2, buffer, 100).number, 9);
+    same("not imposed", fed_in("##fileformat=VCFv4.3\n##META=<ID=x,Values=[a,b]>\n", 7, VCFH_FIRST, 0, 4, 2, buffer, 100).number, 26);
+}
+
 int main(void) {
     versions(), places(), forms(), contigs();
     verdicts(VCFH_FIRST), verdicts(VCFH_SECOND), verdicts(0);
@@ -272,6 +340,7 @@ int main(void) {
     indexes(VCFH_FIRST, VCFH_SECOND), indexes(VCFH_SECOND, VCFH_FIRST), indexes(0, VCFH_SECOND), indexes(3, VCFH_SECOND);
     season(VCFH_FIRST), season(VCFH_SECOND);
     long_line(VCFH_FIRST, 2, 1, 2, 2), long_line(VCFH_SECOND, 0, 3, 28, 39);
+    pieces(VCFH_FIRST), pieces(VCFH_SECOND), feeding();
     same("UTF-8", vcfh_utf8(bytes("\xc3\xa9"), 2), 1);
     same("no UTF-8", vcfh_utf8(bytes("\xc3\xa9"), 1), 0);
     printf("%u passed, %u failed\n", passed, failed);

@@ -139,6 +139,33 @@ vcfh_added vcfh_season_add(const uint8_t *header, size_t length, uint64_t impose
 /* The sheet of all headers of two sheets. */
 vcfh_merged vcfh_season_merge(vcfh_sheet sheet, vcfh_sheet other);
 
+/* A header that comes in pieces. Begin with vcfh_feed_start, hand each piece to vcfh_feed with the state that the call before handed back,
+   and end with vcfh_close. The buffer is the caller's and holds the header so far, from its first byte on: hand the same one, or a larger
+   copy of it, and the same table, or a larger copy, to each call. A line is read when its LF is there, the last one at the close; however
+   a header is cut, the last answer and the table are those of vcfh_read of it whole.
+
+   vcfh_feed answers 0 with the lines, bytes and entries so far, or as vcfh_read does as soon as a line is refused, and 27 where the piece
+   does not fit whole into the buffer and the form's limit, of which nothing is taken then. vcfh_close answers as vcfh_read does. After a
+   refusal or a close every call answers the same again and changes nothing. Each call looks at all entries kept so far first, so send
+   pieces of some kilobytes; 29 where one of them is not well formed, or a number of the state cannot be so, and then nothing changes.
+
+   The state may be copied and stored; its numbers are the version imposed, the phase (0 before the fileformat line, 1 after it, 2 after
+   the column line) with the version in force and the number of samples, the bytes held, where the next line begins, the lines read and the
+   entries kept; over is 0 until the last answer, which the four numbers after it are. */
+typedef struct {
+    uint64_t imposed; uint32_t imposed_major, imposed_minor;
+    uint64_t phase; uint32_t major, minor; uint64_t samples;
+    uint64_t held, at, lines, kept;
+    uint64_t over, number, line, start, entries;
+} vcfh_feeding;
+
+typedef struct { uint64_t number, line, start, entries; vcfh_feeding state; } vcfh_fed;
+
+vcfh_feeding vcfh_feed_start(uint64_t imposed, uint32_t major, uint32_t minor);
+vcfh_fed vcfh_feed(vcfh_feeding state, const uint8_t *piece, size_t length, uint64_t form, uint8_t *buffer, size_t space,
+                   uint64_t *table, size_t words);
+vcfh_fed vcfh_close(vcfh_feeding state, uint64_t form, const uint8_t *buffer, size_t space, uint64_t *table, size_t words);
+
 /* 1 fileformat, 2 INFO, 3 FILTER, 4 FORMAT, 5 ALT, 6 contig, 7 other map, 8 other text, 9 column line, 10 sample. The table must hold
    the entry. */
 static inline unsigned vcfh_kind(const uint64_t *table, uint64_t form, uint64_t entry) {

@@ -246,5 +246,53 @@ class Forms(unittest.TestCase):
                     call(PROBE, form=form)
 
 
+class Pieces(unittest.TestCase):
+    def received(self, pieces, *arguments, **named):
+        feed = vcfh.Feed(*arguments, **named)
+        for piece in pieces:
+            feed.feed(piece)
+        return feed.close()
+
+    def test_a_header_is_the_same_however_it_is_cut(self):
+        header = plate(lambda w: b"1.00")
+        for form in (vcfh.FIRST, vcfh.SECOND):
+            whole = vcfh.Header(header, form=form)
+            for size in (1, 7, 100, 4096):
+                got = self.received([header[at : at + size] for at in range(0, len(header), size)], form=form)
+                self.assertEqual([vars(entry) for entry in got], [vars(entry) for entry in whole])
+                self.assertEqual((got.version, got.lines, got.form, len(got)), (whole.version, whole.lines, form, len(whole)))
+
+    def test_a_header_is_read_by_the_version_imposed(self):
+        meta = b"##fileformat=VCFv4.2\n##META=<ID=x,Values=[a,b]>\n" + COLUMNS
+        self.assertEqual(self.received([meta[:30], b"", meta[30:]], (4, 3))[1].fields, [b"ID=x", b"Values=[a,b]"])
+        self.assertEqual(refused(self.received, [meta]).number, 9)
+
+    def test_a_line_is_refused_when_its_lf_comes_and_ever_after(self):
+        feed = vcfh.Feed()
+        self.assertEqual(feed.feed(TWICE[:-1]), (2, len(TWICE) - 1, 2))
+        for call in (lambda: feed.feed(b"\n"), lambda: feed.feed(PROBE), feed.close):
+            refusal = refused(call)
+            self.assertEqual((refusal.number, refusal.line, refusal.start), (19, 3, 51))
+
+    def test_what_is_left_at_the_close_is_the_last_line(self):
+        self.assertEqual(len(self.received([PROBE[:-1]])), 3)
+        self.assertEqual(refused(self.received, [PROBE[:-2]]).number, 22)
+        self.assertEqual(refused(self.received, []).number, 25)
+
+    def test_a_closed_header_stays_closed(self):
+        feed = vcfh.Feed()
+        feed.feed(PROBE)
+        feed.close()
+        self.assertEqual(feed.feed(b"##a=b\n"), (3, len(PROBE), 3))
+        self.assertEqual(len(feed.close()), 3)
+
+    def test_a_piece_past_the_limit_is_not_taken(self):
+        longest = long_line(vcfh.MAX_LINE[vcfh.FIRST])
+        feed = vcfh.Feed()
+        feed.feed(longest)
+        refusal = refused(feed.feed, b"x" * vcfh.MAX_LENGTH[vcfh.FIRST])
+        self.assertEqual((refusal.number, refusal.line, refusal.start), (27, 0, 0))
+
+
 if __name__ == "__main__":
     unittest.main()

@@ -89,6 +89,21 @@ class _Verdict(ctypes.Structure):
     _fields_ = _Answer._fields_ + [("house", ctypes.c_uint64), ("differs", ctypes.c_uint64)]
 
 
+class _Feeding(ctypes.Structure):
+    _fields_ = [
+        ("imposed", ctypes.c_uint64),
+        ("imposed_major", ctypes.c_uint32),
+        ("imposed_minor", ctypes.c_uint32),
+        ("phase", ctypes.c_uint64),
+        ("major", ctypes.c_uint32),
+        ("minor", ctypes.c_uint32),
+    ] + [(name, ctypes.c_uint64) for name in ("samples", "held", "at", "lines", "kept", "over", "number", "line", "start", "entries")]
+
+
+class _Fed(ctypes.Structure):
+    _fields_ = _Answer._fields_ + [("state", _Feeding)]
+
+
 _BYTES = [ctypes.c_char_p, ctypes.c_size_t]
 _TABLE = [ctypes.POINTER(ctypes.c_uint64), ctypes.c_size_t]
 _INDEX = [ctypes.POINTER(ctypes.c_uint32), ctypes.c_size_t]
@@ -122,6 +137,9 @@ def _library():
         ("vcfh_to_first", _Turned, _BYTES + _TABLE + _TABLE),
         ("vcfh_season_add", _Added, _READING + [_Sheet]),
         ("vcfh_season_merge", _Merged, [_Sheet, _Sheet]),
+        ("vcfh_feed_start", _Feeding, _NUMBER + _VERSION),
+        ("vcfh_feed", _Fed, [_Feeding] + _BYTES + _NUMBER + _BYTES + _TABLE),
+        ("vcfh_close", _Fed, [_Feeding] + _NUMBER + _BYTES + _TABLE),
     ):
         function = getattr(library, name)
         function.restype, function.argtypes = result, arguments
@@ -257,6 +275,50 @@ class Index:
         header = self._header
         words = _WORDS[header.form] * header._entries
         return call(header._data, len(header._data), header._table, words, header.form, self._index, self._places, *more)
+
+
+class Feed:
+    """A header that comes in pieces: `feed` each, then `close`. A line is read when its LF is there, and Refused is raised as soon as one
+    is refused, and by every later call."""
+
+    def __init__(self, version=None, *, form=FIRST):
+        """The header is read by the version given, such as (4, 3), or else by its own, within the limits of the form."""
+        self.form, self._version = _named(form), version
+        self._state = _vcfh.vcfh_feed_start(*((0, 0, 0) if version is None else (1, *version)))
+        self._buffer, self._table, self._ends = ctypes.create_string_buffer(4096), (ctypes.c_uint64 * 64)(), 0
+
+    def feed(self, data):
+        """Takes some bytes more; answers how many lines, bytes and entries there are so far."""
+        data = bytes(data)
+        self._make_room(data)
+        return self._answered(_vcfh.vcfh_feed(self._state, data, len(data), self.form, self._buffer, len(self._buffer), self._table, len(self._table)))
+
+    def close(self):
+        """The accepted header, once all of it was fed."""
+        lines, length, entries = self._answered(_vcfh.vcfh_close(self._state, self.form, self._buffer, len(self._buffer), self._table, len(self._table)))
+        header = Header.__new__(Header)
+        header._data, header.form, header._table, header._words = self._buffer.raw[:length], self.form, self._table, len(self._table)
+        header.lines, header._entries, header.version = lines, entries, (self._state.major, self._state.minor)
+        return header
+
+    def _make_room(self, data):
+        size = min(self._state.held + len(data), MAX_LENGTH[self.form])
+        if size > len(self._buffer):
+            larger = ctypes.create_string_buffer(2 * size)
+            ctypes.memmove(larger, self._buffer, self._state.held)
+            self._buffer = larger
+        # each line and each tab gives one entry at most
+        self._ends += data.count(b"\n") + data.count(b"\t")
+        words = _WORDS[self.form] * (self._ends + 1)
+        if words > len(self._table):
+            larger = (ctypes.c_uint64 * (2 * words))()
+            ctypes.memmove(larger, self._table, 8 * _WORDS[self.form] * self._state.kept)
+            self._table = larger
+
+    def _answered(self, answer):
+        self._state = answer.state
+        _accepted(answer)
+        return answer.line, answer.start, answer.entries
 
 
 def house_form(data, version=None, *, form=FIRST):

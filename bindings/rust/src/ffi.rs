@@ -127,6 +127,36 @@ pub struct Merged {
     pub sheet: Sheet,
 }
 
+#[repr(C)]
+#[derive(Clone, Copy, Debug)]
+pub struct Feeding {
+    pub imposed: u64,
+    pub imposed_major: u32,
+    pub imposed_minor: u32,
+    pub phase: u64,
+    pub major: u32,
+    pub minor: u32,
+    pub samples: u64,
+    pub held: u64,
+    pub at: u64,
+    pub lines: u64,
+    pub kept: u64,
+    pub over: u64,
+    pub number: u64,
+    pub line: u64,
+    pub start: u64,
+    pub entries: u64,
+}
+
+#[repr(C)]
+pub struct Fed {
+    pub number: u64,
+    pub line: u64,
+    pub start: u64,
+    pub entries: u64,
+    pub state: Feeding,
+}
+
 extern "C" {
     fn vcfh_utf8(bytes: *const u8, length: usize) -> u64;
     fn vcfh_read(header: *const u8, length: usize, imposed: u64, major: u32, minor: u32, form: u64, table: *mut u64, words: usize) -> Answer;
@@ -221,6 +251,18 @@ extern "C" {
         sheet: Sheet,
     ) -> Added;
     fn vcfh_season_merge(sheet: Sheet, other: Sheet) -> Merged;
+    fn vcfh_feed_start(imposed: u64, major: u32, minor: u32) -> Feeding;
+    fn vcfh_feed(
+        state: Feeding,
+        piece: *const u8,
+        length: usize,
+        form: u64,
+        buffer: *mut u8,
+        space: usize,
+        table: *mut u64,
+        words: usize,
+    ) -> Fed;
+    fn vcfh_close(state: Feeding, form: u64, buffer: *const u8, space: usize, table: *mut u64, words: usize) -> Fed;
 }
 
 pub fn utf8(bytes: &[u8]) -> bool {
@@ -330,4 +372,19 @@ pub fn season_add(header: &[u8], imposed: Option<Version>, form: Form, table: &m
 
 pub fn season_merge(totals: [u64; 39], other: [u64; 39]) -> Merged {
     unsafe { vcfh_season_merge(Sheet { totals }, Sheet { totals: other }) }
+}
+
+pub fn feed_start(imposed: Option<Version>) -> Feeding {
+    let (imposed, major, minor) = imposing(imposed);
+    unsafe { vcfh_feed_start(imposed, major, minor) }
+}
+
+pub fn feed(state: Feeding, piece: &[u8], form: Form, buffer: &mut [u8], table: &mut [u64]) -> Fed {
+    let (space, words) = (buffer.len(), table.len());
+    unsafe { vcfh_feed(state, piece.as_ptr(), piece.len(), form as u64, buffer.as_mut_ptr(), space, table.as_mut_ptr(), words) }
+}
+
+pub fn close(state: Feeding, form: Form, buffer: &[u8], table: &mut [u64]) -> Fed {
+    let (space, words) = (buffer.len(), table.len());
+    unsafe { vcfh_close(state, form as u64, buffer.as_ptr(), space, table.as_mut_ptr(), words) }
 }

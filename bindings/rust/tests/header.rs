@@ -1,5 +1,7 @@
 //! The library through the safe functions.
-use vcfh::{Difference, Form, Header, Kind, Refused, Register, Season, Version};
+use std::io::{self, Write};
+
+use vcfh::{Difference, Feed, Form, Header, Kind, Refused, Register, Season, Version};
 
 const COLUMNS: &str = "#CHROM\tPOS\tID\tREF\tALT\tQUAL\tFILTER\tINFO";
 
@@ -270,6 +272,26 @@ fn ids_are_found_by_kind_and_meaning() {
 }
 
 #[test]
+fn a_header_is_the_same_however_it_is_cut() {
+    let bytes = format!("##fileformat=VCFv4.3\n##contig=<ID=a,length=5>\n##b=text\n{COLUMNS}\tFORMAT\ts\n");
+    for form in [Form::First, Form::Second] {
+        let whole = Header::read_in(bytes.as_bytes(), None, form).unwrap();
+        for size in [1, 2, 20, 1000] {
+            let mut feed = Feed::new_in(None, form);
+            for piece in bytes.as_bytes().chunks(size) {
+                feed.feed(&[]).unwrap();
+                feed.feed(piece).unwrap();
+            }
+            let received = feed.close().unwrap();
+            let header = received.header();
+            assert_eq!(received.bytes(), bytes.as_bytes());
+            assert_eq!(shown(&header), shown(&whole));
+            assert_eq!((header.version(), header.lines(), header.form()), (whole.version(), whole.lines(), form));
+        }
+    }
+}
+
+#[test]
 fn headers_of_a_season_are_counted_in_whatever_order() {
     let probe = format!("##fileformat=VCFv4.3\n##cell=<ID=W07,K=0.98>\n{COLUMNS}\tFORMAT\ta\tb\n");
     let twice = "##fileformat=VCFv4.3\n##FILTER=<ID=q,Description=x>\n##FILTER=<ID=q,Description=x>\n";
@@ -305,4 +327,35 @@ fn nothing_is_counted_where_a_total_would_be_too_large() {
     assert_eq!((all.add(b"", None), all), (Err(full), before));
     let mut own = Season::default();
     assert_eq!(own.add(bare.as_bytes(), None).unwrap().unwrap().number, 14);
+}
+
+#[test]
+fn a_line_is_refused_when_its_lf_comes_and_ever_after() {
+    let twice = "##fileformat=VCFv4.3\n##FILTER=<ID=q,Description=x>\n##FILTER=<ID=\"q\",Description=x>";
+    let refusal = Refused { number: 19, line: 3, start: 51 };
+    let mut feed = Feed::new(None);
+    feed.feed(twice.as_bytes()).unwrap();
+    assert_eq!(feed.clone().close().unwrap_err(), refusal);
+    assert_eq!(feed.feed(b"\n"), Err(refusal));
+    assert_eq!(feed.feed(b""), Err(refusal));
+    assert_eq!(feed.close().unwrap_err(), refusal);
+}
+
+#[test]
+fn a_header_may_be_written_to_a_feed() {
+    let bytes = format!("##fileformat=VCFv4.2\n##META=<ID=x,Values=[a,b]>\n{COLUMNS}\n");
+    let mut feed = Feed::new(Some(Version { major: 4, minor: 3 }));
+    io::copy(&mut bytes.as_bytes(), &mut feed).unwrap();
+    feed.flush().unwrap();
+    assert_eq!(feed.close().unwrap().header().lines(), 3);
+    let error = io::copy(&mut bytes.as_bytes(), &mut Feed::new(None)).unwrap_err();
+    assert_eq!(error.kind(), io::ErrorKind::InvalidData);
+    assert_eq!(error.get_ref().unwrap().downcast_ref::<Refused>().unwrap().number, 9);
+}
+
+#[test]
+fn a_piece_past_the_limit_is_not_taken() {
+    let mut feed = Feed::new(None);
+    assert_eq!(feed.feed(&vec![b'x'; Form::First.max_length() + 1]), Err(Refused { number: 27, line: 0, start: 0 }));
+    assert_eq!(feed.close().unwrap_err().number, 27);
 }

@@ -4,3 +4,4 @@ pub mod Contigs
 pub mod Searches
 pub mod Seasons
 pub mod Verdicts
+pub mod Pieces

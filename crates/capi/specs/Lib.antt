@@ -1,4 +1,5 @@
 pub mod Answers
+pub mod Feeds
 pub mod Searches
 pub mod Seasons
 pub mod Verdicts

@@ -1,4 +1,5 @@
 // The library for programs in C, Rust or Python: answers are structs of 64-bit numbers, slices pass as pointer and length.
+pub mod feeds;
 pub mod indexes;
 pub mod sheets;
 

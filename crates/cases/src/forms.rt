@@ -22,7 +22,7 @@ pub fn blank(form: &mut [u8]) {
 }
 
 // Where the last byte that was written ends.
-fn output_end(form: &[u8]) -> usize {
+pub fn output_end(form: &[u8]) -> usize {
     let mut end = form.len();
     while 0 < end {
         if form[end - 1] != BLANK {

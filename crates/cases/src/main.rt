@@ -3,6 +3,7 @@
 mod calls;
 mod contigs;
 mod dictionaries;
+mod feeds;
 mod forms;
 mod indexes;
 mod library;
@@ -89,6 +90,12 @@ fn answer(asked: &[u8], input: &[u8], form: &mut [u8], out: &mut [u8]) -> usize 
     }
     if indexes::is_asked(asked) {
         return indexes::put(out, input, asked);
+    }
+    if words::is_asked(asked, b"cut") {
+        return feeds::put(out, input, asked, form);
+    }
+    if words::is_asked(asked, b"feed") {
+        return feeds::put(out, input, asked, form);
     }
     answer_other(asked, input, form, out)
 }

@@ -58,6 +58,11 @@ module _ (form : Form) where
   from-take t a zero (suc n) h = absurd (omega arith)
   from-take t a (suc k) (suc n) h = ap (entryIn form t a ∷_) (from-take t (a + 1) k n (omega arith))
 
+  from-append : (t : List ℕ) (a k n : ℕ) → entriesFrom form t a (k + n) ≡ entriesFrom form t a k ++ entriesFrom form t (a + k) n
+  unfolding entriesFrom
+  from-append t a zero n = let e : a + 0 ≡ a = omega arith in let z : 0 + n ≡ n = omega arith in rw (e, z)
+  from-append t a (suc k) n = let e : a + suc k ≡ a + 1 + k = omega arith in let f : suc k + n ≡ suc (k + n) = omega arith in rw (f, e) (ap (entryIn form t a ∷_) (from-append t (a + 1) k n))
+
   from-nth : (t : List ℕ) (a : ℕ) (es : List Entry) → ((n : ℕ) (e : Entry) → nth es n ≡ some e → entryIn form t (a + n) ≡ e) → entriesFrom form t a (length es) ≡ es
   unfolding entriesFrom
   from-nth t a [] h = refl
@@ -192,28 +197,37 @@ module _ (form : Form) where
       (put-roomy (stored form t n (e ∷ [])) (n + 1) es (rw (stored-room t n (e ∷ [])) (omega arith)) ∙ stored-more t n (e ∷ []) es refl)
 
   -- the words of an entry that was stored
-  words-stored : (t : List ℕ) (es : List Entry) (n : ℕ) {e : Entry} → length es ≤ room form t → nth es n ≡ some e
-      → (n < room form (stored form t 0 es)) × (wordsAt form (stored form t 0 es) n ≡ wordsOf form e)
+  words-stored : (t : List ℕ) (m : ℕ) (es : List Entry) (n : ℕ) {e : Entry} → m + length es ≤ room form t → nth es n ≡ some e
+      → (m + n < room form (stored form t m es)) × (wordsAt form (stored form t m es) (m + n) ≡ wordsOf form e)
   unfolding stored wordsAt
-  words-stored t es n l a =
-      let d = words-nth es (drop (0 + length (words form es)) t) n a in
-      let z : wordCount form * 0 ≡ 0 = omega arith in
-      let f = entries-fit form t (length es) l in
-      let s : sets t (wordCount form * 0) (words form es) ≡ words form es ++ drop (0 + length (words form es)) t = rw z (sets-eq (words form es) t 0 (rw (words-count es) (omega arith))) in
-      let i : n < room form (sets t (wordCount form * 0) (words form es)) = rw (stored-room t 0 es) (omega (arith, d .0)) in
-      (i, rw (lt-ltb n (room form (sets t (wordCount form * 0) (words form es))) i, wordsAt) (ap (λ (x : List ℕ). take (wordCount form) (drop (wordCount form * n) x)) s ∙ d .1))
+  words-stored t m es n l a =
+      let c = wordCount form in
+      let ws = words form es in
+      let d = words-nth es (drop (c * m + length ws) t) n a in
+      let f = entries-fit form t (m + length es) l in
+      let g : c * m + length ws ≤ length t = rw (words-count es) (omega arith) in
+      let before : length (take (c * m) t) ≡ c * m = simp length-take (omega arith) in
+      let s : sets t (c * m) ws ≡ take (c * m) t ++ (ws ++ drop (c * m + length ws) t) = sets-eq ws t (c * m) g ∙ append-assoc (take (c * m) t) ws (drop (c * m + length ws) t) in
+      let i : m + n < room form (sets t (c * m) ws) = rw (stored-room t m es) (omega (arith, d .0)) in
+      let z : c * (m + n) ≡ length (take (c * m) t) + c * n = rw before (omega arith) in (
+        i,
+        rw (lt-ltb (m + n) (room form (sets t (c * m) ws)) i, wordsAt)
+            (ap (λ (x : List ℕ). take c (drop (c * (m + n)) x)) s ∙ rw (z, drop-append-add (take (c * m) t) (ws ++ drop (c * m + length ws) t) (c * n)) (d .1)),
+      )
 
-  entry-back : (t : List ℕ) (es : List Entry) (n : ℕ) {e : Entry} → length es ≤ room form t → nth es n ≡ some e → Storable form e → entryIn form (stored form t 0 es) n ≡ e
+  entry-back : (t : List ℕ) (m : ℕ) (es : List Entry) (n : ℕ) {e : Entry} → m + length es ≤ room form t → nth es n ≡ some e → Storable form e → entryIn form (stored form t m es) (m + n) ≡ e
   unfolding entryIn
-  entry-back t es n {e} l a s = ap (unpacked form) (words-stored t es n l a .1) ∙ unpacked-words form e s
+  entry-back t m es n {e} l a s = ap (unpacked form) (words-stored t m es n l a .1) ∙ unpacked-words form e s
 
   -- the calls find it
   pub entry-stored : (t : List ℕ) (es : List Entry) (n : ℕ) {e : Entry} → length es ≤ room form t → nth es n ≡ some e
       → (h : Bytes) → Storable form e → wellFormed (length h) e ≡ true → entryAt form h (stored form t 0 es) n ≡ some e
   unfolding entryAt wordsClear
   entry-stored t es n {e} l a h s w =
-      let d = words-stored t es n l a in
-      rw (lt-ltb n (room form (stored form t 0 es)) (d .0), d .1, words-clear form e s, entry-back t es n l a s, w, entryAt) (ap some (entry-back t es n l a s))
+      let z : 0 + n ≡ n = omega arith in
+      let d = rw z at (words-stored t 0 es n (omega arith) a) in
+      let b = rw z at (entry-back t 0 es n (omega arith) a s) in
+      rw (lt-ltb n (room form (stored form t 0 es)) (d .0), d .1, words-clear form e s, b, w, entryAt) (ap some b)
 
   storable-nth : (es : List Entry) (n : ℕ) {e : Entry} → All (Storable form) es → nth es n ≡ some e → Storable form e
   storable-nth [] n a h = none-not h
@@ -228,13 +242,27 @@ storable form {size} h e s =
     let n = s .fields in
     storable-within form e (f .high) (f .tag) (omega arith) l (omega arith) (omega arith) (omega arith) (omega arith) (s .uncounted)
 
--- the entries that were stored, and no others
-pub entries-kept : (form : Form) (t : List ℕ) (es : List Entry) {n : ℕ} → length es ≡ n → n ≤ room form t → All (Storable form) es → entriesIn form (firstEntries form (stored form t 0 es) n) ≡ es
+-- the entries that stood before those that were stored, these, and no others
+pub entries-more : (form : Form) (t : List ℕ) (m : ℕ) (es : List Entry) {n : ℕ} → n ≡ m + length es → n ≤ room form t → All (Storable form) es
+    → entriesIn form (firstEntries form (stored form t m es) n) ≡ entriesIn form (firstEntries form t m) ++ es
 unfolding entriesIn
+entries-more form t m es {n} e l a =
+    let s = stored form t m es in
+    let z : 0 + m ≡ m = omega arith in
+    let before : entriesFrom form s 0 m ≡ entriesIn form (firstEntries form t m)
+    = from-same form s t 0 m (λ i h. sym (entry-first form s m i (rw (stored-room form t m es) (omega (arith, e))) (omega arith)) ∙ ap (λ (x : List ℕ). entryIn form x i) (first-stays form t m m es (omega arith)) ∙ entry-first form t m i (omega (arith, e)) (omega arith))
+    ∙ sym (from-take form t 0 (room form t) m (omega (arith, e))) ∙ sym (first-entries form t m) in
+    let after : entriesFrom form s (0 + m) (length es) ≡ es = rw z (from-nth form s m es (λ i x q. entry-back form t m es i (omega (arith, e)) q (storable-nth form es i a q))) in
+    first-entries form s n
+    ∙ from-take form s 0 (room form s) n (rw (stored-room form t m es) l)
+    ∙ ap (entriesFrom form s 0) e
+    ∙ from-append form s 0 m (length es)
+    ∙ rw (before, after)
+
+pub entries-kept : (form : Form) (t : List ℕ) (es : List Entry) {n : ℕ} → length es ≡ n → n ≤ room form t → All (Storable form) es → entriesIn form (firstEntries form (stored form t 0 es) n) ≡ es
 entries-kept form t es {n} e l a =
-    first-entries form (stored form t 0 es) n
-    ∙ from-take form (stored form t 0 es) 0 (room form (stored form t 0 es)) n (rw (stored-room form t 0 es) l)
-    ∙ rw (← e) (from-nth form (stored form t 0 es) 0 es (λ i x q. let z : 0 + i ≡ i = omega arith in rw z (entry-back form t es i (omega arith) q (storable-nth form es i a q))))
+    let z : n ≡ 0 + length es = omega (arith, e) in
+    entries-more form t 0 es z l a ∙ ap (_++ es) (first-entries form t 0)
 
 -- those of a reading
 pub entries-stored : (form : Form) {size : ℕ} → size ≤ limitsBy form .header → (t : List ℕ) (es : List Entry) {n : ℕ} → length es ≡ n → n ≤ room form t → All (Stands (limitsBy form) size) es

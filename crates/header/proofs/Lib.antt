@@ -1,3 +1,5 @@
+pub mod Steps
+pub mod Whole
 pub mod Verdicts
 pub mod Parsers
 pub mod Fields

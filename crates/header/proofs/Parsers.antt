@@ -1,52 +1,56 @@
--- One line after the other: what is left of the header, read from here, gives the whole. Assumes nothing.
-use Prim.Native.Nat.{ℕ, suc, _+_, _-_, _≤_, _<_}
+-- One line after the other, in the code: what is left of the lines, read from here, is what is left of those from the spot where reading
+-- began. Assumes nothing.
+use Prim.Native.Nat.{ℕ, suc, _+_, _-_, _^_, _≤_, _<_}
 use native.Mathlib.Omega.{arith}
 use mathlib.Core.Path.{_≡_, refl, sym, ap, ap₂, subst, _∙_}
 use mathlib.Core.Bool.{Bool, true, false, not}
 use mathlib.Core.List.{List, [], _∷_, _++_, append-assoc, append-nil}
-use mathlib.Core.Option.{Option, none}
-use lib.Dec.{ltb}
-use lib.ListN.{length, drop, length-append}
-use borrow.Author.Tests.{le-leb, lt-leb, ltb-true, ltb-false, le-ltb}
-use Rattle.values.specs.Bytes.{Bytes, LF, is, any, part}
+use mathlib.Core.Option.{Option, none, some}
+use lib.Dec.{leb, ltb}
+use lib.ListN.{length, take, drop, length-append, length-drop, drop-of-length-le}
+use lib.Seq.{take-all, drop-drop, drop-append-add}
+use borrow.Author.Tests.{le-leb, lt-leb, leb-true, ltb-true, ltb-false, lt-ltb, le-ltb}
+use Rattle.values.specs.Bytes.{Bytes, part}
 use Rattle.values.specs.Utf8.{isAscii}
 use Rattle.values.proofs.Ascii.{ascii-utf8, ascii-part}
-use Rattle.values.proofs.Tests.{not-true, not-false}
+use Rattle.values.proofs.Lists.{none-not}
+use Rattle.values.proofs.Tests.{pass, fail, test, not-true, not-false}
 use Rattle.rules.specs.Answer.{Answer, ok, refuse}
 use Rattle.rules.specs.Sizes.{Limits}
 use Rattle.rules.specs.Version.{Version}
 use Rattle.rules.specs.Lines.{pieces, lineOf}
-use Rattle.rules.specs.Record.{Record}
-use Rattle.rules.specs.Entry.{Entry, formatKind, plainEntry, ifCounted, withCounts, columnEntries}
-use Rattle.rules.specs.Reading.{State, empty, ready, done, step, Reading, stop, following, atEnd, run, reading}
-use Rattle.rules.proofs.Alls.{all-append, all-left}
-use Rattle.rules.proofs.Firsts.{on-ok}
-use Rattle.rules.proofs.Pieces.{Pieces, piece-line, pieces-fine}
-use Rattle.rules.proofs.Sound.{good-snoc, Taken, step-taken, run-refused, run-full, run-more}
+use Rattle.rules.specs.Columns.{Columns}
+use Rattle.rules.specs.Entry.{Entry, formatKind, columnsKind, sampleKind, plainEntry, ifCounted, withCounts, samplesStart, sampleEntries, columnEntries}
+use Rattle.rules.specs.Reading.{empty, stop, reading}
+use Rattle.rules.proofs.Alls.{all-append, all-map}
+use Rattle.rules.proofs.Firsts.{on-ok, was, not-read, see}
+use Rattle.rules.proofs.Stands.{Stands}
 use Rattle.rules.proofs.Trace.{first-line}
-use Rattle.rules.proofs.Stands.{Stands, reading-stands}
 use Rattle.records.specs.Refusals.{number}
-use Rattle.records.proofs.Refusals.{number-suc}
 use Rattle.records.specs.declared.file_format.FileFormat.{FileFormat}
 use Rattle.records.specs.declared.refusal.Refusal.{Refusal}
 use Rattle.records.specs.declared.refusal.Refusal.the-variants.{TableFull, Empty, MissingHeader, HeaderTooLong}
 use Rattle.entries.specs.declared.entry.Entry.{Entry as CodeEntry}
-use Rattle.entries.specs.Values.{entryOf, limitsOf, limitsBy}
+use Rattle.entries.specs.declared.form.Form.{Form}
+use Rattle.entries.specs.declared.form.Form.the-variants.{First, Second}
 use Rattle.entries.specs.declared.limits.Limits.{Limits as CodeLimits}
+use Rattle.entries.specs.Values.{entryOf, limitsOf, limitsBy}
 use Rattle.entries.specs.Tables.{room, stored, put, firstEntries, entriesIn}
-use Rattle.entries.proofs.Stored.{first-entries, stored-room, stored-length, stored-none, stored-more, entries-stored, put-fits}
+use Rattle.entries.proofs.Words.{Storable}
+use Rattle.entries.proofs.Stored.{first-entries, first-room, entries-count, stored-room, stored-length, stored-none, stored-more, entries-more, storable, put-fits}
 use Rattle.lines.specs.Lines.{LineIs}
 use Rattle.lines.specs.declared.line.Line.{Line}
 use Rattle.lines.proofs.Lines.{pieces-past, pieces-there}
 use Rattle.columns.specs.HeaderLines.{columnsPut}
 use Rattle.columns.proofs.Answers.{columns-room}
 use Rattle.columns.proofs.Stores.{columns-put}
-use Rattle.ids.specs.Marks.{Marked}
-use Rattle.ids.proofs.Markings.{unmarked}
-use Rattle.header.specs.Verdicts.{formatEntry, PhaseIs, ReadyRows, Tabled, Says, New, Ended, Begun, LineJudged}
-use Rattle.header.specs.Parsers.{answerMeans, readingMeans, readInto, refusedAs, ReadCall, Kept, LineHere, Stops, PartialIs, Bounds, KeepsLine, Parses, Finishes}
-use Rattle.header.specs.declared.verdict.Phase.{Phase}
-use Rattle.header.specs.declared.verdict.Phase.the-variants as phase
+use Rattle.ids.specs.Marks.{markAll, Marked}
+use Rattle.ids.proofs.Markings.{unmarked, unmarked-last, unmarked-all, all-marked, all-length}
+use Rattle.header.specs.Steps.{Stage, stepOn, Point, Went, passed, goOn, startPoint, Spot, Told, startSpot, fits, pointOf, wentOn, toldBy, readOn, tableOn}
+use Rattle.header.specs.Verdicts.{stageOf, formatEntry, Ended, Says, LineJudged}
+use Rattle.header.specs.Parsers.{answerMeans, readInto, refusedAs, ReadCall, spotIn, advanceMeans, endedAt, refusedAt, closedAt, ReadsOn, Begins, BeginsMarked, Bounds, spotAfter, tableAfter, partialMeans, Stepped, KeepsLine, Parses}
+use Rattle.header.specs.declared.phase.Phase.{Phase}
+use Rattle.header.specs.declared.phase.Phase.the-variants as phase
 use Rattle.header.specs.declared.verdict.Verdict.{Verdict}
 use Rattle.header.specs.declared.verdict.Verdict.the-variants as verdict
 use Rattle.header.specs.declared.parser.Outcome.the-variants as outcome
@@ -54,93 +58,28 @@ use Rattle.header.specs.declared.parser.ReadAnswer.{ReadAnswer}
 use Rattle.header.specs.declared.parser.Parser.{Parser}
 use Rattle.header.specs.declared.parser.Partial.{Partial}
 use Rattle.header.specs.declared.parser.Partial.the-variants as partial
-use Rattle.rules.specs.Claims.{All, LineAt, Row, Rows}
-use Rattle.entries.specs.declared.form.Form.{Form}
-
-following-append : (es fs : List Entry) (r : Reading) → following es (following fs r) ≡ following (es ++ fs) r
-following-append es fs r = ap (λ (x : List Entry). record { number = r .number; line = r .line; start = r .start; entries = x; state = r .state }) (sym (append-assoc es fs (r .entries)))
-
-rows-snoc : (lim : Limits) (h : Bytes) (v : Version) (es : List Entry) (rs : List Record) (e : Entry) (r : Record) → Rows lim h v es rs → Row lim h v e r → Rows lim h v (es ++ e ∷ []) (rs ++ r ∷ [])
-rows-snoc lim h v [] [] e r a b = (b, tt)
-rows-snoc lim h v [] (x ∷ rs) e r a b = absurd a
-rows-snoc lim h v (y ∷ es) [] e r a b = absurd a
-rows-snoc lim h v (y ∷ es) (x ∷ rs) e r a b = (a .0, rows-snoc lim h v es rs e r (a .1) b)
-
--- One line
-
-module _ (form : Form) (imposed : Option Version) (h t₀ ms t : List ℕ) (p : Parser) (l : Bytes) (next : ℕ) (k : Kept form imposed h t₀ ms t p) (here : LineHere h (p .at) l next) where
-  abbrev answer : Answer (State × List Entry)
-  answer = step (limitsBy form) imposed (p .at) (k .state) l
-
-  sized : room form t ≡ room form t₀
-  sized = ap (room form) (k .stored-are) ∙ stored-room form t₀ 0 (k .es)
-
-  -- the reading, with this line in front of what is left
-  unrolled : readInto form imposed t₀ h ≡ following (k .es) (run (limitsBy form) imposed (room form t₀) (p .line) (p .at) (p .count) (k .state) (here .piece ∷ here .pieces-after))
-  unrolled = k .rest ∙ ap (λ (ps : List Bytes). following (k .es) (run (limitsBy form) imposed (room form t₀) (p .line) (p .at) (p .count) (k .state) ps)) (here .first)
-
-  of-piece : {a : Answer (State × List Entry)} → answer ≡ a → step (limitsBy form) imposed (p .at) (k .state) (lineOf (here .piece)) ≡ a
-  of-piece e = ap (step (limitsBy form) imposed (p .at) (k .state)) (sym (here .is-line)) ∙ e
-
-  line-stops : (x : Refusal) → answer ≡ refuse (number x) → {t′ : List ℕ} → t′ ≡ t → Stops form imposed h t₀ t′ p x
-  line-stops x e w = record {
-    state = k .state;
-    es = k .es;
-    stored-are = w ∙ k .stored-are;
-    counted = k .counted;
-    whole = unrolled ∙ ap (following (k .es)) (run-refused (limitsBy form) imposed (room form t₀) (p .line) (p .at) (p .count) (k .state) (here .piece) (here .pieces-after) (of-piece e));
-  }
-
-  module _ {q : State × List Entry} (e : answer ≡ ok q) where
-    line-full : room form t < p .count + length (q .1) → {t′ : List ℕ} → t′ ≡ t → Stops form imposed h t₀ t′ p TableFull
-    line-full f w = record {
-      state = k .state;
-      es = k .es;
-      stored-are = w ∙ k .stored-are;
-      counted = k .counted;
-      whole = unrolled ∙ ap (following (k .es)) (run-full (limitsBy form) imposed (room form t₀) (p .line) (p .at) (p .count) (k .state) (here .piece) (here .pieces-after) (of-piece e)
-          (lt-leb (p .count + length (q .1)) (room form t₀) (omega (arith, sized))));
-    }
-
-    line-kept : p .count + length (q .1) ≤ room form t → {t′ : List ℕ} → t′ ≡ stored form t (p .count) (q .1) → {ms′ : Bytes} (x : Phase) → PhaseIs x (q .0) → Tabled (limitsBy form) h ms′ (q .0) (k .es ++ q .1)
-        → {n : ℕ} → n ≡ p .count + length (q .1)
-        → PartialIs form imposed h t₀ p (partial.Next (record { phase = x; line = p .line + 1; at = next; count = n })) ms′ t′
-    line-kept f {t′} s {ms′} x ph tb {n} c =
-        let i : suc (p .line) ≡ p .line + 1 = omega arith in (
-          record {
-            state = q .0;
-            es = k .es ++ q .1;
-            phase-is = ph;
-            tabled = tb;
-            stored-are = s ∙ ap (λ (y : List ℕ). stored form y (p .count) (q .1)) (k .stored-are) ∙ stored-more form t₀ 0 (k .es) (q .1) (omega (arith, k .counted));
-            counted = length-append (k .es) (q .1) ∙ ap (_+ length (q .1)) (k .counted) ∙ sym c;
-            roomy = omega (arith, sized, c);
-            lines = omega (arith, k .lines, here .moves);
-            inside = here .inside;
-            small = k .small;
-            rest = unrolled
-                ∙ ap (following (k .es)) (
-                run-more (limitsBy form) imposed (room form t₀) (p .line) (p .at) (p .count) (k .state) (here .piece) (here .pieces-after) (of-piece e) (le-leb (p .count + length (q .1)) (room form t₀) (omega (arith, sized)))
-                ∙ rw (i, ← here .stepped, ← c, ← here .left))
-                ∙ following-append (k .es) (q .1) (run (limitsBy form) imposed (room form t₀) (p .line + 1) next n (q .0) (pieces (drop next h)));
-          },
-          here .moves,
-        )
-
-    line-taken : Taken (limitsBy form) imposed (p .at) (k .state) l q
-    line-taken = on-ok (Taken (limitsBy form) imposed (p .at) (k .state) l) (step-taken (limitsBy form) imposed (p .at) (k .state) l) e
-
-    line-at : LineAt (limitsBy form) h (p .at) l
-    line-at =
-        let f = first-line h (p .at) (here .piece) (here .pieces-after) (k .inside) (here .first) in
-        record {
-          here = ap (λ (x : Bytes). part h (p .at) (p .at + length x)) (here .is-line) ∙ f .here ∙ sym (here .is-line);
-          inside = subst (λ (x : Bytes). p .at + length x ≤ length h) (sym (here .is-line)) (f .inside);
-          short = line-taken .0;
-          utf8 = line-taken .1;
-        }
+use Rattle.header.specs.declared.parser.Advance.{Advance}
+use Rattle.header.specs.declared.parser.Advance.the-variants as advance
+use Rattle.header.proofs.Steps.{Fit, fit, fitting, took-stand, piece-some, go-past, go-refused, go-full, go-more, go-none, Further, goes-inside}
+use Rattle.header.proofs.Whole.{Tells, whole}
+use Rattle.rules.specs.Claims.{All}
 
 -- What is kept of a line
+
+-- where there is room for the entries, and where there is none
+module _ (form : Form) (s : Spot) (next : ℕ) (t : List ℕ) (q : Stage × List Entry) where
+  spot-more : leb (s .count + length (q .1)) (room form t) ≡ true
+      → spotAfter (room form t) s next (ok q) ≡ ok (record { stage = q .0; line = s .line + 1; at = next; count = s .count + length (q .1) })
+  spot-more e = rw (spotAfter, e)
+
+  spot-full : leb (s .count + length (q .1)) (room form t) ≡ false → spotAfter (room form t) s next (ok q) ≡ refuse 24
+  spot-full e = rw (spotAfter, e)
+
+  table-more : leb (s .count + length (q .1)) (room form t) ≡ true → tableAfter form t (s .count) (ok q) ≡ stored form t (s .count) (q .1)
+  table-more e = rw (tableAfter, e)
+
+  table-full : leb (s .count + length (q .1)) (room form t) ≡ false → tableAfter form t (s .count) (ok q) ≡ t
+  table-full e = rw (tableAfter, e)
 
 -- the entry x was put, if there was room for it
 module _ (form : Form) (t : List ℕ) (n : ℕ) (x : Entry) {q : Bool} (a : q ≡ ltb n (room form t)) {t′ : List ℕ} (b : t′ ≡ put form t n x) where
@@ -157,295 +96,516 @@ module _ (form : Form) (t : List ℕ) (n : ℕ) (x : Entry) {q : Bool} (a : q �
   was-put : not q ≡ false → t′ ≡ stored form t n (x ∷ [])
   was-put d = b ∙ put-fits form t n x (some-room d)
 
+-- no new line clashes with a column line or its samples
+samples-marked : (h ms : Bytes) (at : ℕ) (xs : List Bytes) → All (Marked h ms) (sampleEntries at xs)
+unfolding sampleEntries
+samples-marked h ms at [] = tt
+samples-marked h ms at (x ∷ xs) = (unmarked-last h ms (plainEntry sampleKind at (length x)) (omega arith), samples-marked h ms (at + length x + 1) xs)
+
+columns-marked : (h ms : Bytes) (start : ℕ) (l : Bytes) (c : Columns) → All (Marked h ms) (columnEntries start l c)
+unfolding columnEntries
+columns-marked h ms start l c = (unmarked-last h ms (plainEntry columnsKind start (length l)) (omega arith), samples-marked h ms (start + samplesStart) (c .samples))
+
 module _ (form : Form) (p : Parser) (h : Bytes) (end next : ℕ) (v : Verdict) (t : List ℕ) where
   abbrev l : Bytes
   l = part h (p .at) end
 
-  pub keep-refused : {x : Refusal} → v ≡ verdict.Refused x → KeepsLine form p h end next v t (partial.Refused x) t
-  keep-refused {x} e = record {
-    is = λ imposed t₀ ms ms′ k here m s.
-        line-stops form imposed h t₀ ms t p l next k here x (subst (Says (limitsBy form) h ms′ (step (limitsBy form) imposed (p .at) (k .state) l) (p .at) (k .state) l) e s) refl;
-  }
+  abbrev Keeps : Partial → List ℕ → Type 0
+  Keeps r t′ = KeepsLine form p h end next v t r t′
+
+  abbrev SaysHere : Bytes → Answer (Stage × List Entry) → Verdict → Type 0
+  SaysHere ms a x = Says (limitsBy form) h ms a (p .at) (stageOf (p .phase)) l x
+
+  stays : (ms : Bytes) {a : Answer (Stage × List Entry)} (x : Refusal) → a ≡ refuse (number x) → Stepped form h ms p next a t (partial.Refused x) t
+  stays ms x e = rw e (record { told = refl; table = refl; marked = tt })
+
+  module _ (ms : Bytes) {a : Answer (Stage × List Entry)} {q : Stage × List Entry} (e : a ≡ ok q) (m : All (Marked h ms) (q .1)) {t′ : List ℕ} where
+    full : room form t < p .count + length (q .1) → t′ ≡ t → Stepped form h ms p next a t (partial.Refused TableFull) t′
+    full f w = let b = lt-leb (p .count + length (q .1)) (room form t) f in rw e (record { told = sym (spot-full form (spotIn p) next t q b); table = w ∙ sym (table-full form (spotIn p) next t q b); marked = m })
+
+    taken : p .count + length (q .1) ≤ room form t → t′ ≡ stored form t (p .count) (q .1) → (x : Phase) → stageOf x ≡ q .0 → {n : ℕ} → n ≡ p .count + length (q .1)
+        → Stepped form h ms p next a t (partial.Next (record { phase = x; line = p .line + 1; at = next; count = n })) t′
+    taken f w x g c =
+        let b = le-leb (p .count + length (q .1)) (room form t) f in
+        rw e (record { told = rw (g, c) (sym (spot-more form (spotIn p) next t q b)); table = w ∙ sym (table-more form (spotIn p) next t q b); marked = m })
+
+  pub keep-refused : {x : Refusal} → v ≡ verdict.Refused x → Keeps (partial.Refused x) t
+  keep-refused {x} e = record { is = λ ms a s. stays ms x (subst (SaysHere ms a) e s) }
 
   module _ {f : FileFormat} (e : v ≡ verdict.Begin f) {s : Bytes} (es : s ≡ l) {n : ℕ} (en : n ≡ ifCounted (limitsBy form .counted) 10)
       {y : CodeEntry} (ey : entryOf y ≡ withCounts (record { keyLength = n; fieldCount = 0 }) (plainEntry formatKind (p .at) (length s))) {q : Bool} (a : q ≡ ltb (p .count) (room form t))
       {t′ : List ℕ} (b : t′ ≡ put form t (p .count) (entryOf y)) where
-    begun : {imposed : Option Version} {t₀ ms : List ℕ} (ms′ : List ℕ) (k : Kept form imposed h t₀ ms t p) → Says (limitsBy form) h ms′ (step (limitsBy form) imposed (p .at) (k .state) l) (p .at) (k .state) l v
-        → Begun (limitsBy form) (step (limitsBy form) imposed (p .at) (k .state) l) (p .at) (k .state) l f
-    begun {imposed} ms′ k s = subst (Says (limitsBy form) h ms′ (step (limitsBy form) imposed (p .at) (k .state) l) (p .at) (k .state) l) e s
+    abbrev own : Entry
+    own = formatEntry (limitsBy form) (p .at) (length l)
 
-    pub begin-full : not q ≡ true → KeepsLine form p h end next v t (partial.Refused TableFull) t′
+    own-is : entryOf y ≡ own
+    own-is = ey ∙ ap₂ (λ (k : ℕ) (x : Bytes). withCounts (record { keyLength = k; fieldCount = 0 }) (plainEntry formatKind (p .at) (length x))) en es
+
+    pub begin-full : not q ≡ true → Keeps (partial.Refused TableFull) t′
     begin-full d = record {
-      is = λ imposed t₀ ms ms′ k here m s.
-          line-full form imposed h t₀ ms t p l next k here (begun ms′ k s .begins) (omega (arith, no-room form t (p .count) (entryOf y) a b d)) (not-put form t (p .count) (entryOf y) a b d);
+      is = λ ms z s. full ms (subst (SaysHere ms z) e s) (unmarked h ms own (omega arith), tt) (omega (arith, no-room form t (p .count) (entryOf y) a b d)) (not-put form t (p .count) (entryOf y) a b d);
     }
 
-    pub begin-kept : not q ≡ false → KeepsLine form p h end next v t (partial.Next (record { phase = phase.Ready f; line = p .line + 1; at = next; count = p .count + 1 })) t′
+    pub begin-kept : not q ≡ false → Keeps (partial.Next (record { phase = phase.Ready f; line = p .line + 1; at = next; count = p .count + 1 })) t′
     begin-kept d = record {
-      is = λ imposed t₀ ms ms′ k here m s.
-          let g = begun ms′ k s in
-          let none : k .es ≡ [] = subst (λ (x : State). Tabled (limitsBy form) h ms x (k .es)) (g .state) (k .tabled) in
-          let own = formatEntry (limitsBy form) (p .at) (length l) in
-          line-kept form imposed h t₀ ms t p l next k here (g .begins) (omega (arith, some-room form t (p .count) (entryOf y) a b d))
-          (was-put form t (p .count) (entryOf y) a b d ∙ ap (λ (x : Entry). stored form t (p .count) (x ∷ [])) (ey ∙ ap₂ (λ (k : ℕ) (x : Bytes). withCounts (record { keyLength = k; fieldCount = 0 }) (plainEntry formatKind (p .at) (length x))) en es)) (phase.Ready f) refl
-          (record {
-            own = own;
-            rows = [];
-            is = ap (_++ own ∷ []) none;
-            kind = refl;
-            all = tt;
-            good = record { sized = g .sized; good = tt; apart = tt };
-            marked = subst (λ (es : List Entry). All (Marked h ms′) (es ++ own ∷ [])) (sym none) (unmarked h ms′ own (omega arith), tt);
-          })
-          refl;
+      is = λ ms z s. taken ms (subst (SaysHere ms z) e s) (unmarked h ms own (omega arith), tt) (omega (arith, some-room form t (p .count) (entryOf y) a b d))
+          (was-put form t (p .count) (entryOf y) a b d ∙ ap (λ (x : Entry). stored form t (p .count) (x ∷ [])) own-is) (phase.Ready f) refl refl;
     }
 
   module _ {y : CodeEntry} (e : v ≡ verdict.Entry y) {q : Bool} (a : q ≡ ltb (p .count) (room form t)) {t′ : List ℕ} (b : t′ ≡ put form t (p .count) (entryOf y)) where
-    entered : {imposed : Option Version} {t₀ ms : List ℕ} (ms′ : List ℕ) (k : Kept form imposed h t₀ ms t p) → Says (limitsBy form) h ms′ (step (limitsBy form) imposed (p .at) (k .state) l) (p .at) (k .state) l v
-        → New (limitsBy form) h ms′ (step (limitsBy form) imposed (p .at) (k .state) l) (p .at) (k .state) l (entryOf y)
-    entered {imposed} ms′ k s = subst (Says (limitsBy form) h ms′ (step (limitsBy form) imposed (p .at) (k .state) l) (p .at) (k .state) l) e s
-
-    pub entry-full : not q ≡ true → KeepsLine form p h end next v t (partial.Refused TableFull) t′
+    pub entry-full : not q ≡ true → Keeps (partial.Refused TableFull) t′
     entry-full d = record {
-      is = λ imposed t₀ ms ms′ k here m s.
-          line-full form imposed h t₀ ms t p l next k here (entered ms′ k s .enters) (omega (arith, no-room form t (p .count) (entryOf y) a b d)) (not-put form t (p .count) (entryOf y) a b d);
+      is = λ ms z s. let w = subst (SaysHere ms z) e s in
+          full ms (w .0) (w .1, tt) (omega (arith, no-room form t (p .count) (entryOf y) a b d)) (not-put form t (p .count) (entryOf y) a b d);
     }
 
-    pub entry-kept : not q ≡ false → KeepsLine form p h end next v t (partial.Next (record { phase = p .phase; line = p .line + 1; at = next; count = p .count + 1 })) t′
+    pub entry-kept : not q ≡ false → Keeps (partial.Next (record { phase = p .phase; line = p .line + 1; at = next; count = p .count + 1 })) t′
     entry-kept d = record {
-      is = λ imposed t₀ ms ms′ k here m s.
-          let g = entered ms′ k s in
-          let new = entryOf y in
-          let rows = subst (λ (x : State). Tabled (limitsBy form) h ms x (k .es)) (g .state) (k .tabled) in
-          let row : Row (limitsBy form) h (g .v) new (g .r) = record { start = p .at; line = l; there = line-at form imposed h t₀ ms t p l next k here (g .enters); read = g .read; entry = g .entry } in
-          line-kept form imposed h t₀ ms t p l next k here (g .enters) (omega (arith, some-room form t (p .count) new a b d)) (was-put form t (p .count) new a b d)
-          (p .phase) (same-phase (p .phase) (g .v) (g .rs) (g .rs ++ g .r ∷ []) (subst (PhaseIs (p .phase)) (g .state) (k .phase-is)))
-          (record {
-            own = rows .own;
-            rows = rows .rows ++ new ∷ [];
-            is = ap (_++ new ∷ []) (rows .is);
-            kind = rows .kind;
-            all = rows-snoc (limitsBy form) h (g .v) (rows .rows) (g .rs) new (g .r) (rows .all) row;
-            good = good-snoc (g .v) (g .rs) (g .r) (rows .good) (g .entered) (g .fresh);
-            marked = all-append (Marked h ms′) (k .es) (new ∷ []) (m .all (k .es) (rows .marked)) (g .marked, tt);
-          })
-          refl;
+      is = λ ms z s. let w = subst (SaysHere ms z) e s in
+          taken ms (w .0) (w .1, tt) (omega (arith, some-room form t (p .count) (entryOf y) a b d)) (was-put form t (p .count) (entryOf y) a b d) (p .phase) refl refl;
     }
-      where
-        same-phase : (x : Phase) (v : Version) (rs ss : List Record) → PhaseIs x (ready v rs) → PhaseIs x (ready v ss)
-        same-phase phase.Empty v rs ss h = h
-        same-phase (phase.Ready f) v rs ss h = h
-        same-phase (phase.Done f n) v rs ss h = h
 
   module _ {f : FileFormat} {n : ℕ} (e : v ≡ verdict.Columns f n) {m : ℕ} (a : m ≡ room form t) where
-    ended : {imposed : Option Version} {t₀ ms : List ℕ} (ms′ : List ℕ) (k : Kept form imposed h t₀ ms t p) → Says (limitsBy form) h ms′ (step (limitsBy form) imposed (p .at) (k .state) l) (p .at) (k .state) l v
-        → Ended (step (limitsBy form) imposed (p .at) (k .state) l) (p .at) (k .state) l f n
-    ended {imposed} ms′ k s = subst (Says (limitsBy form) h ms′ (step (limitsBy form) imposed (p .at) (k .state) l) (p .at) (k .state) l) e s
-
-    entries-of : {a : Answer (State × List Entry)} {s : State} (g : Ended a (p .at) s l f n) → length (columnEntries (p .at) l (g .c)) ≡ 1 + n
+    entries-of : {z : Answer (Stage × List Entry)} (g : Ended z (p .at) l f n) → length (columnEntries (p .at) l (g .c)) ≡ 1 + n
     entries-of g = columns-room (p .at) l (g .c) ∙ ap (1 +_) (g .count)
 
-    pub columns-full : m - p .count ≤ n → p .count ≤ room form t → KeepsLine form p h end next v t (partial.Refused TableFull) t
+    pub columns-full : m - p .count ≤ n → p .count ≤ room form t → Keeps (partial.Refused TableFull) t
     columns-full d bound = record {
-      is = λ imposed t₀ ms ms′ k here _ s.
-          let g = ended ms′ k s in
-          line-full form imposed h t₀ ms t p l next k here (g .ends) (omega (arith, entries-of g)) refl;
+      is = λ ms z s. let g = subst (SaysHere ms z) e s in
+          full ms (g .ends) (columns-marked h ms (p .at) l (g .c)) (omega (arith, entries-of g)) refl;
     }
 
     pub columns-kept : n < m - p .count → {t′ : List ℕ} → t′ ≡ columnsPut form l (p .at) (p .count) t
-        → KeepsLine form p h end next v t (partial.Next (record { phase = phase.Done f n; line = p .line + 1; at = next; count = p .count + 1 + n })) t′
+        → Keeps (partial.Next (record { phase = phase.Done f n; line = p .line + 1; at = next; count = p .count + 1 + n })) t′
     columns-kept d c = record {
-      is = λ imposed t₀ ms ms′ k here _ s.
-          let g = ended ms′ k s in
-          let j = entries-of g in
-          line-kept form imposed h t₀ ms t p l next k here (g .ends) (omega (arith, j)) (c ∙ columns-put form l (p .at) (g .c) (g .read) (p .count) t (omega (arith, j)))
-          (phase.Done f n) (refl, g .count) tt (omega (arith, j));
+      is = λ ms z s. let g = subst (SaysHere ms z) e s in let j = entries-of g in
+          taken ms (g .ends) (columns-marked h ms (p .at) l (g .c)) (omega (arith, j)) (c ∙ columns-put form l (p .at) (g .c) (g .read) (p .count) t (omega (arith, j)))
+          (phase.Done f n) refl (omega (arith, j));
     }
 
 pub ruleset keeps = (keep-refused, begin-full, begin-kept, entry-full, entry-kept, columns-full, columns-kept)
 
 -- One line: found, judged, kept
 
--- the table's first entries are those that were stored
-module _ (form : Form) (imposed : Option Version) (h t₀ ms t : List ℕ) (p : Parser) (k : Kept form imposed h t₀ ms t p) where
-  kept-stand : All (Stands (limitsBy form) (length h)) (k .es)
-  kept-stand = all-left (Stands (limitsBy form) (length h)) (k .es) _ (subst (λ (r : Reading). All (Stands (limitsBy form) (length h)) (r .entries)) (k .rest) (reading-stands (limitsBy form) h imposed (room form t₀)))
-
-  from-table : (s : State) → Tabled (limitsBy form) h ms s (k .es) → Tabled (limitsBy form) h ms s (entriesIn form (firstEntries form t (p .count)))
-  from-table empty a = let n : p .count ≡ 0 = sym (k .counted) ∙ ap length a in rw n (first-entries form t 0)
-  from-table (ready v rs) a = subst (ReadyRows (limitsBy form) h ms v rs) (sym (ap (λ (x : List ℕ). entriesIn form (firstEntries form x (p .count))) (k .stored-are) ∙ entries-stored form (k .small) t₀ (k .es) (k .counted) (k .roomy) kept-stand)) a
-  from-table (done v rs c) a = tt
-
 module _ (form : Form) (imposed : Option Version) (plain : Bool) (p : Parser) (h ms t : List ℕ) {line : Line} (a : LineIs h (p .at) line) {kept : List ℕ} (ek : kept ≡ firstEntries form t (p .count))
     {v : Verdict} {ms′ : Bytes} (d : LineJudged (limitsBy form) h (entriesIn form kept) ms plain (p .at) (line .end) (p .phase) imposed v ms′) (r : Partial) (t′ : List ℕ) (e : KeepsLine form p h (line .end) (line .next) v t r t′) where
-  abbrev here-line : Bytes
-  here-line = part h (p .at) (line .end)
-
-  line-here : p .at ≤ length h → p .at < length h → LineHere h (p .at) here-line (line .next)
-  line-here i m =
-      let s = pieces-there h (p .at) m in
-      let q = a .first (s .piece) (s .rest) (s .is) in
-      record {
-        piece = s .piece;
-        pieces-after = s .rest;
-        first = s .is;
-        is-line = q .here;
-        stepped = q .stepped;
-        left = q .left;
-        moves = a .moves m;
-        inside = a .inside i;
-      }
-
   pub line-parsed : Parses form imposed plain p h ms t r ms′ t′
   line-parsed = record {
-    is = λ t₀ k f m.
-        let here = line-here (k .inside) m in
-        let fine : Pieces (here .piece ∷ here .pieces-after) = subst Pieces (here .first) (pieces-fine (drop (p .at) h)) in
-        let at = first-line h (p .at) (here .piece) (here .pieces-after) (k .inside) (here .first) in
-        e .is imposed t₀ ms ms′ k here (d .marks) (d .is here-line refl (k .state) (k .phase-is) (record {
-          here = ap (λ (x : Bytes). part h (p .at) (p .at + length x)) (here .is-line) ∙ at .here ∙ sym (here .is-line);
-          inside = subst (λ (x : Bytes). p .at + length x ≤ length h) (sym (here .is-line)) (at .inside);
-          line = ap (any (is LF)) (here .is-line) ∙ piece-line (here .piece) (fine .0);
-          utf8 = λ i. ascii-utf8 _ (ascii-part (line .end - p .at) (p .at) h (f i));
-          tabled = rw ek (from-table form imposed h t₀ ms t p k (k .state) (k .tabled));
-        }));
+    marks = d .marks;
+    is = λ all piece ps f u.
+        let q = a .first piece ps f in
+        let es = entriesIn form (firstEntries form t (p .count)) in
+        let here = part h (p .at) (line .end) in
+        let j = subst (λ (x : List ℕ). LineJudged (limitsBy form) h (entriesIn form x) ms plain (p .at) (line .end) (p .phase) imposed v ms′) ek d in
+        let s = j .is all here refl (λ i. ascii-utf8 here (ascii-part (line .end - p .at) 0 (drop (p .at) h) (u i))) in
+        let k = e .is ms′ (stepOn (limitsBy form) imposed h es (p .at) (stageOf (p .phase)) here) s in
+        subst (λ (n : ℕ). Stepped form h ms′ p n (stepOn (limitsBy form) imposed h es (p .at) (stageOf (p .phase)) (lineOf piece)) t r t′) (q .stepped)
+        (subst (λ (y : Bytes). Stepped form h ms′ p (line .next) (stepOn (limitsBy form) imposed h es (p .at) (stageOf (p .phase)) y) t r t′) (q .here) k);
   }
 
 -- The end
 
 module _ (p : Parser) where
-  at-end : (form : Form) (imposed : Option Version) (h t₀ ms t : List ℕ) (k : Kept form imposed h t₀ ms t p) → length h ≤ p .at → readInto form imposed t₀ h ≡ following (k .es) (atEnd (p .line) (p .at) (k .state))
-  unfolding run
-  at-end form imposed h t₀ ms t k e = k .rest ∙ ap (λ (ps : List Bytes). following (k .es) (run (limitsBy form) imposed (room form t₀) (p .line) (p .at) (p .count) (k .state) ps)) (pieces-past h (p .at) e)
+  pub finish-empty : p .phase ≡ phase.Empty → answerMeans (record { outcome = outcome.Refused Empty; line = 0; start = 0; entries = p .count }) ≡ endedAt (spotIn p)
+  finish-empty e = rw e
 
-  all-entries : (es : List Entry) → length es ≡ p .count → length (es ++ []) ≡ p .count
-  all-entries es e = ap length (append-nil es) ∙ e
+  pub finish-ready : {f : FileFormat} → p .phase ≡ phase.Ready f → answerMeans (record { outcome = outcome.Refused MissingHeader; line = p .line; start = p .at; entries = p .count }) ≡ endedAt (spotIn p)
+  finish-ready e = rw e
 
-  -- the answer is what the rules say at the end of a state of this phase
-  finished : {x : Phase} → p .phase ≡ x → {r : ReadAnswer}
-      → ((es : List Entry) → length es ≡ p .count → (s : State) → PhaseIs x s → (y : Reading) → y ≡ following es (atEnd (p .line) (p .at) s) → answerMeans r ≡ readingMeans y) → Finishes p r
-  finished e go = record {
-    is = λ form imposed h t₀ ms t k f.
-        go (k .es) (k .counted) (k .state) (subst (λ (x : Phase). PhaseIs x (k .state)) e (k .phase-is)) (readInto form imposed t₀ h) (at-end form imposed h t₀ ms t k f);
-  }
-
-  pub finish-empty : p .phase ≡ phase.Empty → Finishes p (record { outcome = outcome.Refused Empty; line = 0; start = 0; entries = p .count })
-  finish-empty e = finished e go
-    where
-      go : (es : List Entry) → length es ≡ p .count → (s : State) → PhaseIs phase.Empty s → (x : Reading) → x ≡ following es (atEnd (p .line) (p .at) s)
-          → answerMeans (record { outcome = outcome.Refused Empty; line = 0; start = 0; entries = p .count }) ≡ readingMeans x
-      go es c empty q x w = rw (w, all-entries es c)
-      go es c (ready v rs) q x w = absurd q
-      go es c (done v rs d) q x w = absurd q
-
-  pub finish-ready : {f : FileFormat} → p .phase ≡ phase.Ready f → Finishes p (record { outcome = outcome.Refused MissingHeader; line = p .line; start = p .at; entries = p .count })
-  finish-ready {f} e = finished e go
-    where
-      go : (es : List Entry) → length es ≡ p .count → (s : State) → PhaseIs (phase.Ready f) s → (x : Reading) → x ≡ following es (atEnd (p .line) (p .at) s)
-          → answerMeans (record { outcome = outcome.Refused MissingHeader; line = p .line; start = p .at; entries = p .count }) ≡ readingMeans x
-      go es c empty q x w = absurd q
-      go es c (ready v rs) q x w = rw (w, all-entries es c)
-      go es c (done v rs d) q x w = absurd q
-
-  pub finish-done : {f : FileFormat} {n : ℕ} → p .phase ≡ phase.Done f n → Finishes p (record { outcome = outcome.Accepted f n; line = p .line; start = p .at; entries = p .count })
-  finish-done {f} {n} e = finished e go
-    where
-      go : (es : List Entry) → length es ≡ p .count → (s : State) → PhaseIs (phase.Done f n) s → (x : Reading) → x ≡ following es (atEnd (p .line) (p .at) s)
-          → answerMeans (record { outcome = outcome.Accepted f n; line = p .line; start = p .at; entries = p .count }) ≡ readingMeans x
-      go es c empty q x w = absurd q
-      go es c (ready v rs) q x w = absurd q
-      go es c (done v rs d) q x w = rw (w, all-entries es c, q .0, q .1)
+  pub finish-done : {f : FileFormat} {n : ℕ} → p .phase ≡ phase.Done f n → answerMeans (record { outcome = outcome.Accepted f n; line = p .line; start = p .at; entries = p .count }) ≡ endedAt (spotIn p)
+  finish-done e = rw e
 
 pub ruleset finishes = (finish-empty, finish-ready, finish-done)
 
--- A whole header
+-- What fits
 
-module _ (form : Form) (imposed : Option Version) (h t₀ : List ℕ) where
-  too-long : limitsBy form .header < length h → readInto form imposed t₀ h ≡ stop 27 0 0 empty
-  unfolding reading
-  too-long e = rw (reading, lt-leb (length h) (limitsBy form .header) e)
+module _ (form : Form) (size : ℕ) (t : List ℕ) (p : Parser) {given : CodeLimits} (g : limitsOf given ≡ limitsBy form) where
+  most : given .header ≡ limitsBy form .header
+  most = ap (λ (x : Limits). x .header) g
 
-  -- the code has the form's limits in hand
-  given-header : {given : CodeLimits} → limitsOf given ≡ limitsBy form → given .header ≡ limitsBy form .header
-  given-header g = ap (λ (x : Limits). x .header) g
+  pub fit-long : given .header < size → false ≡ fits form size t (spotIn p)
+  unfolding fits
+  fit-long e = rw (lt-leb size (limitsBy form .header) (rw (← most) e))
 
-  pub read-long : {given : CodeLimits} → limitsOf given ≡ limitsBy form → given .header < length h → {r : ReadAnswer} → r ≡ refusedAs HeaderTooLong 0 0 0 → ReadCall form imposed h t₀ r t₀
-  read-long g e f = let z = too-long (rw (← given-header g) e) in record { answer = rw (f, z); table = rw z (sym (stored-none form t₀ 0)) }
+  module _ (e : size ≤ given .header) {n : ℕ} (en : n ≡ room form t) where
+    long : leb size (limitsBy form .header) ≡ true
+    long = le-leb size (limitsBy form .header) (rw (← most) e)
 
+    pub fit-full : n < p .count → false ≡ fits form size t (spotIn p)
+    unfolding fits
+    fit-full f = rw (long, lt-leb (p .count) (room form t) (rw (← en) f))
+
+    pub fit-past : p .count ≤ n → size < p .at → false ≡ fits form size t (spotIn p)
+    unfolding fits
+    fit-past f i = rw (long, le-leb (p .count) (room form t) (rw (← en) f), lt-leb (p .at) size i)
+
+    pub fit-all : p .count ≤ n → p .at ≤ size → leb (p .line) (p .at) ≡ fits form size t (spotIn p)
+    unfolding fits
+    fit-all f i = rw (long, le-leb (p .count) (room form t) (rw (← en) f), le-leb (p .at) size i)
+
+pub ruleset fit-laws = (fit-long, fit-full, fit-past, fit-all)
+
+-- The lines, one after the other
+
+-- the entries of a spot are as many as it counts
+pub spot-count : (form : Form) (t : List ℕ) (n : ℕ) → n ≤ room form t → length (entriesIn form (firstEntries form t n)) ≡ n
+spot-count form t n l = entries-count form (firstEntries form t n) ∙ first-room form t n l
+
+ascii-rest : (h : Bytes) (at n : ℕ) → isAscii (drop at h) ≡ true → isAscii (drop (at + n) h) ≡ true
+ascii-rest h at n e =
+    let d : drop n (drop at h) ≡ drop (at + n) h = drop-drop n at h in
+    let all : take (length (drop (at + n) h)) (drop (at + n) h) ≡ drop (at + n) h = take-all (length (drop (at + n) h)) (drop (at + n) h) (omega arith) in
+    subst (λ (x : Bytes). isAscii x ≡ true) all (subst (λ (x : Bytes). isAscii (take (length (drop (at + n) h)) x) ≡ true) d (ascii-part (length (drop (at + n) h)) n (drop at h) e))
+
+ok-is : {A : Type 0} {x y : A} → ok x ≡ ok y → x ≡ y
+ok-is {A} {x} e = ap pick e
+  where
+    pick : Answer A → A
+    pick (ok z) = z
+    pick (refuse n) = x
+
+refuse-is : {A : Type 0} {m n : ℕ} → _≡_ {A = Answer A} (refuse m) (refuse n) → m ≡ n
+refuse-is {A} {m} e = ap pick e
+  where
+    pick : Answer A → ℕ
+    pick (ok z) = m
+    pick (refuse k) = k
+
+refuse-not : {A B : Type 0} {n : ℕ} {x : A} → refuse n ≡ ok x → B
+refuse-not e = let z : _≡_ {A = ℕ} 0 1 = cc in absurd (omega arith)
+
+drop-front : {A : Type 0} (xs ys : List A) (n : ℕ) → length xs ≡ n → drop n (xs ++ ys) ≡ ys
+drop-front xs ys n e = let z : n ≡ length xs + 0 = omega (arith, e) in rw z (drop-append-add xs ys 0)
+
+module _ (form : Form) (imposed : Option Version) (plain : Bool) (h : Bytes) (end : ℕ) (t₀ : List ℕ) (s₀ : Spot) where
   -- the lines before the parser are read
-  pub record Going (plain : Bool) (ms₀ ms t : List ℕ) (p : Parser) : Type 0 where
-    pub kept : Kept form imposed h t₀ ms t p
-    pub ascii-header : plain ≡ true → isAscii h ≡ true
+  pub record Going (ms₀ ms t : List ℕ) (p : Parser) : Type 0 where
+    pub new : List Entry
+    pub stored-are : t ≡ stored form t₀ (s₀ .count) new
+    pub entries-are : pointOf form t (spotIn p) .entries ≡ pointOf form t₀ s₀ .entries ++ new
+    pub counted : p .count ≡ s₀ .count + length new
+    pub began : Fit form (length h) t₀ s₀
+    pub fit-here : Fit form (length h) t (spotIn p)
+    pub marked : All (Marked h ms) (pointOf form t (spotIn p) .entries)
+    pub ascii : plain ≡ true → isAscii (drop (p .at) h) ≡ true
     pub long : length ms ≡ length ms₀
+    pub rest : wentOn form imposed h end t₀ s₀ ≡ goOn (limitsBy form) imposed (room form t₀) h end (pointOf form t (spotIn p)) (pieces (drop (p .at) h))
 
-  pub read-start : {given : CodeLimits} → limitsOf given ≡ limitsBy form → length h ≤ given .header → {plain : Bool} → plain ≡ isAscii h → (ms : Bytes) → Going plain ms ms t₀ (record { phase = phase.Empty; line = 0; at = 0; count = 0 })
-  unfolding reading
-  read-start g e a ms = let small = rw (given-header g) at e in record {
-    kept = record {
-      state = empty;
-      es = [];
-      phase-is = tt;
-      tabled = refl;
-      stored-are = sym (stored-none form t₀ 0);
-      counted = refl;
-      roomy = omega arith;
-      lines = omega arith;
-      inside = omega arith;
-      small = small;
-      rest = rw (reading, le-leb (length h) (limitsBy form .header) small);
-    };
-    ascii-header = λ i. sym a ∙ i;
-    long = refl;
-  }
+  pub going-start : (ms : Bytes) {p : Parser} → s₀ ≡ spotIn p → BeginsMarked form plain h ms t₀ s₀ → Going ms ms t₀ p
+  going-start ms {p} e b =
+      let f = fit form (length h) t₀ s₀ (b .begins .fit) in
+      record {
+        new = [];
+        stored-are = sym (stored-none form t₀ (s₀ .count));
+        entries-are = rw e (sym (append-nil (pointOf form t₀ (spotIn p) .entries)));
+        counted = rw e (omega arith);
+        began = f;
+        fit-here = rw e at f;
+        marked = rw e at (b .marked);
+        ascii = rw e at (b .begins .ascii);
+        long = refl;
+        rest = rw e;
+      }
 
-  module _ {plain : Bool} {ms₀ ms t : List ℕ} {p : Parser} (g : Going plain ms₀ ms t p) where
-    abbrev k : Kept form imposed h t₀ ms t p
-    k = g .kept
+  module _ {ms₀ ms t : List ℕ} {p : Parser} (g : Going ms₀ ms t p) where
+    abbrev here : Point
+    here = pointOf form t (spotIn p)
+
+    same-room : room form t ≡ room form t₀
+    same-room = ap (room form) (g .stored-are) ∙ stored-room form t₀ (s₀ .count) (g .new)
 
     pub kept-length : length t ≡ length t₀
-    kept-length = ap length (k .stored-are) ∙ stored-length form t₀ 0 (k .es)
+    kept-length = ap length (g .stored-are) ∙ stored-length form t₀ (s₀ .count) (g .new)
 
     pub marks-length : length ms ≡ length ms₀
     marks-length = g .long
 
     pub kept-bounds : p .at < length h → Bounds form h t p
-    kept-bounds m = record { count = rw (ap (room form) (k .stored-are) ∙ stored-room form t₀ 0 (k .es)) (k .roomy); line = omega (arith, k .lines) }
+    kept-bounds m = let f = g .fit-here in record { count = f .count; line = omega (arith, f .line) }
 
-    pub read-end : length h ≤ p .at → {r : ReadAnswer} → Finishes p r → ReadCall form imposed h t₀ r t
-    read-end e f = record {
-      answer = f .is form imposed h t₀ ms t k e;
-      table = k .stored-are ∙ ap (stored form t₀ 0) (sym (entries-at (k .es) (k .state) (at-end p form imposed h t₀ ms t k e)));
-    }
-      where
-        entries-at : (es : List Entry) (s : State) {x : Reading} → x ≡ following es (atEnd (p .line) (p .at) s) → x .entries ≡ es
-        entries-at es empty w = ap (λ (r : Reading). r .entries) w ∙ append-nil es
-        entries-at es (ready v rs) w = ap (λ (r : Reading). r .entries) w ∙ append-nil es
-        entries-at es (done v rs c) w = ap (λ (r : Reading). r .entries) w ∙ append-nil es
+    here-count : length (here .entries) ≡ p .count
+    here-count = spot-count form t (p .count) (g .fit-here .count)
 
-    module _ (m : p .at < length h) (r : Partial) (ms′ t′ : List ℕ) (f : Parses form imposed plain p h ms t r ms′ t′) where
-      parsed : {x : Partial} → r ≡ x → PartialIs form imposed h t₀ p x ms′ t′
-      parsed i = subst (λ (y : Partial). PartialIs form imposed h t₀ p y ms′ t′) i (f .is t₀ k (g .ascii-header) m)
+    -- where reading ends: the point is here
+    ended : (n : Option ℕ) → wentOn form imposed h end t₀ s₀ ≡ record { stop = n; point = here } → {r : Advance} → advanceMeans r ≡ record { stop = n; spot = spotIn p } → ReadsOn form imposed h end t₀ s₀ r t
+    unfolding readOn tableOn
+    ended n w m =
+        let f = fitting form (length h) t₀ s₀ (g .began) in
+        let c = spot-count form t₀ (s₀ .count) (g .began .count) in
+        record {
+          told = m ∙ rw (readOn, f, w, here-count);
+          table = rw (tableOn, f, w) (g .stored-are ∙ ap (stored form t₀ (s₀ .count)) (sym (ap (drop (s₀ .count)) (g .entries-are) ∙ drop-front (pointOf form t₀ s₀ .entries) (g .new) (s₀ .count) c)));
+        }
 
-      pub read-next : {q : Parser} → r ≡ partial.Next q → length ms′ ≡ length ms → Going plain ms₀ ms′ t′ q
-      read-next i n = record { kept = parsed i .0; ascii-header = g .ascii-header; long = n ∙ g .long }
+    pub going-past : length h ≤ p .at → ReadsOn form imposed h end t₀ s₀ (advance.Ended p) t
+    going-past e =
+        ended none (g .rest ∙ ap (goOn (limitsBy form) imposed (room form t₀) h end here) (pieces-past h (p .at) e) ∙ go-none (limitsBy form) imposed (room form t₀) h end here) refl
 
-      pub read-less : {q : Parser} → r ≡ partial.Next q → length h - q .at < length h - p .at
-      read-less i = let s = parsed i in omega (arith, s .1, s .0 .inside)
+    pub going-end : end ≤ p .at → ReadsOn form imposed h end t₀ s₀ (advance.Ended p) t
+    going-end e = ended none (g .rest ∙ go-past (limitsBy form) imposed (room form t₀) h end here (pieces (drop (p .at) h)) e) refl
+
+    -- a line at hand
+    module _ (m : p .at < end) (i : p .at < length h) (r : Partial) (ms′ t′ : List ℕ) (f : Parses form imposed plain p h ms t r ms′ t′) where
+      abbrev piece : Bytes
+      piece = pieces-there h (p .at) i .piece
+
+      abbrev after : List Bytes
+      after = pieces-there h (p .at) i .rest
+
+      there : pieces (drop (p .at) h) ≡ piece ∷ after
+      there = pieces-there h (p .at) i .is
+
+      abbrev answer : Answer (Stage × List Entry)
+      answer = stepOn (limitsBy form) imposed h (here .entries) (p .at) (stageOf (p .phase)) (lineOf piece)
+
+      step : Stepped form h ms′ p (p .at + length piece) answer t r t′
+      step = f .is (g .marked) piece after there (g .ascii)
+
+      unrolled : wentOn form imposed h end t₀ s₀ ≡ goOn (limitsBy form) imposed (room form t₀) h end here (piece ∷ after)
+      unrolled = g .rest ∙ ap (goOn (limitsBy form) imposed (room form t₀) h end here) there
+
+      before : ltb (p .at) end ≡ true
+      before = lt-ltb (p .at) end m
+
+      told-as : {x : Partial} → r ≡ x → {a : Answer (Stage × List Entry)} → answer ≡ a → partialMeans x ≡ spotAfter (room form t) (spotIn p) (p .at + length piece) a
+      told-as e w = ap partialMeans (sym e) ∙ step .told ∙ ap (spotAfter (room form t) (spotIn p) (p .at + length piece)) w
+
+      table-as : {a : Answer (Stage × List Entry)} → answer ≡ a → t′ ≡ tableAfter form t (p .count) a
+      table-as w = step .table ∙ ap (tableAfter form t (p .count)) w
+
+      room-here : (x : Stage × List Entry) {b : Bool} → leb (p .count + length (x .1)) (room form t) ≡ b → leb (length (here .entries) + length (x .1)) (room form t₀) ≡ b
+      room-here x e = rw (here-count, ← same-room) e
+
+      -- refused
+      stopped : {x : Refusal} → r ≡ partial.Refused x → (wentOn form imposed h end t₀ s₀ ≡ record { stop = some (number x); point = here }) × (t′ ≡ t)
+      stopped {x} e = elim (see answer) [
+        | not-read n a ↦
+            let c : number x ≡ n = refuse-is (told-as e a) in
+            (unrolled ∙ go-refused (limitsBy form) imposed (room form t₀) h end here piece after before a ∙ rw c, table-as a)
+        | was y a ↦ elim (test (leb (p .count + length (y .1)) (room form t))) [
+          | pass b ↦ refuse-not (told-as e a ∙ spot-more form (spotIn p) (p .at + length piece) t y b)
+          | fail b ↦
+              let c : number x ≡ 24 = refuse-is (told-as e a ∙ spot-full form (spotIn p) (p .at + length piece) t y b) in
+              (unrolled ∙ go-full (limitsBy form) imposed (room form t₀) h end here piece after before a (room-here y b) ∙ rw c, table-as a ∙ table-full form (spotIn p) (p .at + length piece) t y b)
+        ]
+      ]
+
+      pub going-stop : {x : Refusal} → r ≡ partial.Refused x → ReadsOn form imposed h end t₀ s₀ (advance.Stopped p x) t′
+      going-stop {x} e = let s = stopped e in subst (ReadsOn form imposed h end t₀ s₀ (advance.Stopped p x)) (sym (s .1)) (ended (some (number x)) (s .0) refl)
 
       pub stop-length : {x : Refusal} → r ≡ partial.Refused x → length t′ ≡ length t₀
-      stop-length i = let s = parsed i in ap length (s .stored-are) ∙ stored-length form t₀ 0 (s .es)
+      stop-length e = ap length (stopped e .1) ∙ kept-length
 
-      pub read-stop : {x : Refusal} → r ≡ partial.Refused x → {a : ReadAnswer} → a ≡ refusedAs x (p .line + 1) (p .at) (p .count) → ReadCall form imposed h t₀ a t′
-      read-stop {x} i b = let s = parsed i in record {
-        answer = ap answerMeans b ∙ refused-told (s .es) (s .counted) (s .state) (s .whole);
-        table = s .stored-are ∙ ap (stored form t₀ 0) (sym (ap (λ (y : Reading). y .entries) (s .whole) ∙ append-nil (s .es)));
-      }
-        where
-          refused-told : (es : List Entry) → length es ≡ p .count → (s : State) {y : Reading} → y ≡ following es (stop (number x) (suc (p .line)) (p .at) s)
-              → answerMeans (refusedAs x (p .line + 1) (p .at) (p .count)) ≡ readingMeans y
-          refused-told es c s w =
-              let i : suc (p .line) ≡ p .line + 1 = omega arith in
-              let n = number-suc x in
-              rw (w, all-entries p es c, i, n .1)
+      -- kept
+      pub record Kept (q : Parser) : Type 0 where
+        pub x : Stage × List Entry
+        pub taken : answer ≡ ok x
+        pub roomy : leb (p .count + length (x .1)) (room form t) ≡ true
+        pub spot : spotIn q ≡ record { stage = x .0; line = p .line + 1; at = p .at + length piece; count = p .count + length (x .1) }
+        pub table : t′ ≡ stored form t (p .count) (x .1)
 
-pub ruleset whole = (read-long, read-start, kept-length, marks-length, kept-bounds, read-end, read-next, read-less, stop-length, read-stop)
+      kept : {q : Parser} → r ≡ partial.Next q → Kept q
+      kept {q} e = elim (see answer) [
+        | not-read n a ↦ refuse-not (sym (told-as e a))
+        | was y a ↦ elim (test (leb (p .count + length (y .1)) (room form t))) [
+          | pass b ↦ record {
+            x = y;
+            taken = a;
+            roomy = b;
+            spot = ok-is (told-as e a ∙ spot-more form (spotIn p) (p .at + length piece) t y b);
+            table = table-as a ∙ table-more form (spotIn p) (p .at + length piece) t y b;
+          }
+          | fail b ↦ refuse-not (sym (told-as e a ∙ spot-full form (spotIn p) (p .at + length piece) t y b))
+        ]
+      ]
+
+      module _ {q : Parser} (e : r ≡ partial.Next q) where
+        abbrev k : Kept q
+        k = kept e
+
+        moved : q .at ≡ p .at + length piece
+        moved = ap (λ (s : Spot). s .at) (k .spot)
+
+        stand : All (Storable form) (k .x .1)
+        stand = all-map (Stands (limitsBy form) (length h)) (Storable form) (k .x .1) (storable form (g .fit-here .header))
+            (took-stand (limitsBy form) imposed h (here .entries) (p .at) (stageOf (p .phase)) piece after (g .fit-here .at) there (k .taken))
+
+        same-room′ : room form t′ ≡ room form t
+        same-room′ = ap (room form) (k .table) ∙ stored-room form t (p .count) (k .x .1)
+
+        -- the point after the line, as the table has it
+        next-point : pointOf form t′ (spotIn q) ≡ passed here piece (k .x)
+        next-point =
+            let i : p .line + 1 ≡ suc (p .line) = omega arith in
+            let c : q .count ≡ p .count + length (k .x .1) = ap (λ (s : Spot). s .count) (k .spot) in
+            let es : entriesIn form (firstEntries form t′ (q .count)) ≡ here .entries ++ k .x .1
+            = ap (λ (x : List ℕ). entriesIn form (firstEntries form x (q .count))) (k .table) ∙ entries-more form t (p .count) (k .x .1) c (rw c (leb-true _ (room form t) (k .roomy))) stand in
+            ap₂ (λ (s : Spot) (fs : List Entry). record { stage = s .stage; line = s .line; at = s .at; entries = fs }) (k .spot) es ∙ rw i
+
+        pub going-next : length ms′ ≡ length ms → Going ms₀ ms′ t′ q
+        going-next n =
+            let line = first-line h (p .at) piece after (g .fit-here .at) there in
+            let some = piece-some (drop (p .at) h) piece after there in
+            let c : q .count ≡ p .count + length (k .x .1) = ap (λ (s : Spot). s .count) (k .spot) in
+            let ln : q .line ≡ p .line + 1 = ap (λ (s : Spot). s .line) (k .spot) in
+            let es : pointOf form t′ (spotIn q) .entries ≡ here .entries ++ k .x .1 = ap (λ (y : Point). y .entries) next-point in
+            record {
+              new = g .new ++ k .x .1;
+              stored-are = k .table ∙ ap (λ (x : List ℕ). stored form x (p .count) (k .x .1)) (g .stored-are) ∙ stored-more form t₀ (s₀ .count) (g .new) (k .x .1) (g .counted);
+              entries-are = es ∙ ap (_++ k .x .1) (g .entries-are) ∙ append-assoc (pointOf form t₀ s₀ .entries) (g .new) (k .x .1);
+              counted = rw (length-append (g .new) (k .x .1)) (omega (arith, c, g .counted));
+              began = g .began;
+              fit-here = record {
+                header = g .fit-here .header;
+                count = rw (same-room′, c) (leb-true _ (room form t) (k .roomy));
+                at = rw moved (line .next);
+                line = omega (arith, ln, moved, some, g .fit-here .line);
+              };
+              marked = rw es (all-append (Marked h ms′) (here .entries) (k .x .1) (f .marks .all (here .entries) (g .marked)) (on-ok (λ (y : Stage × List Entry). All (Marked h ms′) (y .1)) (step .marked) (k .taken)));
+              ascii = λ j. rw moved (ascii-rest h (p .at) (length piece) (g .ascii j));
+              long = n ∙ g .long;
+              rest = unrolled ∙ go-more (limitsBy form) imposed (room form t₀) h end here piece after before (k .taken) (room-here (k .x) (k .roomy))
+                  ∙ ap₂ (goOn (limitsBy form) imposed (room form t₀) h end) (sym next-point) (sym (rw moved (line .left)));
+            }
+
+        pub going-less : length h - q .at < length h - p .at
+        going-less =
+            let line = first-line h (p .at) piece after (g .fit-here .at) there in
+            let some = piece-some (drop (p .at) h) piece after there in
+            omega (arith, moved, some, line .next)
+
+pub ruleset goings = (going-start, kept-length, marks-length, kept-bounds, going-past, going-end, going-stop, stop-length, going-next, going-less)
+
+-- From a spot on
+
+module _ (form : Form) (plain : Bool) (h t : List ℕ) (s : Spot) (b : Begins form plain h t s) where
+  -- the entries that are there are marked
+  pub begin-marked : {kept : List ℕ} → kept ≡ firstEntries form t (s .count) → (ms : Bytes) {ns : Bytes} → ns ≡ markAll h (entriesIn form kept) ms → BeginsMarked form plain h ns t s
+  begin-marked e ms f = record { begins = b; marked = rw (f, e) (all-marked h (entriesIn form (firstEntries form t (s .count))) ms) }
+
+  -- or there are no marks
+  pub begin-unmarked : {ms : Bytes} → length ms ≡ 0 → BeginsMarked form plain h ms t s
+  begin-unmarked {ms} e = record { begins = b; marked = unmarked-all h (pointOf form t s .entries) ms e }
+
+pub marked-length : (h : Bytes) (es : List Entry) (ms : Bytes) {ns : Bytes} → ns ≡ markAll h es ms → length ns ≡ length ms
+marked-length h es ms e = ap length e ∙ all-length h es ms
+
+module _ (form : Form) (h : Bytes) (t : List ℕ) (p : Parser) {q : Bool} (a : q ≡ fits form (length h) t (spotIn p)) where
+  pub on-unfit : (imposed : Option Version) (end : ℕ) → not q ≡ true → ReadsOn form imposed h end t (spotIn p) (advance.Ended p) t
+  unfolding readOn tableOn
+  on-unfit imposed end e = let f : fits form (length h) t (spotIn p) ≡ false = sym a ∙ not-true q e in record { told = rw (readOn, f); table = rw (tableOn, f) }
+
+  module _ (e : not q ≡ false) where
+    pub on-inside : p .at ≤ length h
+    on-inside = fit form (length h) t (spotIn p) (sym a ∙ not-false q e) .at
+
+    pub on-begins : {plain : Bool} → plain ≡ isAscii (take (length h - p .at) (drop (p .at) h)) → Begins form plain h t (spotIn p)
+    on-begins {plain} f = record {
+      fit = sym a ∙ not-false q e;
+      ascii = λ i. subst (λ (x : Bytes). isAscii x ≡ true) (take-all (length h - p .at) (drop (p .at) h) (rw (length-drop (p .at) h) (omega arith))) (sym f ∙ i);
+    }
+
+-- the table keeps its length
+pub table-length : (form : Form) (imposed : Option Version) (h : Bytes) (end : ℕ) (t : List ℕ) (s : Spot) → length (tableOn form imposed h end t s) ≡ length t
+unfolding tableOn
+table-length form imposed h end t s = elim (test (fits form (length h) t s)) [
+  | pass f ↦ rw (tableOn, f) (stored-length form t (s .count) (drop (s .count) (wentOn form imposed h end t s .point .entries)))
+  | fail f ↦ rw (tableOn, f)
+]
+
+pub on-length : {form : Form} {imposed : Option Version} {h : Bytes} {end : ℕ} {t : List ℕ} {s : Spot} {r : Advance} {t′ : List ℕ} → ReadsOn form imposed h end t s r t′ → length t′ ≡ length t
+on-length {form} {imposed} {h} {end} {t} {s} c = ap length (c .table) ∙ table-length form imposed h end t s
+
+-- nothing begins before an end that is not after the spot
+pub on-out : (form : Form) (imposed : Option Version) (h : Bytes) (end : ℕ) (t : List ℕ) (p : Parser) → end ≤ p .at → ReadsOn form imposed h end t (spotIn p) (advance.Ended p) t
+unfolding readOn tableOn
+on-out form imposed h end t p l = elim (test (fits form (length h) t (spotIn p))) [
+  | fail f ↦ record { told = rw (readOn, f); table = rw (tableOn, f) }
+  | pass f ↦
+      let here = pointOf form t (spotIn p) in
+      let n = spot-count form t (p .count) (fit form (length h) t (spotIn p) f .count) in
+      let w : wentOn form imposed h end t (spotIn p) ≡ record { stop = none; point = here } = go-past (limitsBy form) imposed (room form t) h end here (pieces (drop (p .at) h)) l in
+      let none-new : drop (p .count) (here .entries) ≡ [] = drop-of-length-le (here .entries) {i = p .count} (rw n (omega arith)) in
+      record { told = rw (readOn, f, w, n); table = rw (tableOn, f, w, none-new) (sym (stored-none form t (p .count))) }
+]
+
+pub header-small : (form : Form) → limitsBy form .header ≤ 16777215
+header-small First = omega arith
+header-small Second = omega arith
+
+-- where the lines from a spot on end: in the header, and with no more lines than bytes
+pub went-inside : (form : Form) (imposed : Option Version) (h : Bytes) (end : ℕ) (t : List ℕ) (s : Spot) → Fit form (length h) t s
+    → Further (limitsBy form) (room form t) h (pointOf form t s) (wentOn form imposed h end t s)
+went-inside form imposed h end t s f =
+    goes-inside (limitsBy form) imposed (room form t) h end (pointOf form t s) (pieces (drop (s .at) h)) (record { at = f .at; line = f .line; roomy = rw (spot-count form t (s .count) (f .count)) (f .count) }) refl
+
+-- so a line that was refused has a number
+pub on-lines : {form : Form} {imposed : Option Version} {h : Bytes} {end : ℕ} {t : List ℕ} {s : Spot} {r : Advance} {t′ : List ℕ} → ReadsOn form imposed h end t s r t′
+    → {p : Parser} {x : Refusal} → r ≡ advance.Stopped p x → p .line + 1 < 2 ^ 64
+unfolding readOn
+on-lines {form} {imposed} {h} {end} {t} {s} {r} c {p} {x} i = elim (test (fits form (length h) t s)) [
+  | pass e ↦
+      let f = fit form (length h) t s e in
+      let g = went-inside form imposed h end t s f in
+      let q : readOn form imposed h end t s ≡ toldBy (wentOn form imposed h end t s) = rw (readOn, e) in
+      let l : p .line ≡ wentOn form imposed h end t s .point .line = ap (λ (y : Told). y .spot .line) (sym (ap advanceMeans i) ∙ c .told ∙ q) in
+      omega (arith, l, g .inside .line, g .inside .at, f .header, header-small form)
+  | fail e ↦
+      let q : readOn form imposed h end t s ≡ record { stop = none; spot = s } = rw (readOn, e) in
+      none-not (sym (ap (λ (y : Told). y .stop) (sym (ap advanceMeans i) ∙ c .told ∙ q)))
+]
+
+pub ruleset ons = (begin-marked, begin-unmarked, marked-length, on-out, on-unfit, on-inside, on-begins, on-length)
+
+-- A whole header
+
+module _ (form : Form) (imposed : Option Version) (h t₀ : List ℕ) {given : CodeLimits} (g : limitsOf given ≡ limitsBy form) where
+  given-header : given .header ≡ limitsBy form .header
+  given-header = ap (λ (x : Limits). x .header) g
+
+  too-long : limitsBy form .header < length h → readInto form imposed t₀ h ≡ stop 27 0 0 empty
+  unfolding reading
+  too-long e = rw (reading, lt-leb (length h) (limitsBy form .header) e)
+
+  pub read-long : given .header < length h → {r : ReadAnswer} → r ≡ refusedAs HeaderTooLong 0 0 0 → ReadCall form imposed h t₀ r t₀
+  read-long e f = let z = too-long (rw (← given-header) e) in record { answer = rw (f, z); table = rw z (sym (stored-none form t₀ 0)) }
+
+  module _ (e : length h ≤ given .header) {s₀ : Spot} (start : s₀ ≡ startSpot) {r : Advance} {t : List ℕ} (c : ReadsOn form imposed h (length h) t₀ s₀ r t) where
+    abbrev went : Went
+    went = goOn (limitsBy form) imposed (room form t₀) h (length h) startPoint (pieces h)
+
+    small : length h ≤ limitsBy form .header
+    small = rw (← given-header) e
+
+    start-fits : fits form (length h) t₀ s₀ ≡ true
+    start-fits = rw start (fitting form (length h) t₀ startSpot (record { header = small; count = omega arith; at = omega arith; line = omega arith }))
+
+    -- the point from which it is read
+    from-start : wentOn form imposed h (length h) t₀ s₀ ≡ went
+    from-start = rw start (ap (λ (es : List Entry). goOn (limitsBy form) imposed (room form t₀) h (length h) (record { stage = startSpot .stage; line = 0; at = 0; entries = es }) (pieces h)) (first-entries form t₀ 0))
+
+    told-all : advanceMeans r ≡ toldBy went
+    unfolding readOn
+    told-all = c .told ∙ rw (readOn, start-fits, from-start)
+
+    table-all : t ≡ stored form t₀ 0 (went .point .entries)
+    unfolding tableOn
+    table-all = c .table ∙ rw (tableOn, start-fits, from-start, start)
+
+    tells : Tells (limitsBy form) imposed (room form t₀) h (readInto form imposed t₀ h) went
+    tells = whole (limitsBy form) imposed (room form t₀) h small
+
+    done : {a : ReadAnswer} → answerMeans a ≡ closedAt (advanceMeans r) → ReadCall form imposed h t₀ a t
+    done f = record { answer = f ∙ ap closedAt told-all ∙ sym (tells .answer); table = table-all ∙ ap (stored form t₀ 0) (sym (tells .entries)) }
+
+    pub read-ended : {p : Parser} → r ≡ advance.Ended p → {a : ReadAnswer} → answerMeans a ≡ endedAt (spotIn p) → ReadCall form imposed h t₀ a t
+    read-ended i f = done (f ∙ sym (ap (λ (y : Advance). closedAt (advanceMeans y)) i))
+
+    module _ {p : Parser} {x : Refusal} (i : r ≡ advance.Stopped p x) where
+      pub read-stopped : {a : ReadAnswer} → a ≡ refusedAs x (p .line + 1) (p .at) (p .count) → ReadCall form imposed h t₀ a t
+      read-stopped f =
+          let n : p .line + 1 ≡ suc (p .line) = omega arith in
+          let m : answerMeans (refusedAs x (p .line + 1) (p .at) (p .count)) ≡ refusedAt (number x) (spotIn p) = rw n in
+          done (ap answerMeans f ∙ m ∙ sym (ap (λ (y : Advance). closedAt (advanceMeans y)) i))
+
+pub ruleset reads = (read-long, read-ended, read-stopped, on-lines, on-length)

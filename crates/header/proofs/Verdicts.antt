@@ -8,7 +8,7 @@ use mathlib.Core.Option.{Option, none, some}
 use lib.ListN.{length, take, drop, length-take, length-drop}
 use lib.Seq.{take-append-add}
 use borrow.Author.Tests.{le-leb, lt-leb}
-use Rattle.values.specs.Bytes.{Bytes, LF, ascii, is, any, starts, part}
+use Rattle.values.specs.Bytes.{Bytes, ascii, is, starts, part}
 use Rattle.values.specs.Utf8.{isUtf8}
 use Rattle.values.specs.Field.{Field}
 use Rattle.values.specs.declared.string.Text.{Text}
@@ -19,15 +19,14 @@ use Rattle.rules.specs.Sizes.{Limits}
 use Rattle.rules.specs.Version.{Version, v4-5, inForce}
 use Rattle.rules.specs.Known.{kindOf, tagOf}
 use Rattle.rules.specs.Map.{fieldNamed}
-use Rattle.rules.specs.Record.{Record, fileformat, fields, text, readRecord, keyOf}
+use Rattle.rules.specs.Record.{Record, fileformat, fields, text, readRecord}
 use Rattle.rules.specs.Columns.{Columns, readColumns}
-use Rattle.rules.specs.Entry.{Entry, formatKind, mapKind, textKind, recordKind, plainEntry, fieldsStart, textNamed, lineEntry, ifCounted, countsOf, withCounts, recordEntry}
-use Rattle.rules.specs.Reading.{clash, State, empty, ready, done, begin, enter, finish, isDone, stepText, step}
+use Rattle.rules.specs.Entry.{Entry, formatKind, mapKind, textKind, plainEntry, fieldsStart, textNamed, lineEntry, ifCounted, countsOf, withCounts, recordEntry, columnEntries}
+use Rattle.rules.specs.Reading.{clash, State, empty, ready, begin, enter, finish, isDone, stepText, step}
 use Rattle.rules.specs.House.{writeRecord}
 use Rattle.rules.proofs.Firsts.{on-ok, judged-zero}
-use Rattle.rules.proofs.Records.{GoodRecord, Entered, record-good}
 use Rattle.rules.proofs.Texts.{LineOf, record-in}
-use Rattle.rules.proofs.Shows.{Both, AnyAt, named-text, line-fields, entry-placed}
+use Rattle.rules.proofs.Shows.{Both, AnyAt, named-text, line-fields}
 use Rattle.records.specs.Formats.{versionOf}
 use Rattle.records.specs.Refusals.{number}
 use Rattle.records.specs.Keys.{kindBy, Named}
@@ -51,21 +50,21 @@ use Rattle.columns.proofs.Answers.{columns-read, column-wrong, sample-twice}
 use Rattle.entries.specs.declared.entry.Entry.{Entry as CodeEntry}
 use Rattle.entries.specs.Values.{entryOf, limitsOf}
 use Rattle.entries.specs.declared.limits.Limits.{Limits as CodeLimits}
-use Rattle.ids.specs.Clashes.{clashNumber, prefixOf}
+use Rattle.ids.specs.Clashes.{clashNumber, clashIn, prefixOf}
 use Rattle.ids.specs.Marks.{markEntry, Marked, clashFound}
 use Rattle.ids.specs.declared.scan.Clash.{Clash}
 use Rattle.ids.specs.declared.scan.Clash.the-variants as clashes
 use Rattle.ids.proofs.KeyKinds.{number-small}
-use Rattle.ids.proofs.Clashes.{found-clash}
 use Rattle.ids.proofs.Markings.{entry-length, entry-own, all-kept, clash-sure}
-use Rattle.header.specs.Verdicts.{imposedOf, PhaseIs, isDonePhase, formatEntry, Says, MarksKept, Scene, Unchecked, FirstSays, FirstJudged, IdJudged, MapJudged, RecordJudged, ColumnsSay, ColumnsJudged, TextJudged, Utf8Told, LineJudged}
+use Rattle.header.specs.Steps.{Stage, opening, body, ending, freshState, heldAgainst, stepOn}
+use Rattle.header.specs.Verdicts.{imposedOf, stageOf, isDonePhase, formatEntry, Says, MarksKept, FirstSays, FirstJudged, besideEntries, IdJudged, MapJudged, recordBeside, RecordJudged, ColumnsSay, ColumnsJudged, textBeside, TextJudged, Utf8Told, LineJudged}
 use Rattle.header.specs.declared.file_format_option.FileFormatOption.{FileFormatOption}
 use Rattle.header.specs.declared.file_format_option.FileFormatOption.the-variants as option
-use Rattle.header.specs.declared.verdict.Phase.{Phase}
-use Rattle.header.specs.declared.verdict.Phase.the-variants as phase
+use Rattle.header.specs.declared.phase.Phase.{Phase}
+use Rattle.header.specs.declared.phase.Phase.the-variants as phase
 use Rattle.header.specs.declared.verdict.Verdict.{Verdict}
 use Rattle.header.specs.declared.verdict.Verdict.the-variants as verdict
-use Rattle.rules.specs.Claims.{Sized, SizedOption, keyIn}
+use Rattle.rules.specs.Claims.{All, Sized, SizedOption, keyIn}
 
 -- The version in force
 
@@ -78,7 +77,7 @@ force-some i v e = rw e
 pub sizes : (v : FileFormat) → v .major < 4294967296 → v .minor < 4294967296 → Sized (versionOf v)
 sizes v a b = record { major = omega arith; minor = omega arith }
 
-pub ruleset forces = (force-none, force-some, sizes)
+pub ruleset forces = (force-none, force-some)
 
 -- what the theorems ask of a version that is imposed holds of every one that the code can be given: its parts have 32 bits
 pub imposed-sized : (i : FileFormatOption) → ((f : FileFormat) → i ≡ option.Some f → (f .major < 4294967296) × (f .minor < 4294967296)) → SizedOption (imposedOf i)
@@ -100,10 +99,10 @@ module _ (imposed : Option Version) (l : Bytes) (x : RecordRead) (a : ParsesReco
   unfolding stepText
   first-is e lim start = rw e
 
-  pub first-format : {w : FileFormat} → x ≡ read.FileFormat w → (f : FileFormat) → versionOf f ≡ inForce imposed (versionOf w) → Sized (versionOf f) → FirstJudged imposed l (verdict.Begin f)
-  first-format {w} e f g s = record {
+  pub first-format : {w : FileFormat} → x ≡ read.FileFormat w → (f : FileFormat) → versionOf f ≡ inForce imposed (versionOf w) → FirstJudged imposed l (verdict.Begin f)
+  first-format {w} e f g = record {
     is = λ lim start.
-        record { state = refl; sized = s; begins = first-is (subst (RecordIs v4-5 l) e (a .is)) lim start ∙ rw (← g) (ap (λ (y : Entry). ok (ready (versionOf f) [], y ∷ [])) (format-entry lim (versionOf w) start l)) };
+        first-is (subst (RecordIs v4-5 l) e (a .is)) lim start ∙ rw (← g) (ap (λ (y : Entry). ok (ready (versionOf f) [], y ∷ [])) (format-entry lim (versionOf w) start l));
   }
 
   pub first-map : {m : MapRecord} → x ≡ read.Map m → FirstJudged imposed l (verdict.Refused MissingFileFormat)
@@ -126,57 +125,26 @@ marks-same h ms = record { long = refl; all = λ es a. a }
 marks-more : (h ms : Bytes) (e : Entry) {ms′ : Bytes} → ms′ ≡ markEntry h e ms → MarksKept h ms ms′
 marks-more h ms e a = rw a (record { long = entry-length h e ms; all = λ es b. all-kept h e ms es b })
 
-judged-by : {n m : ℕ} (x : State × List Entry) → m ≡ n → {k : ℕ} → m ≡ suc k → judged n x ≡ refuse (suc k)
+judged-by : {A : Type 0} {n m : ℕ} (x : A) → m ≡ n → {k : ℕ} → m ≡ suc k → judged n x ≡ refuse (suc k)
 judged-by x e f = rw (← e, f)
 
-enter-judged : (counted : Bool) (v : Version) (rs : List Record) (start : ℕ) (l : Bytes) (x : Record) → Entered v x
-    → enter counted v rs start l x ≡ judged (clash v x rs) (ready v (rs ++ x ∷ []), recordEntry counted v start l x ∷ [])
-enter-judged counted v rs start l (fileformat w) g = absurd g
-enter-judged counted v rs start l (fields k fs) g = refl
-enter-judged counted v rs start l (text k t) g = refl
-
--- a record's entry is of kind 2 or more
-kind-two : (counted : Bool) (v : Version) (start : ℕ) (l : Bytes) (x : Record) → Entered v x → 2 ≤ recordEntry counted v start l x .kind
-kind-two counted v start l x g = rw (entry-placed counted v start l x .is-kind) (two x g)
-  where
-    two : (x : Record) → Entered v x → 2 ≤ recordKind x
-    two (fileformat w) g = absurd g
-    two (fields k fs) g = number-small (kindOf k) .0
-    two (text k t) g = omega arith
-
 module _ (lim : Limits) (h : Bytes) (es : List Entry) (ms prefix : Bytes) (e : CodeEntry) {a : Clash} (ea : a ≡ clashFound h es ms prefix (entryOf e)) {ms′ : Bytes} (em : ms′ ≡ markEntry h (entryOf e) ms) where
-  found : {l : Bytes} {start : ℕ} {v : Version} {rs : List Record} (x : Record) → Scene lim h ms es start l (ready v rs) → readRecord v l ≡ ok x → Entered v x
-      → prefix ≡ prefixOf (keyOf x) → entryOf e ≡ recordEntry (lim .counted) v start l x → clashNumber a ≡ clash v x rs
-  found {l} {start} {v} {rs} x s r g p q =
-      let t = s .tabled in
-      let two : 2 ≤ entryOf e .kind = subst (λ (y : Entry). 2 ≤ y .kind) (sym q) (kind-two (lim .counted) v start l x g) in
-      ap clashNumber (ea ∙ clash-sure h es ms prefix (entryOf e) two (t .marked))
-      ∙ rw (p, t .is) (found-clash lim h v (t .own) (t .kind) (t .rows) rs (t .all) (t .good) (entryOf e) x (record { start = start; line = l; there = s .there; read = r; entry = q }) g)
+  found : 2 ≤ entryOf e .kind → All (Marked h ms) es → clashNumber a ≡ clashNumber (clashIn h es prefix (entryOf e))
+  found two m = ap clashNumber (ea ∙ clash-sure h es ms prefix (entryOf e) two m)
 
   pub id-free : a ≡ clashes.Free → IdJudged lim h es ms prefix (entryOf e) (verdict.Entry e) ms′
   id-free f = record {
     marks = marks-more h ms (entryOf e) em;
-    is = λ l start v rs x s r g p q.
-        let z = sym (found x s r g p q) ∙ ap clashNumber f in
-        record {
-          v = v;
-          rs = rs;
-          r = x;
-          state = refl;
-          read = r;
-          fresh = z;
-          entered = g;
-          entry = q;
-          enters = enter-judged (lim .counted) v rs start l x g ∙ judged-zero (ready v (rs ++ x ∷ []), recordEntry (lim .counted) v start l x ∷ []) z ∙ ap (λ (y : Entry). ok (ready v (rs ++ x ∷ []), y ∷ [])) (sym q);
-          marked = subst (λ (y : Bytes). Marked h y (entryOf e)) (sym em) (entry-own h (entryOf e) ms);
-        };
+    is = λ two m start g l. (
+      judged-zero (g, entryOf e ∷ []) (sym (found two m) ∙ ap clashNumber f),
+      subst (λ (y : Bytes). Marked h y (entryOf e)) (sym em) (entry-own h (entryOf e) ms),
+    );
   }
 
   id-clash : (y : Refusal) {b : Clash} → a ≡ b → {n : ℕ} → clashNumber b ≡ suc n → number y ≡ suc n → IdJudged lim h es ms prefix (entryOf e) (verdict.Refused y) ms′
-  id-clash y f g i = record {
+  id-clash y f c i = record {
     marks = marks-more h ms (entryOf e) em;
-    is = λ l start v rs x s r d p q.
-        enter-judged (lim .counted) v rs start l x d ∙ judged-by (ready v (rs ++ x ∷ []), recordEntry (lim .counted) v start l x ∷ []) (found x s r d p q) (ap clashNumber f ∙ g) ∙ ap refuse (sym i);
+    is = λ two m start g l. judged-by (g, entryOf e ∷ []) (found two m) (ap clashNumber f ∙ c) ∙ ap refuse (sym i);
   }
 
   pub id-twice : a ≡ clashes.TypedId → IdJudged lim h es ms prefix (entryOf e) (verdict.Refused DuplicateId) ms′
@@ -195,16 +163,15 @@ pub ruleset ids = (id-free, id-twice, id-mixed, id-other)
 prefix-here : (k r : Bytes) → take (2 + length k + 1) (ascii "##" ++ (k ++ 61 ∷ r)) ≡ prefixOf k
 prefix-here k r = let e : 2 + length k ≡ suc (suc (length k)) = omega arith in rw e (take-append-add (ascii "##" ++ k) (61 ∷ r) 1)
 
--- the record x was read from the line l
+-- the record was read from the line l
 module _ (v : Version) (l : Bytes) where
-  line-prefix : (x : Record) → readRecord v l ≡ ok x → Entered v x → take (2 + length (keyOf x) + 1) l ≡ prefixOf (keyOf x)
+  prefix-map : (k : Bytes) (fs : List Field) → readRecord v l ≡ ok (fields k fs) → take (2 + length k + 1) l ≡ prefixOf k
   unfolding writeRecord
-  line-prefix (fileformat w) e g = absurd g
-  line-prefix (fields k fs) e g = ap (take (2 + length k + 1)) (on-ok (LineOf l) (record-in v l) e) ∙ prefix-here k _
-  line-prefix (text k t) e g = ap (take (2 + length k + 1)) (on-ok (LineOf l) (record-in v l) e) ∙ prefix-here k t
+  prefix-map k fs e = ap (take (2 + length k + 1)) (on-ok (LineOf l) (record-in v l) e) ∙ prefix-here k _
 
-  line-good : (x : Record) → readRecord v l ≡ ok x → isUtf8 l ≡ true → any (is LF) l ≡ false → GoodRecord v x
-  line-good x e u f = on-ok (GoodRecord v) (record-good v l (record { utf8 = u; line = f })) e
+  prefix-text : (k t : Bytes) → readRecord v l ≡ ok (text k t) → take (2 + length k + 1) l ≡ prefixOf k
+  unfolding writeRecord
+  prefix-text k t e = ap (take (2 + length k + 1)) (on-ok (LineOf l) (record-in v l) e) ∙ prefix-here k t
 
 -- The ID of a map
 
@@ -254,67 +221,77 @@ module _ (lim : Limits) (h : Bytes) (es : List Entry) (ms : Bytes) (start end : 
       → MapJudged lim h es ms start end m r ms′
   map-judged r {ms′} j = record {
     marks = j .marks;
-    is = λ l′ el′ v rs fs s named at read held tally.
-        subst (λ (y : Bytes). Says lim h ms′ (enter (lim .counted) v rs start y (fields (keyIn y) fs)) start (ready v rs) y r) (el ∙ sym el′)
-        (go v rs fs (subst (λ (y : Bytes). Scene lim h ms es start y (ready v rs)) (el′ ∙ sym el) s) (subst (λ (y : Bytes). Named (keyIn y) (m .key)) (el′ ∙ sym el) named)
+    is = λ all l′ el′ v fs named at read held tally.
+        subst (λ (y : Bytes). Says lim h ms′ (besideEntries h es (prefixOf (keyIn y)) (body v) (recordEntry (lim .counted) v start y (fields (keyIn y) fs))) start (body v) y r) (el ∙ sym el′)
+        (go all v fs (subst (λ (y : Bytes). Named (keyIn y) (m .key)) (el′ ∙ sym el) named)
         (at ∙ ap valueStart (el′ ∙ sym el)) (subst (λ (y : Bytes). readRecord v y ≡ ok (fields (keyIn y) fs)) (el′ ∙ sym el) read)
         (subst (λ (y : Bytes). slotted (textNamed v (keyIn y) (ascii "ID") (fieldsStart (keyIn y)) fs) ≡ slot.Filled (m .id) (m .tag)) (el′ ∙ sym el) held)
         (ap (λ (t : Tally). t .fields) tally));
   }
     where
-      go : (v : Version) (rs : List Record) (fs : List Field) → Scene lim h ms es start l (ready v rs) → Named (keyIn l) (m .key) → m .value ≡ valueStart l
+      go : All (Marked h ms) es → (v : Version) (fs : List Field) → Named (keyIn l) (m .key) → m .value ≡ valueStart l
           → readRecord v l ≡ ok (fields (keyIn l) fs) → slotted (textNamed v (keyIn l) (ascii "ID") (fieldsStart (keyIn l)) fs) ≡ slot.Filled (m .id) (m .tag)
-          → m .tally .fields ≡ length fs → Says lim h ms′ (enter (lim .counted) v rs start l (fields (keyIn l) fs)) start (ready v rs) l r
-      go v rs fs s named place read held many =
+          → m .tally .fields ≡ length fs → Says lim h ms′ (besideEntries h es (prefixOf (keyIn l)) (body v) (recordEntry (lim .counted) v start l (fields (keyIn l) fs))) start (body v) l r
+      go all v fs named place read held many =
           let k = keyIn l in
-          let g : Entered v (fields k fs) = line-good v l (fields k fs) read (s .there .utf8) (s .line) in
           let i : m .value - 0 ≡ 2 + length k + 1 = omega (arith, place) in
           let n : at ≡ length k = omega (arith, ea, place) in
-          j .is l start v rs (fields k fs) s read g
-          (a ∙ ap (λ (n : ℕ). take n l) i ∙ line-prefix v l (fields k fs) read g)
-          (made-is v l k fs (on-ok (LineOf l) (record-in v l) read) (m .id) (m .tag) held (lim .counted) (d ∙ ap mapKind (sym (named .kind ∙ kind-by-case (m .key)))) start b
-          (ek ∙ ap (ifCounted (lim .counted)) n) (ec ∙ ap (ifCounted (lim .counted)) many))
+          let p : prefix ≡ prefixOf k = a ∙ ap (λ (n : ℕ). take n l) i ∙ prefix-map v l k fs read in
+          let q = made-is v l k fs (on-ok (LineOf l) (record-in v l) read) (m .id) (m .tag) held (lim .counted) (d ∙ ap mapKind (sym (named .kind ∙ kind-by-case (m .key)))) start b
+          (ek ∙ ap (ifCounted (lim .counted)) n) (ec ∙ ap (ifCounted (lim .counted)) many) in
+          let two : 2 ≤ kind = rw d (number-small (kindBy (m .key)) .0) in
+          subst (λ (e : Entry). Says lim h ms′ (besideEntries h es (prefixOf k) (body v) e) start (body v) l r) q
+          (subst (λ (y : Bytes). Says lim h ms′ (besideEntries h es y (body v) (madeEntry kind start (length l) (m .id) (length name) (m .tag) key count)) start (body v) l r) p (j .is two all start (body v) l))
 
 -- A record
 
+module _ (lim : Limits) (h : Bytes) (es : List Entry) (v : Version) (start : ℕ) (l : Bytes) where
+  map-beside : (k : Bytes) (fs : List Field) → readRecord v l ≡ ok (fields k fs)
+      → besideEntries h es (prefixOf k) (body v) (recordEntry (lim .counted) v start l (fields k fs)) ≡ recordBeside lim h es v start l
+  unfolding clash
+  map-beside k fs e = rw e
+
+  text-beside : (k t : Bytes) → readRecord v l ≡ ok (text k t)
+      → besideEntries h es (prefixOf k) (body v) (recordEntry (lim .counted) v start l (text k t)) ≡ recordBeside lim h es v start l
+  unfolding clash
+  text-beside k t e = rw e
+
 module _ (lim : Limits) (h : Bytes) (es : List Entry) (ms : Bytes) (start end : ℕ) {l : Bytes} (el : l ≡ part h start end) (v : Version) (x : RecordRead) (a : ParsesRecord v l x) where
   -- the line is the one that the code read
-  placed : (r : Verdict) {ms′ : Bytes} → ((rs : List Record) → Scene lim h ms es start l (ready v rs) → Says lim h ms′ (readRecord v l >>= enter (lim .counted) v rs start l) start (ready v rs) l r)
-      → MarksKept h ms ms′ → RecordJudged lim h es ms v start end r ms′
-  placed r {ms′} f m = record {
-    marks = m;
-    is = λ l′ el′ rs s.
-        subst (λ (y : Bytes). Says lim h ms′ (readRecord v y >>= enter (lim .counted) v rs start y) start (ready v rs) y r) (el ∙ sym el′) (f rs (subst (λ (y : Bytes). Scene lim h ms es start y (ready v rs)) (el′ ∙ sym el) s));
-  }
+  placed : (r : Verdict) {ms′ : Bytes} → (All (Marked h ms) es → Says lim h ms′ (recordBeside lim h es v start l) start (body v) l r) → MarksKept h ms ms′ → RecordJudged lim h es ms v start end r ms′
+  placed r {ms′} f m = record { marks = m; is = λ all l′ el′. subst (λ (y : Bytes). Says lim h ms′ (recordBeside lim h es v start y) start (body v) y r) (el ∙ sym el′) (f all) }
 
-  record-is : {y : Record} → readRecord v l ≡ ok y → (rs : List Record) → (readRecord v l >>= enter (lim .counted) v rs start l) ≡ enter (lim .counted) v rs start l y
-  record-is e rs = rw e
+  read-as : {y : Answer Record} → readRecord v l ≡ y → recordBeside lim h es v start l ≡ (y >>= enter (lim .counted) v [] start l >>= heldAgainst h es)
+  read-as e = ap (λ (z : Answer Record). z >>= enter (lim .counted) v [] start l >>= heldAgainst h es) e
 
   pub record-format : {w : FileFormat} → x ≡ read.FileFormat w → RecordJudged lim h es ms v start end (verdict.Refused UnexpectedFileFormat) ms
-  record-format e = placed (verdict.Refused UnexpectedFileFormat) (λ rs s. record-is (subst (RecordIs v l) e (a .is)) rs) (marks-same h ms)
+  record-format e = placed (verdict.Refused UnexpectedFileFormat) (λ all. read-as (subst (RecordIs v l) e (a .is))) (marks-same h ms)
 
   pub record-refused : {y : Refusal} → x ≡ read.Refused y → RecordJudged lim h es ms v start end (verdict.Refused y) ms
-  record-refused {y} e = placed (verdict.Refused y) (λ rs s. ap (λ (z : Answer Record). z >>= enter (lim .counted) v rs start l) (subst (RecordIs v l) e (a .is))) (marks-same h ms)
+  record-refused {y} e = placed (verdict.Refused y) (λ all. read-as (subst (RecordIs v l) e (a .is))) (marks-same h ms)
 
   pub record-map : {y : MapRecord} → x ≡ read.Map y → (r : Verdict) {ms′ : Bytes} → MapJudged lim h es ms start end y r ms′ → RecordJudged lim h es ms v start end r ms′
-  record-map e r {ms′} j = placed r (λ rs s.
+  record-map e r {ms′} j = placed r (λ all.
       let m = subst (RecordIs v l) e (a .is) in
-      subst (λ (y : Answer (State × List Entry)). Says lim h ms′ y start (ready v rs) l r) (sym (record-is (m .3) rs)) (j .is l el v rs (m .0) s (m .1) (m .2) (m .3) (m .4) (m .5)))
+      subst (λ (y : Answer (Stage × List Entry)). Says lim h ms′ y start (body v) l r) (map-beside lim h es v start l (keyIn l) (m .0) (m .3)) (j .is all l el v (m .0) (m .1) (m .2) (m .3) (m .4) (m .5)))
       (j .marks)
 
   pub record-text : {at : ℕ} → x ≡ read.Text at → {prefix : Bytes} → prefix ≡ take (at - 0) (drop 0 l) → {n key : ℕ} → n ≡ at - 3 → key ≡ ifCounted (lim .counted) n
-      → {e : Entry} → e ≡ withCounts (record { keyLength = key; fieldCount = 0 }) (plainEntry textKind start (length l)) → (r : Verdict) {ms′ : Bytes}
-      → IdJudged lim h es ms prefix e r ms′ → RecordJudged lim h es ms v start end r ms′
+      → {new : Entry} → new ≡ withCounts (record { keyLength = key; fieldCount = 0 }) (plainEntry textKind start (length l)) → (r : Verdict) {ms′ : Bytes}
+      → IdJudged lim h es ms prefix new r ms′ → RecordJudged lim h es ms v start end r ms′
   unfolding recordEntry lineEntry countsOf
-  record-text {at} e p {n} {key} en ek q r {ms′} j = placed r (λ rs s.
+  record-text {at} e {prefix} p {n} {key} en ek {new} q r {ms′} j = placed r (λ all.
       let m = subst (RecordIs v l) e (a .is) in
-      let t = text (keyIn l) (drop at l) in
-      let g : Entered v t = line-good v l t (m .1) (s .there .utf8) (s .line) in
-      let i : at - 0 ≡ 2 + length (keyIn l) + 1 = omega (arith, m .0) in
-      let c : n ≡ length (keyIn l) = omega (arith, en, m .0) in
-      let made = q ∙ ap₂ (λ (k f : ℕ). withCounts (record { keyLength = k; fieldCount = f }) (plainEntry textKind start (length l))) (ek ∙ ap (ifCounted (lim .counted)) c) (sym (none-counted (lim .counted))) in
-      subst (λ (y : Answer (State × List Entry)). Says lim h ms′ y start (ready v rs) l r) (sym (record-is (m .1) rs))
-      (j .is l start v rs t s (m .1) g (p ∙ ap (λ (n : ℕ). take n l) i ∙ line-prefix v l t (m .1) g) made))
+      let k = keyIn l in
+      let i : at - 0 ≡ 2 + length k + 1 = omega (arith, m .0) in
+      let c : n ≡ length k = omega (arith, en, m .0) in
+      let w : prefix ≡ prefixOf k = p ∙ ap (λ (n : ℕ). take n l) i ∙ prefix-text v l k (drop at l) (m .1) in
+      let made : new ≡ recordEntry (lim .counted) v start l (text k (drop at l))
+      = q ∙ ap₂ (λ (k f : ℕ). withCounts (record { keyLength = k; fieldCount = f }) (plainEntry textKind start (length l))) (ek ∙ ap (ifCounted (lim .counted)) c) (sym (none-counted (lim .counted))) in
+      let two : 2 ≤ new .kind = rw q (omega arith) in
+      subst (λ (y : Answer (Stage × List Entry)). Says lim h ms′ y start (body v) l r) (text-beside lim h es v start l k (drop at l) (m .1))
+      (subst (λ (y : Entry). Says lim h ms′ (besideEntries h es (prefixOf k) (body v) y) start (body v) l r) made
+      (subst (λ (y : Bytes). Says lim h ms′ (besideEntries h es y (body v) new) start (body v) l r) w (j .is two all start (body v) l))))
       (j .marks)
 
 pub ruleset records = (record-format, record-refused, record-map, record-text)
@@ -323,101 +300,83 @@ pub ruleset records = (record-format, record-refused, record-map, record-text)
 
 module _ (l : Bytes) (f : FileFormat) (x : ColumnsRead) (a : HeaderRead l x) where
   pub columns-good : {b : Bool} {n : ℕ} → x ≡ columns.Columns b n → ColumnsJudged l f (verdict.Columns f n)
-  columns-good e = record {
-    is = λ start rs.
-        let c = columns-read l a e in
-        let d = c .1 in
-        record { rs = rs; c = c .0; state = refl; read = d; count = c .3; ends = rw d };
-  }
+  columns-good e = let c = columns-read l a e in record { is = (refl, (c .0, c .1, c .3)) }
 
   pub columns-wrong : x ≡ columns.WrongColumn → ColumnsJudged l f (verdict.Refused InvalidHeader)
-  columns-wrong e = record { is = λ start rs. ap (λ (y : Answer Columns). y >>= finish (versionOf f) rs start l) (column-wrong l a e) }
+  columns-wrong e = record { is = column-wrong l a e }
 
   pub columns-twice : x ≡ columns.DuplicateSample → ColumnsJudged l f (verdict.Refused DuplicateSampleName)
-  columns-twice e = record { is = λ start rs. ap (λ (y : Answer Columns). y >>= finish (versionOf f) rs start l) (sample-twice l a e) }
+  columns-twice e = record { is = sample-twice l a e }
 
 pub ruleset all-columns = (columns-good, columns-wrong, columns-twice)
 
 -- A line, by its phase
 
-first-says : (lim : Limits) (imposed : Option Version) (h ms l : Bytes) (start : ℕ) (r : Verdict) → FirstSays imposed l r → Says lim h ms (stepText (lim .counted) imposed start empty l) start empty l r
-first-says lim imposed h ms l start (verdict.Begin f) j = j lim start
-first-says lim imposed h ms l start (verdict.Entry e) j = absurd j
-first-says lim imposed h ms l start (verdict.Columns f n) j = absurd j
-first-says lim imposed h ms l start (verdict.Refused x) j = j lim start
+module _ (lim : Limits) (imposed : Option Version) (h ms : Bytes) (es : List Entry) (start : ℕ) (l : Bytes) where
+  first-says : (r : Verdict) → FirstSays imposed l r → Says lim h ms (textBeside lim imposed h es start opening l) start opening l r
+  first-says (verdict.Begin f) j = ap (λ (a : Answer (State × List Entry)). a >>= heldAgainst h es) (j lim start)
+  first-says (verdict.Entry e) j = absurd j
+  first-says (verdict.Columns f n) j = absurd j
+  first-says (verdict.Refused x) j = ap (λ (a : Answer (State × List Entry)). a >>= heldAgainst h es) (j lim start)
 
-columns-say : (lim : Limits) (h ms l : Bytes) (f : FileFormat) (start : ℕ) (rs : List Record) (r : Verdict) → ColumnsSay l f r
-    → Says lim h ms (readColumns l >>= finish (versionOf f) rs start l) start (ready (versionOf f) rs) l r
-columns-say lim h ms l f start rs (verdict.Begin g) j = absurd j
-columns-say lim h ms l f start rs (verdict.Entry e) j = absurd j
-columns-say lim h ms l f start rs (verdict.Columns g n) j = j start rs
-columns-say lim h ms l f start rs (verdict.Refused x) j = j start rs
+  -- what a column line gives
+  abbrev columns-beside : Version → Answer (Stage × List Entry)
+  columns-beside v = readColumns l >>= finish v [] start l >>= heldAgainst h es
+
+  columns-say : (f : FileFormat) (r : Verdict) → ColumnsSay l f r → Says lim h ms (columns-beside (versionOf f)) start (body (versionOf f)) l r
+  columns-say f (verdict.Begin g) j = absurd j
+  columns-say f (verdict.Entry e) j = absurd j
+  columns-say f (verdict.Columns g n) j =
+      let c = j .1 in
+      record {
+        c = c .0;
+        read = c .1;
+        count = c .2;
+        ends = ap (λ (a : Answer Columns). a >>= finish (versionOf f) [] start l >>= heldAgainst h es) (c .1)
+            ∙ ap₂ (λ (x : FileFormat) (k : ℕ). ok (ending (versionOf x) k, columnEntries start l (c .0))) (sym (j .0)) (c .2);
+      }
+  columns-say f (verdict.Refused x) j = ap (λ (a : Answer Columns). a >>= finish (versionOf f) [] start l >>= heldAgainst h es) j
 
 module _ (lim : Limits) (h : Bytes) (es : List Entry) (ms : Bytes) (start end : ℕ) {l : Bytes} (el : l ≡ part h start end) (imposed : Option Version) (p : Phase) where
-  here : (r : Verdict) {ms′ : Bytes} → ((s : State) → PhaseIs p s → Scene lim h ms es start l s → Says lim h ms′ (stepText (lim .counted) imposed start s l) start s l r)
+  -- the line is the one that the code read, and the phase is x
+  here : {x : Phase} → p ≡ x → (r : Verdict) {ms′ : Bytes} → (All (Marked h ms) es → Says lim h ms′ (textBeside lim imposed h es start (stageOf x) l) start (stageOf x) l r)
       → MarksKept h ms ms′ → TextJudged lim h es ms start end p imposed r ms′
-  here r {ms′} f m = record {
+  here {x} e r {ms′} f m = record {
     marks = m;
-    is = λ l′ el′ s q c.
-        subst (λ (y : Bytes). Says lim h ms′ (stepText (lim .counted) imposed start s y) start s y r) (el ∙ sym el′) (f s q (subst (λ (y : Bytes). Scene lim h ms es start y s) (el′ ∙ sym el) c));
+    is = λ all l′ el′.
+        subst (λ (y : Phase). Says lim h ms′ (textBeside lim imposed h es start (stageOf y) l′) start (stageOf y) l′ r) (sym e)
+        (subst (λ (y : Bytes). Says lim h ms′ (textBeside lim imposed h es start (stageOf x) y) start (stageOf x) y r) (el ∙ sym el′) (f all));
   }
 
   pub text-first : p ≡ phase.Empty → (r : Verdict) → FirstJudged imposed l r → TextJudged lim h es ms start end p imposed r ms
-  text-first e r j = here r (λ s q c. go s (subst (λ (x : Phase). PhaseIs x s) e q)) (marks-same h ms)
-    where
-      go : (s : State) → PhaseIs phase.Empty s → Says lim h ms (stepText (lim .counted) imposed start s l) start s l r
-      go empty q = first-says lim imposed h ms l start r (j .is)
-      go (ready v rs) q = absurd q
-      go (done v rs c) q = absurd q
+  text-first e r j = here e r (λ all. first-says lim imposed h ms es start l r (j .is)) (marks-same h ms)
 
   pub text-done : {f : FileFormat} {n : ℕ} → p ≡ phase.Done f n → TextJudged lim h es ms start end p imposed (verdict.Refused ExpectedEof) ms
   unfolding stepText
-  text-done {f} {n} e = here (verdict.Refused ExpectedEof) (λ s q c. go s (subst (λ (x : Phase). PhaseIs x s) e q)) (marks-same h ms)
-    where
-      go : (s : State) → PhaseIs (phase.Done f n) s → stepText (lim .counted) imposed start s l ≡ refuse 1
-      go empty q = absurd q
-      go (ready v rs) q = absurd q
-      go (done v rs c) q = refl
+  text-done e = here e (verdict.Refused ExpectedEof) (λ all. refl) (marks-same h ms)
 
   module _ {f : FileFormat} (e : p ≡ phase.Ready f) {q : Bool} (a : q ≡ starts (ascii "#CHROM") l) where
-    in-ready : (r : Verdict) {ms′ : Bytes}
-        → ((rs : List Record) → Scene lim h ms es start l (ready (versionOf f) rs) → Says lim h ms′ (stepText (lim .counted) imposed start (ready (versionOf f) rs) l) start (ready (versionOf f) rs) l r)
-        → MarksKept h ms ms′ → TextJudged lim h es ms start end p imposed r ms′
-    in-ready r {ms′} j m = here r (λ s x c. go s (subst (λ (y : Phase). PhaseIs y s) e x) c) m
-      where
-        go : (s : State) → PhaseIs (phase.Ready f) s → Scene lim h ms es start l s → Says lim h ms′ (stepText (lim .counted) imposed start s l) start s l r
-        go empty x c = absurd x
-        go (ready v rs) x c =
-            subst (λ (w : Version). Scene lim h ms es start l (ready w rs) → Says lim h ms′ (stepText (lim .counted) imposed start (ready w rs) l) start (ready w rs) l r) (sym x) (j rs) c
-        go (done v rs k) x c = absurd x
-
-    ready-columns : q ≡ true → (rs : List Record) → stepText (lim .counted) imposed start (ready (versionOf f) rs) l ≡ (readColumns l >>= finish (versionOf f) rs start l)
+    body-columns : q ≡ true → columns-beside lim imposed h ms es start l (versionOf f) ≡ textBeside lim imposed h es start (body (versionOf f)) l
     unfolding stepText
-    ready-columns b rs = rw (stepText, sym a ∙ b)
+    body-columns b = rw (stepText, sym a ∙ b)
 
-    ready-record : q ≡ false → (rs : List Record) → stepText (lim .counted) imposed start (ready (versionOf f) rs) l ≡ (readRecord (versionOf f) l >>= enter (lim .counted) (versionOf f) rs start l)
+    body-record : q ≡ false → recordBeside lim h es (versionOf f) start l ≡ textBeside lim imposed h es start (body (versionOf f)) l
     unfolding stepText
-    ready-record b rs = rw (stepText, sym a ∙ b)
+    body-record b = rw (stepText, sym a ∙ b)
 
     pub text-columns : q ≡ true → (r : Verdict) → ColumnsJudged l f r → TextJudged lim h es ms start end p imposed r ms
-    text-columns b r j = in-ready r (λ rs c. subst (λ (y : Answer (State × List Entry)). Says lim h ms y start (ready (versionOf f) rs) l r) (sym (ready-columns b rs)) (columns-say lim h ms l f start rs r (j .is)))
-        (marks-same h ms)
+    text-columns b r j =
+        here e r (λ all. subst (λ (y : Answer (Stage × List Entry)). Says lim h ms y start (body (versionOf f)) l r) (body-columns b) (columns-say lim imposed h ms es start l f r (j .is))) (marks-same h ms)
 
     pub text-record : q ≡ false → (r : Verdict) {ms′ : Bytes} → RecordJudged lim h es ms (versionOf f) start end r ms′ → TextJudged lim h es ms start end p imposed r ms′
-    text-record b r {ms′} j = in-ready r (λ rs c. subst (λ (y : Answer (State × List Entry)). Says lim h ms′ y start (ready (versionOf f) rs) l r) (sym (ready-record b rs)) (j .is l el rs c)) (j .marks)
+    text-record b r {ms′} j = here e r (λ all. subst (λ (y : Answer (Stage × List Entry)). Says lim h ms′ y start (body (versionOf f)) l r) (body-record b) (j .is all l el)) (j .marks)
 
 pub ruleset texts = (text-first, text-done, text-columns, text-record)
 
-phase-done : (p : Phase) (s : State) → PhaseIs p s → isDone s ≡ isDonePhase p
-phase-done phase.Empty empty x = refl
-phase-done phase.Empty (ready v rs) x = absurd x
-phase-done phase.Empty (done v rs c) x = absurd x
-phase-done (phase.Ready f) empty x = absurd x
-phase-done (phase.Ready f) (ready v rs) x = refl
-phase-done (phase.Ready f) (done v rs c) x = absurd x
-phase-done (phase.Done f n) empty x = absurd x
-phase-done (phase.Done f n) (ready v rs) x = absurd x
-phase-done (phase.Done f n) (done v rs c) x = refl
+phase-done : (p : Phase) → isDone (freshState (stageOf p)) ≡ isDonePhase p
+phase-done phase.Empty = refl
+phase-done (phase.Ready f) = refl
+phase-done (phase.Done f n) = refl
 
 -- what answers the needs of `is_utf8`
 pub utf8-known : (l : Bytes) {plain : Bool} → plain ≡ true → Utf8Told plain l true
@@ -429,42 +388,44 @@ utf8-looked plain l e = record { is = λ f. e }
 pub ruleset utf8s = (utf8-known, utf8-looked)
 
 module _ (lim : Limits) (h : Bytes) (es : List Entry) (ms : Bytes) (plain : Bool) (start end : ℕ) (imposed : Option Version) (p : Phase) {d : Bool} (a : d ≡ isDonePhase p) where
-  pub line-done : d ≡ true → LineJudged lim h es ms plain start end p imposed (verdict.Refused ExpectedEof) ms
-  unfolding step
-  line-done e = record { marks = marks-same h ms; is = λ l el s x u. rw (step, phase-done p s x ∙ sym a ∙ e) }
+  abbrev Judged : Verdict → Bytes → Type 0
+  Judged r ms′ = LineJudged lim h es ms plain start end p imposed r ms′
+
+  pub line-done : d ≡ true → Judged (verdict.Refused ExpectedEof) ms
+  unfolding stepOn step
+  line-done e = record { marks = marks-same h ms; is = λ all l el u. rw (stepOn, step, phase-done p ∙ sym a ∙ e) }
 
   module _ (e : d ≡ false) {given : CodeLimits} (g : limitsOf given ≡ lim) {l : Bytes} (el : l ≡ part h start end) where
     most : given .line ≡ lim .line
     most = ap (λ (x : Limits). x .line) g
 
-    pub line-long : given .line < length l → LineJudged lim h es ms plain start end p imposed (verdict.Refused LineTooLong) ms
-    unfolding step
-    line-long n = record { marks = marks-same h ms; is = λ l′ el′ s x u. rw (step, phase-done p s x ∙ sym a ∙ e, lt-leb (length l′) (lim .line) (subst (λ (y : Bytes). lim .line < length y) (el ∙ sym el′) (rw (← most) n))) }
+    -- the line is the one that the code looked at
+    of-line : (r : Verdict) {ms′ : Bytes} → (All (Marked h ms) es → (plain ≡ true → isUtf8 l ≡ true) → Says lim h ms′ (stepOn lim imposed h es start (stageOf p) l) start (stageOf p) l r)
+        → MarksKept h ms ms′ → Judged r ms′
+    of-line r {ms′} f m = record {
+      marks = m;
+      is = λ all l′ el′ u.
+          subst (λ (y : Bytes). Says lim h ms′ (stepOn lim imposed h es start (stageOf p) y) start (stageOf p) y r) (el ∙ sym el′)
+          (f all (λ i. subst (λ (y : Bytes). isUtf8 y ≡ true) (el′ ∙ sym el) (u i)));
+    }
+
+    pub line-long : given .line < length l → Judged (verdict.Refused LineTooLong) ms
+    unfolding stepOn step
+    line-long n = of-line (verdict.Refused LineTooLong) (λ all u. rw (stepOn, step, phase-done p ∙ sym a ∙ e, lt-leb (length l) (lim .line) (rw (← most) n))) (marks-same h ms)
 
     module _ (n : length l ≤ given .line) {q : Bool} (b : Utf8Told plain l q) where
-      stepped : (s : State) → PhaseIs p s → step lim imposed start s l ≡ elim (isUtf8 l) [ true ↦ stepText (lim .counted) imposed start s l | false ↦ refuse 3 ]
-      unfolding step
-      stepped s x = rw (step, phase-done p s x ∙ sym a ∙ e, le-leb (length l) (lim .line) (rw (← most) n))
+      pub line-bytes : not q ≡ true → Judged (verdict.Refused InvalidUtf8) ms
+      unfolding stepOn step
+      line-bytes f = of-line (verdict.Refused InvalidUtf8) (λ all u.
+          let z : isUtf8 l ≡ false = sym (b .is u) ∙ not-true q f in
+          rw (stepOn, step, phase-done p ∙ sym a ∙ e, le-leb (length l) (lim .line) (rw (← most) n), z)) (marks-same h ms)
 
-      pub line-bytes : not q ≡ true → LineJudged lim h es ms plain start end p imposed (verdict.Refused InvalidUtf8) ms
-      line-bytes f = record {
-        marks = marks-same h ms;
-        is = λ l′ el′ s x u.
-            let w = subst (λ (y : Bytes). Unchecked lim h ms plain es start y s) (el′ ∙ sym el) u in
-            let z : isUtf8 l ≡ false = sym (b .is (w .utf8)) ∙ not-true q f in
-            subst (λ (y : Bytes). step lim imposed start s y ≡ refuse 3) (el ∙ sym el′) (stepped s x ∙ rw z);
-      }
+      line-steps : isUtf8 l ≡ true → textBeside lim imposed h es start (stageOf p) l ≡ stepOn lim imposed h es start (stageOf p) l
+      unfolding stepOn step
+      line-steps z = rw (stepOn, step, phase-done p ∙ sym a ∙ e, le-leb (length l) (lim .line) (rw (← most) n), z)
 
-      pub line-text : not q ≡ false → (r : Verdict) {ms′ : Bytes} → TextJudged lim h es ms start end p imposed r ms′ → LineJudged lim h es ms plain start end p imposed r ms′
-      line-text f r {ms′} j = record {
-        marks = j .marks;
-        is = λ l′ el′ s x u.
-            let w = subst (λ (y : Bytes). Unchecked lim h ms plain es start y s) (el′ ∙ sym el) u in
-            let z : isUtf8 l ≡ true = sym (b .is (w .utf8)) ∙ not-false q f in
-            let c : step lim imposed start s l ≡ stepText (lim .counted) imposed start s l = stepped s x ∙ rw z in
-            subst (λ (y : Bytes). Says lim h ms′ (step lim imposed start s y) start s y r) (el ∙ sym el′)
-            (subst (λ (y : Answer (State × List Entry)). Says lim h ms′ y start s l r) (sym c)
-            (j .is l el s x (record { there = record { here = w .here; inside = w .inside; short = rw (← most) n; utf8 = z }; line = w .line; tabled = w .tabled })));
-      }
+      pub line-text : not q ≡ false → (r : Verdict) {ms′ : Bytes} → TextJudged lim h es ms start end p imposed r ms′ → Judged r ms′
+      line-text f r {ms′} j = of-line r (λ all u.
+          subst (λ (y : Answer (Stage × List Entry)). Says lim h ms′ y start (stageOf p) l r) (line-steps (sym (b .is u) ∙ not-false q f)) (j .is all l el)) (j .marks)
 
 pub ruleset all-lines = (line-done, line-long, line-bytes, line-text)

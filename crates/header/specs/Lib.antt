@@ -1,3 +1,4 @@
+pub mod Steps
 pub mod Verdicts
 pub mod Parsers
 pub mod Fields

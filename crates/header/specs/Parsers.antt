@@ -1,26 +1,34 @@
--- The line machine beside the rules' run over a header's pieces, and what a reading answers. Assumes nothing.
+-- What a reading answers, and the line machine of the code beside that of `Steps`. Assumes nothing.
 use Prim.Native.Nat.{ℕ, zero, suc, _+_, _≤_, _<_}
 use mathlib.Core.Path.{_≡_}
-use mathlib.Core.Bool.{Bool, true}
+use mathlib.Core.Bool.{Bool, true, false}
 use mathlib.Core.List.{List, _∷_}
 use mathlib.Core.Option.{Option, none, some}
+use lib.Dec.{leb}
 use lib.ListN.{length, drop}
 use Rattle.values.specs.Bytes.{Bytes, part}
 use Rattle.values.specs.Utf8.{isAscii}
+use Rattle.rules.specs.Answer.{Answer, ok, refuse}
 use Rattle.rules.specs.Version.{Version}
 use Rattle.rules.specs.Lines.{pieces, lineOf}
 use Rattle.rules.specs.Entry.{Entry}
-use Rattle.rules.specs.Reading.{State, empty, ready, done, step, Reading, stop, following, run, reading}
+use Rattle.rules.specs.Reading.{State, empty, ready, done, Reading, reading}
+use Rattle.rules.specs.Claims.{All}
+use Rattle.rules.proofs.Firsts.{OnOk}
 use Rattle.records.specs.Formats.{versionOf}
 use Rattle.records.specs.Refusals.{number}
 use Rattle.records.specs.declared.refusal.Refusal.{Refusal}
 use Rattle.entries.specs.Tables.{room, stored}
-use Rattle.header.specs.Verdicts.{PhaseIs, Tabled, Says, MarksKept}
+use Rattle.ids.specs.Marks.{Marked}
+use Rattle.header.specs.Steps.{Stage, opening, body, ending, stepOn, Spot, Told, fits, pointOf, readOn, tableOn}
+use Rattle.header.specs.Verdicts.{stageOf, Says, MarksKept}
 use Rattle.header.specs.declared.verdict.Verdict.{Verdict}
 use Rattle.header.specs.declared.parser.Outcome.{Outcome}
 use Rattle.header.specs.declared.parser.Outcome.the-variants as outcome
 use Rattle.header.specs.declared.parser.ReadAnswer.{ReadAnswer}
 use Rattle.header.specs.declared.parser.Parser.{Parser}
+use Rattle.header.specs.declared.parser.Advance.{Advance}
+use Rattle.header.specs.declared.parser.Advance.the-variants as advance
 use Rattle.header.specs.declared.parser.Partial.{Partial}
 use Rattle.header.specs.declared.parser.Partial.the-variants as partial
 use Rattle.entries.specs.Values.{limitsBy}
@@ -67,58 +75,85 @@ pub record ReadCall (form : Form) (imposed : Option Version) (h t : List ℕ) (r
   pub answer : answerMeans r ≡ readingMeans (readInto form imposed t h)
   pub table : t′ ≡ stored form t 0 (readInto form imposed t h .entries)
 
--- the rest of the header, read from here, gives the whole reading; the table holds the entries kept so far, and they are marked
-pub record Kept (form : Form) (imposed : Option Version) (h t₀ ms t : List ℕ) (p : Parser) : Type 0 where
-  pub state : State
-  pub es : List Entry
-  pub phase-is : PhaseIs (p .phase) state
-  pub tabled : Tabled (limitsBy form) h ms state es
-  pub stored-are : t ≡ stored form t₀ 0 es
-  pub counted : length es ≡ p .count
-  pub roomy : p .count ≤ room form t₀
-  pub lines : p .line ≤ p .at
-  pub inside : p .at ≤ length h
-  pub small : length h ≤ limitsBy form .header
-  pub rest : readInto form imposed t₀ h ≡ following es (run (limitsBy form) imposed (room form t₀) (p .line) (p .at) (p .count) state (pieces (drop (p .at) h)))
+-- How far a header is read
 
--- a line that stands at a place of the header, and where the next one begins
-pub record LineHere (h : Bytes) (at : ℕ) (l : Bytes) (next : ℕ) : Type 0 where
-  pub piece : Bytes
-  pub pieces-after : List Bytes
-  pub first : pieces (drop at h) ≡ piece ∷ pieces-after
-  pub is-line : l ≡ lineOf piece
-  pub stepped : next ≡ at + length piece
-  pub left : pieces (drop next h) ≡ pieces-after
-  pub moves : at < next
-  pub inside : next ≤ length h
+abbrev pub spotIn : Parser → Spot
+spotIn p = record { stage = stageOf (p .phase); line = p .line; at = p .at; count = p .count }
 
--- nothing is stored, and the reading ends here
-pub record Stops (form : Form) (imposed : Option Version) (h t₀ t : List ℕ) (p : Parser) (x : Refusal) : Type 0 where
-  pub state : State
-  pub es : List Entry
-  pub stored-are : t ≡ stored form t₀ 0 es
-  pub counted : length es ≡ p .count
-  pub whole : readInto form imposed t₀ h ≡ following es (stop (number x) (suc (p .line)) (p .at) state)
+abbrev pub advanceMeans : Advance → Told
+advanceMeans (advance.Ended p) = record { stop = none; spot = spotIn p }
+advanceMeans (advance.Stopped p x) = record { stop = some (number x); spot = spotIn p }
 
--- a line further, or refused; ms and t are the marks and the table after it
-abbrev pub PartialIs : Form → Option Version → Bytes → List ℕ → Parser → Partial → Bytes → List ℕ → Type 0
-PartialIs form imposed h t₀ p (partial.Next q) ms t = Kept form imposed h t₀ ms t q × (p .at < q .at)
-PartialIs form imposed h t₀ p (partial.Refused x) ms t = Stops form imposed h t₀ t p x
+-- the answer where no line is left: no line at all, no column line, or accepted
+abbrev pub endedBy : Stage → ℕ → ℕ → ℕ → AnswerMeaning
+endedBy opening line at count = record { number = 25; line = 0; start = 0; entries = count; accepted = none }
+endedBy (body v) line at count = record { number = 26; line = line; start = at; entries = count; accepted = none }
+endedBy (ending v n) line at count = record { number = 0; line = line; start = at; entries = count; accepted = some (v, n) }
+
+abbrev pub endedAt : Spot → AnswerMeaning
+endedAt s = endedBy (s .stage) (s .line) (s .at) (s .count)
+
+-- the answer where the next line is refused by this number
+abbrev pub refusedAt : ℕ → Spot → AnswerMeaning
+refusedAt n s = record { number = n; line = suc (s .line); start = s .at; entries = s .count; accepted = none }
+
+-- at the end of a header
+abbrev pub closedBy : Option ℕ → Spot → AnswerMeaning
+closedBy none s = endedAt s
+closedBy (some n) s = refusedAt n s
+
+abbrev pub closedAt : Told → AnswerMeaning
+closedAt t = closedBy (t .stop) (t .spot)
+
+-- what `read_on` promises of a call: the version imposed, the header, the table and the spot; how far it went, and the table after it
+pub record ReadsOn (form : Form) (imposed : Option Version) (h : Bytes) (end : ℕ) (t : List ℕ) (s : Spot) (r : Advance) (t′ : List ℕ) : Type 0 where
+  pub told : advanceMeans r ≡ readOn form imposed h end t s
+  pub table : t′ ≡ tableOn form imposed h end t s
+
+-- where the lines from a spot on can be read; plain: they are known to be ASCII
+pub record Begins (form : Form) (plain : Bool) (h t : List ℕ) (s : Spot) : Type 0 where
+  pub fit : fits form (length h) t s ≡ true
+  pub ascii : plain ≡ true → isAscii (drop (s .at) h) ≡ true
+
+-- the same, with the entries marked
+pub record BeginsMarked (form : Form) (plain : Bool) (h ms t : List ℕ) (s : Spot) : Type 0 where
+  pub begins : Begins form plain h t s
+  pub marked : All (Marked h ms) (pointOf form t s .entries)
+
+-- One line
 
 pub record Bounds (form : Form) (h t : List ℕ) (p : Parser) : Type 0 where
   pub count : p .count ≤ room form t
   pub line : p .line < length h
 
+-- what a line's answer makes of a spot and of the table: the next line begins at `next`
+abbrev pub spotAfter : ℕ → Spot → ℕ → Answer (Stage × List Entry) → Answer Spot
+spotAfter room s next (refuse m) = refuse m
+spotAfter room s next (ok q) = elim (leb (s .count + length (q .1)) room) [
+  | true ↦ ok (record { stage = q .0; line = s .line + 1; at = next; count = s .count + length (q .1) })
+  | false ↦ refuse 24
+]
+
+abbrev pub tableAfter : Form → List ℕ → ℕ → Answer (Stage × List Entry) → List ℕ
+tableAfter form t n (refuse m) = t
+tableAfter form t n (ok q) = elim (leb (n + length (q .1)) (room form t)) [ true ↦ stored form t n (q .1) | false ↦ t ]
+
+abbrev pub partialMeans : Partial → Answer Spot
+partialMeans (partial.Next q) = ok (spotIn q)
+partialMeans (partial.Refused x) = refuse (number x)
+
+-- a line was kept, or refused, as its answer says; ms are the marks after it
+pub record Stepped (form : Form) (h ms : Bytes) (p : Parser) (next : ℕ) (a : Answer (Stage × List Entry)) (t : List ℕ) (r : Partial) (t′ : List ℕ) : Type 0 where
+  pub told : partialMeans r ≡ spotAfter (room form t) (spotIn p) next a
+  pub table : t′ ≡ tableAfter form t (p .count) a
+  pub marked : OnOk (λ q. All (Marked h ms) (q .1)) a
+
 pub record KeepsLine (form : Form) (p : Parser) (h : Bytes) (end next : ℕ) (v : Verdict) (t : List ℕ) (r : Partial) (t′ : List ℕ) : Type 0 where
-  pub is : (imposed : Option Version) (t₀ ms ms′ : List ℕ) (k : Kept form imposed h t₀ ms t p)
-      → LineHere h (p .at) (part h (p .at) end) next → MarksKept h ms ms′
-      → Says (limitsBy form) h ms′ (step (limitsBy form) imposed (p .at) (k .state) (part h (p .at) end)) (p .at) (k .state) (part h (p .at) end) v → PartialIs form imposed h t₀ p r ms′ t′
+  pub is : (ms : Bytes) (a : Answer (Stage × List Entry)) → Says (limitsBy form) h ms a (p .at) (stageOf (p .phase)) (part h (p .at) end) v → Stepped form h ms p next a t r t′
 
--- plain: the header is known to be ASCII
+-- plain: the rest of the header is known to be ASCII
 pub record Parses (form : Form) (imposed : Option Version) (plain : Bool) (p : Parser) (h ms t : List ℕ) (r : Partial) (ms′ t′ : List ℕ) : Type 0 where
-  pub is : (t₀ : List ℕ) → Kept form imposed h t₀ ms t p → (plain ≡ true → isAscii h ≡ true) → p .at < length h
-      → PartialIs form imposed h t₀ p r ms′ t′
-
-pub record Finishes (p : Parser) (r : ReadAnswer) : Type 0 where
-  pub is : (form : Form) (imposed : Option Version) (h t₀ ms t : List ℕ) → Kept form imposed h t₀ ms t p → length h ≤ p .at → answerMeans r
-      ≡ readingMeans (readInto form imposed t₀ h)
+  pub marks : MarksKept h ms ms′
+  pub is : All (Marked h ms) (pointOf form t (spotIn p) .entries) → (piece : Bytes) (ps : List Bytes) → pieces (drop (p .at) h) ≡ piece ∷ ps
+      → (plain ≡ true → isAscii (drop (p .at) h) ≡ true)
+      → Stepped form h ms′ p (p .at + length piece) (stepOn (limitsBy form) imposed h (pointOf form t (spotIn p) .entries) (p .at) (stageOf (p .phase)) (lineOf piece)) t r t′

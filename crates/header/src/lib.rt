@@ -1,5 +1,6 @@
 // The reading of a whole header, line by line, and the calls on its entries.
 pub mod file_format_option;
 pub mod parser;
+pub mod phase;
 pub mod shown;
 mod verdict;

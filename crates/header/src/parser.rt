@@ -1,8 +1,8 @@
 // The line machine, and the reading of a whole header.
 use crate::file_format_option::FileFormatOption;
+use crate::phase::Phase;
 use crate::verdict;
 use crate::verdict::Given;
-use crate::verdict::Phase;
 use crate::verdict::Place;
 use crate::verdict::Verdict;
 use columns::header_line;
@@ -10,6 +10,7 @@ use entries::entry::Entry;
 use entries::form::Form;
 use entries::kind;
 use entries::table;
+use ids::scan;
 use lines::line;
 use records::file_format::FileFormat;
 use records::refusal::Refusal;
@@ -17,7 +18,8 @@ use values::bytes;
 use values::utf8;
 ghost use mathlib.Core.Path.{_≡_};
 ghost use Rattle.header.specs.Verdicts.{imposedOf};
-ghost use Rattle.header.specs.Parsers.{refusedAs, Bounds, KeepsLine, Parses, Finishes, ReadCall};
+ghost use Rattle.header.specs.Steps.{startSpot, fits};
+ghost use Rattle.header.specs.Parsers.{answerMeans, endedAt, refusedAs, spotIn, Bounds, KeepsLine, Parses, Begins, BeginsMarked, ReadsOn, ReadCall};
 
 // What a header is found to be: accepted, with the version in force and the number of samples, or refused.
 pub enum Outcome {
@@ -33,12 +35,18 @@ pub struct ReadAnswer {
     pub entries: usize,
 }
 
-// The phase, how many lines were read, where the next one begins, and how many entries were kept.
-struct Parser {
-    phase: Phase,
-    line: usize,
-    at: usize,
-    count: usize,
+// How far a header is read: the phase, how many lines were read, where the next one begins, and how many entries were kept.
+pub struct Parser {
+    pub phase: Phase,
+    pub line: usize,
+    pub at: usize,
+    pub count: usize,
+}
+
+// How far it is read after some lines: all of them, or up to one that is refused.
+pub enum Advance {
+    Ended(Parser),
+    Stopped(Parser, Refusal),
 }
 
 // The version imposed, the form of the entries, and whether the header is known to be ASCII.
@@ -54,6 +62,35 @@ enum Partial {
 }
 
 impl Parser {
+    // Before the first line.
+    pub fn new() -> Parser
+        ensures { λ r. ⌜ spotIn r ≡ startSpot ⌝ }
+    {
+        Parser {
+            phase: Phase::Empty,
+            line: 0,
+            at: 0,
+            count: 0,
+        }
+    }
+
+    // Whether reading can go on from here, in a header of `size` bytes with its entries in this table.
+    pub fn fits(self, form: Form, size: usize, table: &[u64]) -> bool
+        ensures { λ r. ⌜ r ≡ fits form size (now (table .entry)) (spotIn self) ⌝ }
+    {
+        let limits = form.limits();
+        if limits.header < size {
+            return false;
+        }
+        if table::count(table, form) < self.count {
+            return false;
+        }
+        if size < self.at {
+            return false;
+        }
+        self.line <= self.at
+    }
+
     // The state after the line that stands from `at` to `end` and whose successor begins at `next`; its entries are stored if there is
     // room for all of them.
     fn keep(
@@ -150,8 +187,9 @@ impl Parser {
         self.keep(h, found.end, found.next, verdict, table, form)
     }
 
-    fn finish(self) -> ReadAnswer
-        ensures { λ r. ⌜ Finishes self r ⌝ }
+    // The answer where no line is left.
+    pub fn finish(self) -> ReadAnswer
+        ensures { λ r. ⌜ answerMeans r ≡ endedAt (spotIn self) ⌝ }
     {
         let phase = self.phase;
         match phase {
@@ -188,49 +226,99 @@ fn refuse(x: Refusal, line: usize, start: usize, entries: usize) -> ReadAnswer
     }
 }
 
-// The entries are marked in `marks`, whatever stands there before.
+// The lines that begin before `end`, one after the other. `marks` are those of the entries kept so far.
 fn read_lines(
     header: &[u8],
+    end: usize,
+    from: Parser,
+    options: Options,
+    table: &mut [u64],
+    marks: &mut [u8],
+) -> Advance
+    requires { ⌜ BeginsMarked (options .form) (options .ascii) (now header) (now marks) (now table) (spotIn from) ⌝ }
+    ensures { λ r.
+        ⌜ ReadsOn (options .form) (imposedOf (options .imposed)) (now (header .entry)) end (now (table .entry)) (spotIn from) r (now (table .exit)) ⌝ }
+{
+    let mut parser = from;
+    while parser.at < end {
+        if header.len() <= parser.at {
+            return Advance::Ended(parser);
+        }
+        match parser.parse_partial(header, options, marks, table) {
+            Partial::Next(next) => parser = next,
+            Partial::Refused(x) => return Advance::Stopped(parser, x),
+        }
+    }
+    Advance::Ended(parser)
+}
+
+// The entries that are there are marked first, in `marks`, whatever stands in these.
+fn read_marked(
+    header: &[u8],
+    end: usize,
+    from: Parser,
+    options: Options,
+    table: &mut [u64],
+    marks: &mut [u8],
+) -> Advance
+    requires { ⌜ Begins (options .form) (options .ascii) (now header) (now table) (spotIn from) ⌝ }
+    ensures { λ r.
+        ⌜ ReadsOn (options .form) (imposedOf (options .imposed)) (now (header .entry)) end (now (table .entry)) (spotIn from) r (now (table .exit)) ⌝ }
+{
+    let form = options.form;
+    scan::mark_all(header, table::kept(table, form, from.count), form, marks);
+    read_lines(header, end, from, options, table, marks)
+}
+
+// Reads the lines that begin before `end`, from where the parser stands on, into the table after the entries that it counts. Where
+// the parser does not fit, nothing is read.
+pub fn read_on(
+    header: &[u8],
+    end: usize,
+    from: Parser,
     imposed: FileFormatOption,
     form: Form,
     table: &mut [u64],
-    marks: &mut [u8],
-) -> ReadAnswer
-    ensures { λ r. ⌜ ReadCall form (imposedOf imposed) (now (header .entry)) (now (table .entry)) r (now (table .exit)) ⌝ }
+) -> Advance
+    ensures { λ r.
+        ⌜ ReadsOn form (imposedOf imposed) (now (header .entry)) end (now (table .entry)) (spotIn from) r (now (table .exit)) ⌝ }
 {
-    let limits = form.limits();
-    if limits.header < header.len() {
-        return refuse(Refusal::HeaderTooLong, 0, 0, 0);
+    if !from.fits(form, header.len(), table) {
+        return Advance::Ended(from);
+    }
+    let at = from.at;
+    if end <= at {
+        return Advance::Ended(from);
     }
     let options = Options {
         imposed,
         form,
-        ascii: utf8::is_ascii(header),
+        ascii: utf8::is_ascii(&header[at..]),
     };
-    let mut parser = Parser {
-        phase: Phase::Empty,
-        line: 0,
-        at: 0,
-        count: 0,
-    };
-    while parser.at < header.len() {
-        match parser.parse_partial(header, options, marks, table) {
-            Partial::Next(next) => parser = next,
-            Partial::Refused(x) => return refuse(x, parser.line + 1, parser.at, parser.count),
-        }
+    // Few lines are held against all entries in less time than it takes to mark those.
+    if header.len() - at < 256 {
+        let mut marks = [0u8; 0];
+        return read_lines(header, end, from, options, table, &mut marks);
     }
-    parser.finish()
+    // A short header has few entries, and clearing more marks than they need costs more than it spares.
+    if header.len() < 65536 {
+        let mut marks = [0u8; 4096];
+        return read_marked(header, end, from, options, table, &mut marks);
+    }
+    let mut marks = [0u8; 65536];
+    read_marked(header, end, from, options, table, &mut marks)
 }
 
 // Reads a header into the table, from its first entry on.
 pub fn read(header: &[u8], imposed: FileFormatOption, form: Form, table: &mut [u64]) -> ReadAnswer
     ensures { λ r. ⌜ ReadCall form (imposedOf imposed) (now (header .entry)) (now (table .entry)) r (now (table .exit)) ⌝ }
 {
-    // A short header has few entries, and clearing more marks than they need costs more than it spares.
-    if header.len() < 65536 {
-        let mut marks = [0u8; 4096];
-        return read_lines(header, imposed, form, table, &mut marks);
+    let limits = form.limits();
+    if limits.header < header.len() {
+        return refuse(Refusal::HeaderTooLong, 0, 0, 0);
     }
-    let mut marks = [0u8; 65536];
-    read_lines(header, imposed, form, table, &mut marks)
+    match read_on(header, header.len(), Parser::new(), imposed, form, table) {
+        Advance::Ended(parser) => parser.finish(),
+        Advance::Stopped(parser, x) => refuse(x, parser.line + 1, parser.at, parser.count),
+    }
 }

@@ -1,5 +1,6 @@
 // What a line is, beside the lines before it: checked in full before anything is stored.
 use crate::file_format_option::FileFormatOption;
+use crate::phase::Phase;
 use columns::header_line;
 use columns::header_line::ColumnsRead;
 use entries::entry::Entry;
@@ -19,15 +20,7 @@ ghost use Rattle.rules.specs.Version.{inForce};
 ghost use Rattle.records.specs.Formats.{versionOf};
 ghost use Rattle.entries.specs.Values.{entryOf, limitsBy};
 ghost use Rattle.entries.specs.Tables.{entriesIn};
-ghost use Rattle.header.specs.Verdicts.{imposedOf, isDonePhase, IdJudged, FirstJudged, MapJudged, RecordJudged, ColumnsJudged, TextJudged, Utf8Told, LineJudged};
-ghost use Rattle.rules.specs.Claims.{Sized};
-
-// Before the fileformat line; after it, with the version in force; after the column line, with the number of samples too.
-pub enum Phase {
-    Empty,
-    Ready(FileFormat),
-    Done(FileFormat, usize),
-}
+ghost use Rattle.header.specs.Verdicts.{imposedOf, IdJudged, FirstJudged, MapJudged, RecordJudged, ColumnsJudged, TextJudged, Utf8Told, LineJudged};
 
 // Where a line stands, and where it ends, without its ending.
 pub struct Place {
@@ -52,8 +45,7 @@ pub enum Verdict {
 }
 
 fn in_force(imposed: FileFormatOption, v: FileFormat) -> FileFormat
-    ensures version { λ r. ⌜ versionOf r ≡ inForce (imposedOf imposed) (versionOf v) ⌝ }
-    ensures sized { λ r. ⌜ Sized (versionOf r) ⌝ }
+    ensures { λ r. ⌜ versionOf r ≡ inForce (imposedOf imposed) (versionOf v) ⌝ }
 {
     match imposed {
         FileFormatOption::None => v,
@@ -185,18 +177,6 @@ fn judge_text(
             judge_record(h, kept, form, marks, at, version)
         }
         Phase::Done(_, _) => Verdict::Refused(Refusal::ExpectedEof),
-    }
-}
-
-impl Phase {
-    fn is_done(self) -> bool
-        ensures { λ r. ⌜ r ≡ isDonePhase self ⌝ }
-    {
-        match self {
-            Phase::Empty => false,
-            Phase::Ready(_) => false,
-            Phase::Done(_, _) => true,
-        }
     }
 }
 

@@ -23,7 +23,6 @@ use Rattle.rules.specs.House.{writeFields, writeRecord}
 use Rattle.rules.proofs.Firsts.{on-ok}
 use Rattle.rules.proofs.Groups.{Apart}
 use Rattle.rules.proofs.Records.{Entered}
-use Rattle.rules.proofs.Sound.{Good}
 use Rattle.rules.proofs.Texts.{LineOf, record-in}
 use Rattle.rules.proofs.Shows.{shows-map, shows-text}
 use Rattle.ids.specs.Clashes.{clashNumber, hasKey, keySeen, isOfKey, isOfId, idSeen, clashBy, clashIn, prefixOf}
@@ -287,24 +286,24 @@ module _ (h prefix : Bytes) (e₀ : Entry) (format : e₀ .kind ≡ formatKind) 
   unfolding keySeen hasKey
   skip-key kind l = rw (ne-eqb (e₀ .kind) kind (λ e. omega arith))
 
-module _ (lim : Limits) (h : Bytes) (v : Version) (e₀ : Entry) (format : e₀ .kind ≡ formatKind) (es : List Entry) (rs : List Record) (rows : Rows lim h v es rs) (good : Good v rs) where
+module _ (lim : Limits) (h : Bytes) (v : Version) (e₀ : Entry) (format : e₀ .kind ≡ formatKind) (es : List Entry) (rs : List Record) (rows : Rows lim h v es rs) (good : All (Entered v) rs) (apart : Apart v rs) where
   abbrev all : List Entry
   all = e₀ ∷ es
 
   seen-id : (k m : Bytes) → any (is 61) k ≡ false → idSeen h (prefixOf k) (mapKind (kindOf k)) m all ≡ among (hasIdUnder v k m) rs
   seen-id k m p =
       skip-id h (prefixOf k) e₀ format es (mapKind (kindOf k)) m (number-small (kindOf k) .0)
-      ∙ ids-among lim h v (prefixOf k) (mapKind (kindOf k)) m (hasIdUnder v k m) (λ e s g d. id-of-entry h v k p e m s g d) es rs rows (good .good)
+      ∙ ids-among lim h v (prefixOf k) (mapKind (kindOf k)) m (hasIdUnder v k m) (λ e s g d. id-of-entry h v k p e m s g d) es rs rows good
 
   seen-text : (k : Bytes) → any (is 61) k ≡ false → keySeen h (prefixOf k) textKind all ≡ among (isTextUnder k) rs
   seen-text k p =
       skip-key h (prefixOf k) e₀ format es 8 (omega arith)
-      ∙ keys-among lim h v (prefixOf k) 8 (isTextUnder k) (λ e s g d. text-of-entry h v k p e s g d) es rs rows (good .good)
+      ∙ keys-among lim h v (prefixOf k) 8 (isTextUnder k) (λ e s g d. text-of-entry h v k p e s g d) es rs rows good
 
   seen-map : (k : Bytes) → any (is 61) k ≡ false → isTyped k ≡ false → keySeen h (prefixOf k) (mapKind other) all ≡ among (isMapUnder k) rs
   seen-map k p u =
       skip-key h (prefixOf k) e₀ format es 7 (omega arith)
-      ∙ keys-among lim h v (prefixOf k) 7 (isMapUnder k) (λ e s g d. map-of-entry h v k p e u s g d) es rs rows (good .good)
+      ∙ keys-among lim h v (prefixOf k) 7 (isMapUnder k) (λ e s g d. map-of-entry h v k p e u s g d) es rs rows good
 
   -- the new record's entry e
   new-map : (e : Entry) (k : Bytes) (fs : List Field) → any (is 61) k ≡ false → Kept h v e (fields k fs) → clashNumber (clashIn h all (prefixOf k) e) ≡ clash v (fields k fs) rs
@@ -312,8 +311,8 @@ module _ (lim : Limits) (h : Bytes) (v : Version) (e₀ : Entry) (format : e₀ 
       let i : idSeen h (prefixOf k) (e .kind) (idMeaning h e) all ≡ among (hasIdUnder v k m) rs
       = ap (λ (x : Bytes). idSeen h (prefixOf k) (e .kind) x all) (d .id refl) ∙ ap (λ (n : ℕ). idSeen h (prefixOf k) n m all) (d .kind) ∙ seen-id k m p in
       elim (test (isTyped k)) [
-        | pass t ↦ answer-typed h all (prefixOf k) e (ap (λ (n : ℕ). ltb n 7) (d .kind) ∙ sym (typed-below k) ∙ t) ∙ rw i (sym (typed-clash v k fs t rs (good .good)))
-        | fail t ↦ rw (i, seen-text k p) (answer-map (e .kind) _ _ _ (d .kind ∙ untyped-number k t) ∙ sym (other-clash v k fs t rs (good .apart)))
+        | pass t ↦ answer-typed h all (prefixOf k) e (ap (λ (n : ℕ). ltb n 7) (d .kind) ∙ sym (typed-below k) ∙ t) ∙ rw i (sym (typed-clash v k fs t rs good))
+        | fail t ↦ rw (i, seen-text k p) (answer-map (e .kind) _ _ _ (d .kind ∙ untyped-number k t) ∙ sym (other-clash v k fs t rs apart))
       ]
 
   new-text : (e : Entry) (k t : Bytes) → any (is 61) k ≡ false → isTyped k ≡ false → Kept h v e (text k t) → clashNumber (clashIn h all (prefixOf k) e) ≡ clash v (text k t) rs

@@ -1,11 +1,11 @@
 -- Marks: what they tell of the entries. Assumes nothing.
-use Prim.Native.Nat.{ℕ, _≤_, _<_}
+use Prim.Native.Nat.{ℕ, _+_, _≤_, _<_}
 use native.Mathlib.Omega.{arith}
-use mathlib.Core.Path.{_≡_, sym, subst, _∙_}
+use mathlib.Core.Path.{_≡_, refl, sym, ap, subst, _∙_}
 use mathlib.Core.Bool.{Bool, true, false, not, _&&_, false≢true}
 use mathlib.Core.List.{List, [], _∷_}
 use lib.Dec.{eqb, leb, ltb}
-use lib.ListN.{length}
+use lib.ListN.{length, drop}
 use borrow.Author.Tests.{eqb-true, eqb-false, ltb-true, ltb-false, leb-true, leb-false, le-ltb, ne-eqb}
 use Rattle.values.specs.Bytes.{Bytes, starts, same}
 use Rattle.values.specs.Value.{meaning}
@@ -18,8 +18,11 @@ use Rattle.rules.specs.Entry.{Entry, mapKind, textKind}
 use Rattle.rules.specs.Shown.{lineIn, idIn, idMeaning}
 use Rattle.entries.specs.declared.entry.Entry.{Entry as CodeEntry}
 use Rattle.entries.specs.Values.{entryOf}
+use Rattle.entries.specs.declared.form.Form.{Form}
+use Rattle.entries.specs.Tables.{room, entriesIn, entryIn}
+use Rattle.entries.proofs.Stored.{entries-here, entries-past}
 use Rattle.ids.specs.Clashes.{hasKey, keySeen, isOfKey, isOfId, idSeen, clashBy, clashIn}
-use Rattle.ids.specs.Marks.{markEntry, Marked, keyFound, idFound, clashFound}
+use Rattle.ids.specs.Marks.{markEntry, markAll, Marked, keyFound, idFound, clashFound}
 use Rattle.rules.specs.Claims.{All}
 
 -- What is marked stays so
@@ -69,6 +72,28 @@ all-kept h e ms (x ∷ es) a = (
   record { id = λ b c. one-kept h e ms (x .kind) (idMeaning h x) (a .0 .id b c); key = λ b c. one-kept h e ms (x .kind) [] (a .0 .key b c) },
   all-kept h e ms es (a .1),
 )
+
+-- all that are marked one after the other
+pub all-length : (h : Bytes) (es : List Entry) (ms : Bytes) → length (markAll h es ms) ≡ length ms
+unfolding markAll
+all-length h [] ms = refl
+all-length h (e ∷ es) ms = all-length h es (markEntry h e ms) ∙ entry-length h e ms
+
+still-marked : (h : Bytes) (es fs : List Entry) (ms : Bytes) → All (Marked h ms) fs → All (Marked h (markAll h es ms)) fs
+unfolding markAll
+still-marked h [] fs ms a = a
+still-marked h (e ∷ es) fs ms a = still-marked h es fs (markEntry h e ms) (all-kept h e ms fs a)
+
+pub all-marked : (h : Bytes) (es : List Entry) (ms : Bytes) → All (Marked h (markAll h es ms)) es
+unfolding markAll
+all-marked h [] ms = tt
+all-marked h (e ∷ es) ms = (still-marked h es (e ∷ []) (markEntry h e ms) (entry-own h e ms, tt) .0, all-marked h es (markEntry h e ms))
+
+-- where there are no marks, all may have been met
+pub unmarked-all : (h : Bytes) (es : List Entry) (ms : Bytes) → length ms ≡ 0 → All (Marked h ms) es
+unfolding isMarked
+unmarked-all h [] ms z = tt
+unmarked-all h (e ∷ es) ms z = (record { id = λ a b. rw z; key = λ a b. rw z }, unmarked-all h es ms z)
 
 -- What the scans find is marked
 
@@ -143,5 +168,32 @@ id-met h ms x ep e = e ∙ rw ep
 -- no new line clashes with the fileformat line
 pub unmarked : (h ms : Bytes) (e : Entry) → e .kind < 2 → Marked h ms e
 unmarked h ms e l = record { id = λ a b. absurd (omega arith); key = λ a b. absurd (omega arith) }
+
+-- nor with a column line or a sample
+pub unmarked-last : (h ms : Bytes) (e : Entry) → 8 < e .kind → Marked h ms e
+unmarked-last h ms e l = record { id = λ a b. absurd (omega arith); key = λ a b. absurd (omega arith) }
+
+-- The entries before number k are marked
+
+pub record Marking (h : Bytes) (form : Form) (t : List ℕ) (ms₀ ms : Bytes) (k : ℕ) : Type 0 where
+  pub still : markAll h (entriesIn form t) ms₀ ≡ markAll h (drop k (entriesIn form t)) ms
+  pub long : length ms ≡ length ms₀
+
+pub marking-start : (h : Bytes) (form : Form) (t : List ℕ) (ms : Bytes) → Marking h form t ms ms 0
+marking-start h form t ms = record { still = refl; long = refl }
+
+module _ {h : Bytes} {form : Form} {t : List ℕ} {ms₀ ms : Bytes} {k : ℕ} (g : Marking h form t ms₀ ms k) {n : ℕ} (en : n ≡ room form t) where
+  pub marking-end : n ≤ k → ms ≡ markAll h (entriesIn form t) ms₀
+  unfolding markAll
+  marking-end l = sym (g .still ∙ rw (entries-past form t k (rw (← en) l)))
+
+  pub marking-next : k < n → {e : CodeEntry} → entryOf e ≡ entryIn form t k → {ns : Bytes} → ns ≡ markEntry h (entryOf e) ms → Marking h form t ms₀ ns (k + 1)
+  unfolding markAll
+  marking-next l {e} ee {ns} f = record { still = g .still ∙ rw (entries-here form t k (rw (← en) l), ← ee, f); long = ap length f ∙ entry-length h (entryOf e) ms ∙ g .long }
+
+pub marking-long : {h : Bytes} {form : Form} {t : List ℕ} {ms₀ ms : Bytes} {k : ℕ} → Marking h form t ms₀ ms k → length ms ≡ length ms₀
+marking-long g = g .long
+
+pub ruleset markings = (marking-start, marking-end, marking-next, marking-long)
 
 pub ruleset scans = (key-unmarked, key-looked, id-unmarked, id-looked, id-met)

@@ -2,7 +2,7 @@
 use Prim.Native.Nat.{ℕ, _≤_}
 use mathlib.Core.Path.{_≡_}
 use mathlib.Core.Bool.{Bool, true, false, _&&_}
-use mathlib.Core.List.{List, []}
+use mathlib.Core.List.{List, [], _∷_}
 use lib.Dec.{eqb, ltb}
 use Rattle.values.specs.Bytes.{Bytes}
 use Rattle.values.specs.Marks.{isMarked, mark}
@@ -18,6 +18,10 @@ markEntry h e ms = elim (ltb (e .kind) 7) [
   | true ↦ mark ms (e .kind) (idMeaning h e)
   | false ↦ elim (eqb (e .kind) 7) [ true ↦ mark (mark ms (e .kind) (idMeaning h e)) (mapKind other) [] | false ↦ mark ms (e .kind) [] ]
 ]
+
+unfoldable pub markAll : Bytes → List Entry → Bytes → Bytes
+markAll h [] ms = ms
+markAll h (e ∷ es) ms = markAll h es (markEntry h e ms)
 
 -- what is marked of an entry that a new line may clash with
 pub record Marked (h : Bytes) (ms : Bytes) (e : Entry) : Type 0 where

@@ -18,7 +18,7 @@ ghost use Rattle.rules.specs.Shown.{idMeaning};
 ghost use Rattle.entries.specs.Values.{entryOf};
 ghost use Rattle.entries.specs.Tables.{entriesIn};
 ghost use Rattle.ids.specs.Clashes.{lastOf, isOfKey, MayEqual, Candidate, keySeen, idSeen, mapClash};
-ghost use Rattle.ids.specs.Marks.{markEntry, keyFound, idFound, clashFound};
+ghost use Rattle.ids.specs.Marks.{markEntry, markAll, keyFound, idFound, clashFound};
 
 pub enum Clash {
     Free,
@@ -231,4 +231,32 @@ pub fn find_clash(
         return Clash::Mixed;
     }
     Clash::Free
+}
+
+// What a new line may clash with is marked: an ID, or that there is a map or a text under some other key.
+fn mark_entry(h: &[u8], e: Entry, marks: &mut [u8])
+    ensures { λ _. ⌜ now (marks .exit) ≡ markEntry (now (h .entry)) (entryOf e) (now (marks .entry)) ⌝ }
+{
+    if e.kind < kind::OTHER_MAP {
+        marks::meet(marks, e.kind, part::id_part(h, e), e.quoted);
+        return;
+    }
+    if e.kind == kind::OTHER_MAP {
+        marks::meet(marks, e.kind, part::id_part(h, e), e.quoted);
+        marks::meet(marks, kind::OTHER_MAP, b"", false);
+        return;
+    }
+    marks::meet(marks, e.kind, b"", false);
+}
+
+// Marks all entries of a table, so that a scan of them may be left out.
+pub fn mark_all(h: &[u8], kept: &[u64], form: Form, marks: &mut [u8])
+    ensures { λ _. ⌜ now (marks .exit) ≡ markAll (now (h .entry)) (entriesIn form (now (kept .entry))) (now (marks .entry)) ⌝ }
+{
+    let mut k = 0;
+    while k < table::count(kept, form) {
+        let e = table::get(kept, form, k);
+        k += 1;
+        mark_entry(h, e, marks);
+    }
 }

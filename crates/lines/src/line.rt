@@ -13,7 +13,7 @@ pub struct Line {
 }
 
 // Whether a LF is among the bytes; each is looked at, so that a compiler can take them all at once.
-fn has_lf(s: &[u8]) -> bool
+pub fn has_lf(s: &[u8]) -> bool
     ensures { λ r. ⌜ r ≡ any (is LF) (now (s .entry)) ⌝ }
 {
     let mut found = false;

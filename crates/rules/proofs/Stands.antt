@@ -139,7 +139,7 @@ module _ (lim : Limits) (h : Bytes) where
           names-stand start l (there .inside) (there .short) samplesStart (c .samples) (rw w at (names-start c g)),
         )
 
-    text-stands : (imposed : Option Version) (s : State) → OnOk Kept (stepText (lim .counted) imposed start s l)
+    pub text-stands : (imposed : Option Version) (s : State) → OnOk Kept (stepText (lim .counted) imposed start s l)
     unfolding stepText
     text-stands imposed empty = elim (see (readRecord v4-5 l)) [
       | was r a ↦ rw (stepText, a) (begin-stands imposed r a)

@@ -7,8 +7,10 @@ fn is_packed(s: &[u8]) -> bool {
     bytes::starts_with(s, b"\x1F\x8B")
 }
 
+// Begun: only the first bytes were taken of a text that is read as it comes.
 pub enum Start {
     Packed,
+    Begun(usize),
     Bytes(usize),
 }
 
@@ -20,8 +22,9 @@ pub fn fill(fd: i32, buffer: &mut [u8], from: usize) -> usize {
     from + io::read_full(fd, &mut buffer[from..])
 }
 
-// Fills the buffer, but takes only the first two bytes of a packed input, so that bin/vcfh can hand all of it to gzip.
-pub fn read_start(fd: i32, buffer: &mut [u8]) -> Start {
+// Fills the buffer, but takes only the first two bytes of a packed input, so that bin/vcfh can hand all of it to gzip, and of a text
+// that is `streamed`.
+pub fn read_start(fd: i32, buffer: &mut [u8], streamed: bool) -> Start {
     let mut two = [0u8; 2];
     let k = io::read_full(fd, &mut two);
     if is_packed(&two) {
@@ -30,6 +33,11 @@ pub fn read_start(fd: i32, buffer: &mut [u8]) -> Start {
     let next = output::put_bytes(buffer, 0, bytes::part(&two, 0, k));
     if k < 2 {
         return Start::Bytes(k);
+    }
+    if streamed {
+        if two[0] != b'B' {
+            return Start::Begun(k);
+        }
     }
     Start::Bytes(fill(fd, buffer, next))
 }
@@ -58,7 +66,12 @@ pub fn text(s: &[u8]) -> &[u8] {
 
 // The header of a whole VCF ends with its column line.
 pub fn header_end(s: &[u8]) -> usize {
-    let mut at = 0;
+    header_end_from(s, 0)
+}
+
+// The same where a line begins at `from`.
+pub fn header_end_from(s: &[u8], from: usize) -> usize {
+    let mut at = from;
     while at < s.len() {
         let lf = bytes::find(s, at, b'\n');
         if s.len() <= lf {

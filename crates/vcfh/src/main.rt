@@ -15,17 +15,23 @@ mod numbers;
 mod page;
 mod say;
 mod spelled;
+mod stream;
 mod twice;
 mod verdict;
 mod why;
 
 use entries::table;
+use feed::cable;
+use feed::cable::FeedAnswer;
+use feed::cable::FeedState;
 use form::FORM;
 use header::file_format_option::FileFormatOption;
 use header::parser::Outcome;
+use header::parser::ReadAnswer;
 use input::Start;
 use records::file_format;
 use records::file_format::FileFormatRead;
+use stream::Streamed;
 use values::bytes;
 use values::output;
 ghost use mathlib.Core.Path.{_≡_};
@@ -106,8 +112,7 @@ fn large_pairs() -> [u64; 2000000]
     [0; 2000000]
 }
 
-fn check(header: &[u8], imposed: FileFormatOption, table: &mut [u64]) {
-    let answer = header::parser::read(header, imposed, FORM, table);
+fn say_answer(header: &[u8], imposed: FileFormatOption, table: &[u64], answer: ReadAnswer) {
     let mut out = io::buffer();
     let end = report::put_answer(&mut out, 0, answer);
     say::text(1, bytes::part(&out, 0, end));
@@ -118,6 +123,11 @@ fn check(header: &[u8], imposed: FileFormatOption, table: &mut [u64]) {
         }
         Outcome::Refused(refusal) => why::say_why(refusal, header, imposed, answer.start),
     }
+}
+
+fn check(header: &[u8], imposed: FileFormatOption, table: &mut [u64]) {
+    let answer = header::parser::read(header, imposed, FORM, table);
+    say_answer(header, imposed, table, answer);
 }
 
 fn entries(header: &[u8], imposed: FileFormatOption, table: &mut [u64]) {
@@ -445,24 +455,155 @@ fn short_case(
     );
 }
 
-// errno was 0 before the reading, so that another number tells of a read that failed.
-fn read_case(number: usize, fd: i32, imposed: FileFormatOption, had: &mut [u64; 40]) {
-    let mut first = short_buffer();
-    let Start::Bytes(n) = input::read_start(fd, &mut first) else {
-        say::tell(b"z");
-        return;
-    };
-    if os::errno() != 0 {
-        say::tell(b"r");
+// Room for the two bytes that tell how an input is packed and for one piece, and for their entries.
+fn stream_buffer() -> [u8; 16386]
+    ensures { λ r. ⌜ 16386 ≡ length r ⌝ }
+{
+    [0; 16386]
+}
+
+fn stream_table() -> [u64; 17190]
+    ensures { λ r. ⌜ 17190 ≡ length r ⌝ }
+{
+    [0; 17190]
+}
+
+fn say_streamed(answer: FeedAnswer, imposed: FileFormatOption, buffer: &[u8], table: &[u64]) {
+    let state = answer.state;
+    let header = bytes::part(buffer, 0, state.held);
+    say_answer(header, imposed, table, stream::read_answer(answer));
+}
+
+// A header of which these are the first bytes and entries, and that is read as it comes.
+fn large_stream(fd: i32, state: FeedState, first: &[u8], words: &[u64], imposed: FileFormatOption) {
+    let mut buffer = large_buffer();
+    output::put_bytes(&mut buffer, 0, first);
+    let mut table = large_table();
+    stream::copy_words(words, &mut table);
+    let mut piece = long_form();
+    match stream::read_on(fd, state, &mut piece, &mut buffer, &mut table) {
+        Streamed::Answered(answer) => say_streamed(answer, imposed, &buffer, &table),
+        Streamed::Full(_) => say::tell(b"r"),
+        Streamed::Failed => say::tell(b"r"),
+    }
+}
+
+fn large_stream_apart(
+    turns: usize,
+    fd: i32,
+    state: FeedState,
+    first: &[u8],
+    words: &[u64],
+    imposed: FileFormatOption,
+) {
+    if turns == 0 {
         return;
     }
-    let text = input::text(bytes::part(&first, 0, n));
+    large_stream_apart(turns / 0x1_0000_0000, fd, state, first, words, imposed);
+    large_stream(fd, state, first, words, imposed);
+}
+
+fn larger_stream(
+    fd: i32,
+    state: FeedState,
+    first: &[u8],
+    words: &[u64],
+    imposed: FileFormatOption,
+) {
+    if !may_be_large() {
+        say::tell(b"m");
+        return;
+    }
+    large_stream_apart(os::arg_count(), fd, state, first, words, imposed);
+}
+
+fn long_stream(fd: i32, state: FeedState, first: &[u8], words: &[u64], imposed: FileFormatOption) {
+    let mut buffer = long_buffer();
+    output::put_bytes(&mut buffer, 0, first);
+    let mut table = long_table();
+    stream::copy_words(words, &mut table);
+    let mut piece = short_form();
+    match stream::read_on(fd, state, &mut piece, &mut buffer, &mut table) {
+        Streamed::Answered(answer) => say_streamed(answer, imposed, &buffer, &table),
+        Streamed::Full(next) => larger_stream(fd, next, &buffer, &table, imposed),
+        Streamed::Failed => say::tell(b"r"),
+    }
+}
+
+fn long_stream_apart(
+    turns: usize,
+    fd: i32,
+    state: FeedState,
+    first: &[u8],
+    words: &[u64],
+    imposed: FileFormatOption,
+) {
+    if turns == 0 {
+        return;
+    }
+    long_stream_apart(turns / 0x1_0000_0000, fd, state, first, words, imposed);
+    long_stream(fd, state, first, words, imposed);
+}
+
+// A header of which these bytes were taken.
+fn short_stream(fd: i32, begun: &[u8], imposed: FileFormatOption) {
+    let mut buffer = stream_buffer();
+    let mut table = stream_table();
+    let first = cable::feed(cable::start(imposed), begun, FORM, &mut buffer, &mut table);
+    let mut piece = short_buffer();
+    match stream::read_on(fd, first.state, &mut piece, &mut buffer, &mut table) {
+        Streamed::Answered(answer) => say_streamed(answer, imposed, &buffer, &table),
+        Streamed::Full(next) => {
+            long_stream_apart(os::arg_count(), fd, next, &buffer, &table, imposed)
+        }
+        Streamed::Failed => say::tell(b"r"),
+    }
+}
+
+// A case of which these are the first bytes, n of them.
+fn read_bytes(
+    number: usize,
+    first: &[u8],
+    n: usize,
+    fd: i32,
+    imposed: FileFormatOption,
+    had: &mut [u64; 40],
+) {
+    let text = input::text(bytes::part(first, 0, n));
     if n < 16384 {
         short_case(number, text, false, imposed, had);
     } else if input::header_end(text) < text.len() {
         short_case(number, text, true, imposed, had);
     } else {
-        long_case_apart(os::arg_count(), number, &first, fd, imposed, had);
+        long_case_apart(os::arg_count(), number, first, fd, imposed, had);
+    }
+}
+
+fn is_check(number: usize) -> bool {
+    let mut word = io::buffer();
+    let end = os::arg(number, &mut word);
+    bytes::same(&word[..end], b"check")
+}
+
+// errno was 0 before the reading, so that another number tells of a read that failed. A text is `streamed` to be answered for as soon as a
+// line is refused.
+fn read_case(
+    number: usize,
+    fd: i32,
+    streamed: bool,
+    imposed: FileFormatOption,
+    had: &mut [u64; 40],
+) {
+    let mut first = short_buffer();
+    let start = input::read_start(fd, &mut first, streamed);
+    if os::errno() != 0 {
+        say::tell(b"r");
+        return;
+    }
+    match start {
+        Start::Packed => say::tell(b"z"),
+        Start::Begun(n) => short_stream(fd, bytes::part(&first, 0, n), imposed),
+        Start::Bytes(n) => read_bytes(number, &first, n, fd, imposed, had),
     }
 }
 
@@ -497,6 +638,8 @@ fn case(command: usize, version: usize, file: usize, had: &mut [u64; 40]) {
         say::tell(b"v");
         return;
     };
+    let checks = is_check(command);
+    // This clears errno, which another argument that is longer than its buffer sets.
     let mut name = io::buffer();
     let name_end = os::arg(file, &mut name);
     let fd = open(&name[..name_end]);
@@ -504,7 +647,8 @@ fn case(command: usize, version: usize, file: usize, had: &mut [u64; 40]) {
         say::tell(b"r");
         return;
     }
-    read_case(command, fd, imposed, had);
+    let streamed = if fd == 0 { checks } else { false };
+    read_case(command, fd, streamed, imposed, had);
     libc::close(fd);
 }
 

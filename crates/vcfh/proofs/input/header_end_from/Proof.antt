@@ -1,14 +1,14 @@
 use Prim.Native.Nat.{_-_}
 use lib.ListN.{length}
 use borrow.Author.Needs.{needs}
-use Rattle.vcfh.proofs.input.header_end.Statement.{statement}
-use Rattle.vcfh.proofs.input.header_end.Tie as tie
+use Rattle.vcfh.proofs.input.header_end_from.Statement.{statement}
+use Rattle.vcfh.proofs.input.header_end_from.Tie as tie
 
 abbrev Inv-loop : tie.InvT-loop
-Inv-loop s at₀ t4 at = Unit {0}
+Inv-loop s from at₀ t4 at = Unit {0}
 
 abbrev μ-loop : tie.MeasureT-loop
-μ-loop s at₀ t4 at = length s - at
+μ-loop s from at₀ t4 at = length s - at
 
 loop-holds : tie.Need-loop-holds Inv-loop μ-loop
 loop-holds c = search needs
@@ -46,8 +46,8 @@ loop-again c = search needs
 returns-3 : tie.Need-returns-3 Inv-loop μ-loop
 returns-3 c = search needs
 
-pub header-end-spec : {M : Type 1} → statement M
-header-end-spec =
+pub header-end-from-spec : {M : Type 1} → statement M
+header-end-from-spec =
     tie.close
     (tie.spec
     Inv-loop

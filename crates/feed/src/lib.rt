@@ -1,0 +1,2 @@
+// Headers that come in pieces.
+pub mod cable;

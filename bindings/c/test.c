@@ -94,7 +94,7 @@ static void odd(uint64_t form, uint64_t other) {
     same("list in the other form", vcfh_odd(h, length, table, words, other, 4, 3, list, 3).number, 29);
 }
 
-/* Two contigs of four lines and 56 bytes; then too small an output, and a name that stands twice. */
+/* Two contigs of four lines and 56 bytes; then too small an output, and a name that appears twice. */
 static void contigs(void) {
     const char *sam = "@HD\tVN:1.6\n@SQ\tSN:a,b\tLN:07\n@CO\n@SQ\tUR:u\tLN:2\tM5:m\tSN:c\n@SQ\tSN:c\tLN:1\n";
     const char *lines = "##contig=<ID=\"a,b\",length=7>\n##contig=<ID=c,length=2,md5=m,URL=u>\n";
@@ -149,7 +149,7 @@ static void keys(void) {
     for (uint64_t n = 0; n < 4; n++) {
         vcfh_key_part k = vcfh_key(bytes(header), strlen(header), table, WORDS, VCFH_SECOND, n);
         same("key's number", k.number, n < 3 ? 0 : 29), same("key's start", k.start, starts[n]), same("key's length", k.length, lengths[n]);
-        same("key's fields", k.fields, fields[n]), same("kind", vcfh_kind(table, VCFH_SECOND, n), kinds[n]);
+        same("key's fields", k.fields, fields[n]), same("kind", vcfh_describe(bytes(header), strlen(header), table, WORDS, VCFH_SECOND, n).kind, kinds[n]);
     }
     same("key past the table", vcfh_key(bytes(header), strlen(header), table, 12, VCFH_SECOND, 4).number, 29);
     same("field by 4.3", vcfh_field(bytes(header), strlen(header), table, WORDS, VCFH_SECOND, 1, 4, 3, 0).number, 0);
@@ -158,7 +158,7 @@ static void keys(void) {
     same("a bit that is no number's", vcfh_key(bytes(header), strlen(header), table, WORDS, VCFH_SECOND, 1).number, 29);
     read_in(header, VCFH_FIRST);
     same("key in the first form", vcfh_key(bytes(header), strlen(header), table, WORDS, VCFH_FIRST, 1).number, 29);
-    same("kind in the first form", vcfh_kind(table, VCFH_FIRST, 1), 7);
+    same("kind in the first form", vcfh_describe(bytes(header), strlen(header), table, WORDS, VCFH_FIRST, 1).kind, 7);
 }
 
 static uint8_t large[0x100001];
@@ -206,14 +206,14 @@ static void indexes(uint64_t form, uint64_t other) {
     same("index in the other form", vcfh_build_index(h, length, table, words, other, index, 8).number, 29), same("kept too", index[7], 7);
     vcfh_indexed built = vcfh_build_index(h, length, table, words, form, index, 8);
     same("built", built.number, 0), same("placed", built.placed, 3), same("past the places", index[8], 7);
-    vcfh_found found = vcfh_find(h, length, table, words, form, index, 8, 2, bytes("x"), 1);
+    vcfh_found found = vcfh_find(h, length, table, words, form, index, 8, 2, "x", 1);
     same("found", found.found, 1), same("INFO x", found.entry, 2), same("looked", found.looked, 1);
-    same("FILTER x", vcfh_find(h, length, table, words, form, index, 8, 3, bytes("x"), 1).entry, 1);
-    same("contig", vcfh_find(h, length, table, words, form, index, 8, 6, bytes("a\"b"), 3).entry, 3);
-    found = vcfh_find(h, length, table, words, form, index, 8, 6, bytes("x"), 1);
+    same("FILTER x", vcfh_find(h, length, table, words, form, index, 8, 3, "x", 1).entry, 1);
+    same("contig", vcfh_find(h, length, table, words, form, index, 8, 6, "a\"b", 3).entry, 3);
+    found = vcfh_find(h, length, table, words, form, index, 8, 6, "x", 1);
     same("none", found.found, 0), same("no entry", found.entry, 0), same("looked for none", found.looked, 1);
-    same("other kind", vcfh_find(h, length, table, words, form, index, 8, 7, bytes("x"), 1).looked, 0);
-    same("no places", vcfh_find(h, length, table, words, form, index, 0, 2, bytes("x"), 1).looked, 0);
+    same("other kind", vcfh_find(h, length, table, words, form, index, 8, 7, "x", 1).looked, 0);
+    same("no places", vcfh_find(h, length, table, words, form, index, 0, 2, "x", 1).looked, 0);
 }
 
 /* Each total in its place, in either form; and a sheet that is full stays. */
@@ -329,7 +329,154 @@ static void feeding(void) {
     same("not imposed", fed_in("##fileformat=VCFv4.3\n##META=<ID=x,Values=[a,b]>\n", 7, VCFH_FIRST, 0, 4, 2, buffer, 100).number, 26);
 }
 
+static void same_bytes(const char *what, const void *got, size_t length, const char *wanted) {
+    same(what, length, strlen(wanted)), same(what, length == strlen(wanted) && memcmp(got, wanted, length) == 0, 1);
+}
+
+#define LINES "##fileformat=VCFv4.3\n##b=text\n##c=<K=1,L=\"2,\\\"3\\\\\",ID=\"a\\\"b\">\n##c=<ID=\"x\",K=\"\">\n" COLUMNS "\tFORMAT\ts1\t##s2"
+
+/* The version in force and the number of samples; the version imposed; nothing of a refused header. */
+static void told(uint64_t form) {
+    vcfh_answer a = read_in(LINES "\n", form);
+    same("told", a.number, 0), same("samples", a.samples, 2), same("major", a.major, 4), same("minor", a.minor, 3), same("told entries", a.entries, 7);
+    a = read_by(PLAIN, 1, 9, 7);
+    same("no samples", a.samples, 0), same("major imposed", a.major, 9), same("minor imposed", a.minor, 7);
+    a = read_by(LINES "\n##after=1\n", 1, 9, 7);
+    same("a line after", a.number, 1), same("refused samples", a.samples, 0), same("refused major", a.major, 0), same("refused minor", a.minor, 0);
+}
+
+/* Each number of each entry: a line, its key, its ID and whether that is quoted. A sample's name may begin as a key does. */
+static void describing(uint64_t form, uint64_t other) {
+    const uint8_t *h = bytes(LINES);
+    const char *lines[] = {"##fileformat=VCFv4.3", "##b=text", "##c=<K=1,L=\"2,\\\"3\\\\\",ID=\"a\\\"b\">", "##c=<ID=\"x\",K=\"\">", COLUMNS "\tFORMAT\ts1\t##s2", "s1", "##s2"};
+    const char *keys[] = {"fileformat", "b", "c", "c", "", "", ""}, *ids[] = {"", "", "a\\\"b", "x", "", "", ""};
+    const uint64_t kinds[] = {VCFH_FILEFORMAT, VCFH_OTHER_TEXT, VCFH_OTHER_MAP, VCFH_OTHER_MAP, VCFH_COLUMNS, VCFH_SAMPLE, VCFH_SAMPLE};
+    size_t length = strlen(LINES), words = VCFH_WORDS(form) * read_in(LINES, form).entries;
+    for (uint64_t n = 0; n < 7; n++) {
+        vcfh_described e = vcfh_describe(h, length, table, words, form, n);
+        same("described", e.number, 0), same("its kind", e.kind, kinds[n]), same_bytes("its line", h + e.start, e.length, lines[n]);
+        same_bytes("its key", h + e.key_start, e.key_length, keys[n]), same_bytes("its ID", h + e.id_start, e.id_length, ids[n]);
+        same("its ID is there", e.has_id, n == 2 || n == 3), same("its quotes", e.quoted, n == 2 || n == 3);
+        if (!*keys[n]) same("no key's place", e.key_start, 0);
+        if (!*ids[n]) same("no ID's place", e.id_start, 0);
+    }
+    vcfh_described none = vcfh_describe(h, length, table, words, form, 7), zeros = {29, 0, 0, 0, 0, 0, 0, 0, 0, 0};
+    same("not described", memcmp(&none, &zeros, sizeof none), 0);
+    same("described in the other form", vcfh_describe(h, length, table, words, other, 2).number, 29);
+}
+
+/* Fields by number and by key, each with its key's and its value's place. */
+static void values(uint64_t form) {
+    const uint8_t *h = bytes(LINES);
+    size_t length = strlen(LINES), words = VCFH_WORDS(form) * read_in(LINES, form).entries;
+    const char *keys[] = {"K", "L", "ID"}, *texts[] = {"1", "2,\\\"3\\\\", "a\\\"b"};
+    for (uint64_t i = 0; i < 3; i++) {
+        vcfh_field_part f = vcfh_field_parts(h, length, table, words, form, 2, 4, 3, i);
+        vcfh_value_part v = vcfh_value(h, length, table, words, form, 2, 4, 3, keys[i], strlen(keys[i]));
+        same("a field apart", f.number, 0), same_bytes("its key", h + f.key_start, f.key_length, keys[i]), same_bytes("its value", h + f.start, f.length, texts[i]);
+        same("its quotes", f.quoted, i > 0), same("a value", v.number, 0), same("value's start", v.start, f.start), same("value's length", v.length, f.length);
+        same("value's quotes", v.quoted, f.quoted);
+    }
+    vcfh_field_part empty = vcfh_field_parts(h, length, table, words, form, 3, 4, 3, 1);
+    same("an empty value", empty.number, 0), same("nothing between quotes", empty.length, 0), same("quotes of nothing", empty.quoted, 1), same("between its quotes", h[empty.start], '"');
+    same("no field 3", vcfh_field_parts(h, length, table, words, form, 2, 4, 3, 3).number, 29);
+    same("no field of a text", vcfh_field_parts(h, length, table, words, form, 1, 4, 3, 0).number, 29);
+    same("no field M", vcfh_value(h, length, table, words, form, 2, 4, 3, "M", 1).number, 29);
+    same("no value of a text", vcfh_value(h, length, table, words, form, 1, 4, 3, "K", 1).number, 29);
+    same("by 3.4 a text, not a map", vcfh_value(h, length, table, words, form, 2, 3, 4, "ID", 2).number, 29);
+}
+
+/* The first entry under a key whose ID means this, its value, and what that means. */
+static void finding(uint64_t form) {
+    const uint8_t *h = bytes(LINES);
+    char text[8] = "-------";
+    size_t length = strlen(LINES), words = VCFH_WORDS(form) * read_in(LINES, form).entries;
+    vcfh_under u = vcfh_find_entry(h, length, table, words, form, "c", 1, "a\"b", 3);
+    same("found under", u.number, 0), same("which", u.entry, 2);
+    same("found x", vcfh_find_entry(h, length, table, words, form, "c", 1, "x", 1).entry, 3);
+    u = vcfh_find_entry(h, length, table, words, form, "c", 1, "a\\\"b", 4);
+    same("as it is written", u.number, 29), same("no entry then", u.entry, 0);
+    same("under another key", vcfh_find_entry(h, length, table, words, form, "b", 1, "x", 1).number, 29);
+    same("a text has no ID", vcfh_find_entry(h, length, table, words, form, "b", 1, "", 0).number, 29);
+    same("a part of the key", vcfh_find_entry(h, length, table, words, form, "", 0, "x", 1).number, 29);
+    same("past the table", vcfh_find_entry(h, length, table, VCFH_WORDS(form) * 3, form, "c", 1, "x", 1).number, 29);
+    vcfh_value_part v = vcfh_find_value(h, length, table, words, form, 4, 3, "c", 1, "a\"b", 3, "L", 1);
+    same("a value under", v.number, 0), same("quoted", v.quoted, 1), same_bytes("as written", h + v.start, v.length, "2,\\\"3\\\\");
+    same("no value under", vcfh_find_value(h, length, table, words, form, 4, 3, "c", 1, "x", 1, "L", 1).number, 29);
+    same("no value of none", vcfh_find_value(h, length, table, words, form, 4, 3, "c", 1, "y", 1, "K", 1).number, 29);
+    vcfh_meant m = vcfh_find_text(h, length, table, words, form, 4, 3, "c", 1, "a\"b", 3, "L", 1, text, 4);
+    same("too small", m.number, 28), same("nothing of it", m.length, 0), same("as it was", memcmp(text, "-------", 8), 0);
+    m = vcfh_find_text(h, length, table, words, form, 4, 3, "c", 1, "a\"b", 3, "L", 1, text, 5);
+    same("meant", m.number, 0), same_bytes("its meaning", text, m.length, "2,\"3\\"), same("no more than that", text[5], '-');
+    m = vcfh_find_text(h, length, table, words, form, 4, 3, "c", 1, "y", 1, "K", 1, text, 5);
+    same("no text", m.number, 29), same("no text's length", m.length, 0);
+}
+
+/* Between quotes two escapes are dropped; bare they stay. */
+static void meanings(void) {
+    const uint8_t *raw = bytes("a\\\"b\\\\c\\d");
+    char text[9];
+    vcfh_meant quoted = vcfh_meaning(raw, 9, 1, text, 7);
+    same("meaning", quoted.number, 0), same_bytes("unescaped", text, quoted.length, "a\"b\\c\\d");
+    same("any number but 0", vcfh_meaning(raw, 9, 0x100000000, text, 7).number, 0), same("no room", vcfh_meaning(raw, 9, 1, text, 6).number, 28);
+    vcfh_meant bare = vcfh_meaning(raw, 9, 0, text, 9);
+    same("bare", bare.number, 0), same_bytes("as it stands", text, bare.length, "a\\\"b\\\\c\\d"), same("no room for bare", vcfh_meaning(raw, 9, 0, text, 8).number, 28);
+    same("means", vcfh_means(raw, 9, 1, "a\"b\\c\\d", 7), 1), same("means less", vcfh_means(raw, 9, 1, "a\"b\\c\\d", 6), 0);
+    same("bare means", vcfh_means(raw, 9, 0, "a\"b\\c\\d", 7), 0), same("bare means itself", vcfh_means(raw, 9, 0, (const char *)raw, 9), 1);
+}
+
+/* Past the column line, whatever follows; a column line at the end; no column line; a line that only holds its name. */
+static void ends(void) {
+    const char *whole = PLAIN "1\t2\n#CHROM\n";
+    same("a whole VCF", vcfh_header_end(bytes(whole), strlen(whole)), 83), same("a header", vcfh_header_end(bytes(PLAIN), 83), 83);
+    same("without LF", vcfh_header_end(bytes(PLAIN), 82), 82), same("no column line", vcfh_header_end(bytes(PLAIN), 44), 44);
+    same("nothing", vcfh_header_end(bytes(""), 0), 0), same("not at its start", vcfh_header_end(bytes("##x=#CHROM\na\n"), 13), 13);
+    same("CR too", vcfh_header_end(bytes("#CHROM\r\nx"), 9), 8);
+}
+
+static char cells[2000];
+
+/* Forty cell lines, of which W07 has this constant. */
+static vcfh_cells register_of(const char *constant, uint64_t form) {
+    uint64_t room[200];
+    size_t at = (size_t)sprintf(cells, "##fileformat=VCFv4.3\n");
+    for (int w = 1; w <= 40; w++) at += (size_t)sprintf(cells + at, "##cell=<ID=W%02d,K=%s>\n", w, w == 7 ? constant : "1.00");
+    strcpy(cells + at, COLUMNS);
+    return vcfh_register(bytes(cells), strlen(cells), 0, 0, 0, form, room, 200);
+}
+
+static void registers(uint64_t form) {
+    vcfh_cells old_ones = register_of("0.98", form), new_ones = register_of("\"2.00\"", form), bad = register_of("2.01", form);
+    same("a register", old_ones.number, 0), same("its lines", old_ones.line, 42), same("its entries", old_ones.entries, 42), same("W07", old_ones.constants[6], 98), same("W40", old_ones.constants[39], 100);
+    vcfh_differences d = vcfh_compare(old_ones, new_ones);
+    same("one differs", d.count, 1), same("the well", d.wells[0], 7), same("before", d.before[0], 98), same("after", d.after[0], 200), same("no second", d.wells[1], 0);
+    same("none differs", vcfh_compare(new_ones, new_ones).count, 0);
+    same("no constant", bad.number, 40), same("its line", bad.line, 8), same("no register", bad.constants[0], 0);
+}
+
+/* PASS is written last and is 0 all the same; contigs are a list of their own. */
+static void dictionaries(uint64_t form) {
+    const char *header = "##fileformat=VCFv4.3\n##FILTER=<ID=q,Description=x>\n##contig=<ID=c>\n##FILTER=<ID=PASS,Description=x>\n" COLUMNS "\n";
+    uint64_t strings[] = {7, 7, 7, 7, 7}, contigs_[] = {7, 7, 7};
+    vcfh_numbers n = vcfh_dictionaries(bytes(header), strlen(header), 0, 0, 0, form, table, WORDS, strings, 5, contigs_, 3);
+    same("dictionaries", n.number, 0), same("strings", n.strings, 2), same("contigs", n.contigs, 1), same("lines read", n.line, 5);
+    const uint64_t wanted[] = {1, 1, 3, 0, 7}, others[] = {2, 0, 7};
+    same_words("pairs of strings", strings, wanted, 5), same_words("pairs of contigs", contigs_, others, 3);
+    same("too few words", vcfh_dictionaries(bytes(header), strlen(header), 0, 0, 0, form, table, WORDS, strings, 3, contigs_, 3).number, 36);
+}
+
+static void messages(void) {
+    same("said", strcmp(vcfh_message(21), "the ID appears twice among the lines of its key"), 0), same("said of none", strcmp(vcfh_message(0), "accepted"), 0);
+    for (uint64_t n = 0; n < 44; n++)
+        for (uint64_t m = n + 1; m < 45; m++) same("one sentence each", strcmp(vcfh_message(n), vcfh_message(m)) != 0, 1);
+    same("past them", strcmp(vcfh_message(44), vcfh_message(UINT64_MAX)), 0);
+}
+
 int main(void) {
+    told(VCFH_FIRST), told(VCFH_SECOND), messages(), meanings(), ends();
+    describing(VCFH_FIRST, VCFH_SECOND), describing(VCFH_SECOND, VCFH_FIRST), describing(0, VCFH_SECOND);
+    values(VCFH_FIRST), values(VCFH_SECOND), values(3), finding(VCFH_FIRST), finding(VCFH_SECOND), finding(0);
+    registers(VCFH_FIRST), registers(VCFH_SECOND), dictionaries(VCFH_FIRST), dictionaries(VCFH_SECOND);
     versions(), places(), forms(), contigs();
     verdicts(VCFH_FIRST), verdicts(VCFH_SECOND), verdicts(0);
     parts(VCFH_FIRST, VCFH_SECOND), parts(VCFH_SECOND, VCFH_FIRST), parts(0, VCFH_SECOND), parts(3, VCFH_SECOND);

@@ -1,6 +1,16 @@
-/* VCF headers, read by proved code. Link libvcfh.a or libvcfh.so, which bindings/build makes.
+/* VCF headers, read by proved code. This file and libvcfh.a or libvcfh.so, which bindings/build makes, are all that is needed.
    No pointer may be NULL, even where its length is 0, and nothing that a call writes may overlap what it reads.
-   Any bytes, words and numbers may be given. */
+   Any bytes, words and numbers may be given.
+
+   Reads a header into a table, and the field K of the line ##cell=<ID=W07,...> into text:
+
+       uint64_t table[4096];
+       char text[16];
+       vcfh_answer a = vcfh_read(header, length, 0, 0, 0, VCFH_FIRST, table, 4096);
+       if (a.number) return fprintf(stderr, "line %lu: %s\n", (unsigned long)a.line, vcfh_message(a.number)), 1;
+       vcfh_meant k = vcfh_find_text(header, length, table, VCFH_WORDS(VCFH_FIRST) * a.entries, VCFH_FIRST, a.major, a.minor,
+                                     "cell", 4, "W07", 3, "K", 1, text, sizeof text);
+       if (k.number == 0) printf("%.*s\n", (int)k.length, text); */
 #ifndef VCFH_H
 #define VCFH_H
 #include <stddef.h>
@@ -17,20 +27,26 @@ extern "C" {
 /* How many words of a table an entry takes. */
 #define VCFH_WORDS(form) ((form) == VCFH_SECOND ? 3 : 2)
 
-/* number: 0 if accepted, else why not (vcfh_words says it in words). line: from 1. start: of the line, in bytes.
-   Of an accepted header, line and start are the number of lines and of bytes. entries: how many the table holds. */
-typedef struct { uint64_t number, line, start, entries; } vcfh_answer;
+/* The kinds of entries. */
+enum {
+    VCFH_FILEFORMAT = 1, VCFH_INFO, VCFH_FILTER, VCFH_FORMAT, VCFH_ALT, VCFH_CONTIG, VCFH_OTHER_MAP, VCFH_OTHER_TEXT, VCFH_COLUMNS, VCFH_SAMPLE
+};
 
-/* The same, and the length of the house form, 0 if refused. */
+/* number: 0 if accepted, else why not (vcfh_message says it in words). line: from 1. start: of the line, in bytes.
+   Of an accepted header, line and start are the number of lines and of bytes. entries: how many the table holds, of which the last ones
+   are its samples. samples, major and minor: how many samples there are, and the version in force, all 0 if refused. */
+typedef struct { uint64_t number, line, start, entries, samples; uint32_t major, minor; } vcfh_answer;
+
+/* number, line, start and entries as in an answer, and the length of the house form, 0 if refused. */
 typedef struct { uint64_t number, line, start, entries, length; } vcfh_form;
 
-/* The same as an answer, and the constants of the wells W01 to W40 in whole hundredths, all 0 if refused. */
+/* The first four as in an answer, and the constants of the wells W01 to W40 in whole hundredths, all 0 if refused. */
 typedef struct { uint64_t number, line, start, entries, constants[40]; } vcfh_cells;
 
 /* How many wells differ; then, lowest first, each well's number, 1 to 40, what it had and what it has; 0 past these. */
 typedef struct { uint64_t count, wells[40], before[40], after[40]; } vcfh_differences;
 
-/* The same, and how many pairs were written of strings and of contigs, 0 if refused. */
+/* The first four as in an answer, and how many pairs were written of strings and of contigs, 0 if refused. */
 typedef struct { uint64_t number, line, start, entries, strings, contigs; } vcfh_numbers;
 
 /* number, line and start as in an answer, how many contigs were written and in how many bytes, both 0 if refused. */
@@ -70,6 +86,61 @@ vcfh_numbers vcfh_dictionaries(const uint8_t *header, size_t length, uint64_t im
    nothing is written if it is refused. Twice the header's bytes and 40 for each of its lines are never too small an output. */
 vcfh_contig_lines vcfh_contigs(const uint8_t *sam, size_t length, uint8_t *out, size_t space);
 
+/* Where the header of a whole VCF ends: past its column line, the first line that begins with #CHROM; the length where there is none. */
+uint64_t vcfh_header_end(const uint8_t *bytes, size_t length);
+
+/* number: 0, or 29 where there is no such entry or it is not well formed, and then all are 0. The line, or a sample's name, the key after
+   the ##, and the ID, without quotes, are parts of the header, in bytes. key_start and key_length are 0 of the column line and of samples;
+   has_id is 1, and quoted says with 1 that the ID stands between quotes, in kinds 2 to 7, which have an ID. */
+typedef struct {
+    uint64_t number, kind, start, length, key_start, key_length, has_id, id_start, id_length, quoted;
+} vcfh_described;
+
+/* An entry, from 0, with all that it tells. */
+vcfh_described vcfh_describe(const uint8_t *header, size_t length, const uint64_t *table, size_t words, uint64_t form, uint64_t entry);
+
+/* number: 0, or 29 where there is no such entry or field. A field's key, and its value without quotes, as parts of the header; quoted: 1
+   if the value stands between quotes. */
+typedef struct { uint64_t number, key_start, key_length, start, length, quoted; } vcfh_field_part;
+
+/* A field of an entry, both from 0, by the version given: the one in force when the header was read. */
+vcfh_field_part vcfh_field_parts(const uint8_t *header, size_t length, const uint64_t *table, size_t words, uint64_t form,
+                                 uint64_t entry, uint32_t major, uint32_t minor, uint64_t field);
+
+/* The same of a value alone. */
+typedef struct { uint64_t number, start, length, quoted; } vcfh_value_part;
+
+/* The value of an entry's field with this key. */
+vcfh_value_part vcfh_value(const uint8_t *header, size_t length, const uint64_t *table, size_t words, uint64_t form,
+                           uint64_t entry, uint32_t major, uint32_t minor, const char *field, size_t field_length);
+
+/* number: 0, or 29 where there is none. */
+typedef struct { uint64_t number, entry; } vcfh_under;
+
+/* The first entry of the table under this key, such as cell or INFO, whose ID means this. All entries are walked over, so give the table as
+   the words of those that it holds; for many searches in a large header there is vcfh_build_index. */
+vcfh_under vcfh_find_entry(const uint8_t *header, size_t length, const uint64_t *table, size_t words, uint64_t form,
+                           const char *key, size_t key_length, const char *id, size_t id_length);
+
+/* The value of that entry's field with this key. */
+vcfh_value_part vcfh_find_value(const uint8_t *header, size_t length, const uint64_t *table, size_t words, uint64_t form,
+                                uint32_t major, uint32_t minor, const char *key, size_t key_length, const char *id, size_t id_length,
+                                const char *field, size_t field_length);
+
+/* number: 0, 28 where the output is too small, 29 where there is nothing to write. length: how many bytes were written, 0 if refused. */
+typedef struct { uint64_t number, length; } vcfh_meant;
+
+/* What that value means, written into the output without quotes and escapes, and without a zero at its end. */
+vcfh_meant vcfh_find_text(const uint8_t *header, size_t length, const uint64_t *table, size_t words, uint64_t form,
+                          uint32_t major, uint32_t minor, const char *key, size_t key_length, const char *id, size_t id_length,
+                          const char *field, size_t field_length, char *out, size_t space);
+
+/* What an ID or a value means, as the calls above show it and say whether it stands between quotes: there a backslash before a quote or a
+   backslash is dropped. Written into the output, for which the text's own length is never too small; or held against bytes: 1 if it means
+   these, else 0. */
+vcfh_meant vcfh_meaning(const uint8_t *text, size_t length, uint64_t quoted, char *out, size_t space);
+uint64_t vcfh_means(const uint8_t *text, size_t length, uint64_t quoted, const char *meaning, size_t meaning_length);
+
 /* The line of an entry, from 0, or a sample's name; its ID, without quotes. */
 vcfh_part vcfh_entry(const uint8_t *header, size_t length, const uint64_t *table, size_t words, uint64_t form, uint64_t entry);
 vcfh_part vcfh_id(const uint8_t *header, size_t length, const uint64_t *table, size_t words, uint64_t form, uint64_t entry);
@@ -107,7 +178,7 @@ vcfh_turned vcfh_to_second(const uint8_t *header, size_t length, const uint64_t 
 vcfh_turned vcfh_to_first(const uint8_t *header, size_t length, const uint64_t *second, size_t second_words,
                           uint64_t *first, size_t first_words);
 
-/* As an answer; house: 1 if the header is its own house form, else 0; differs: of an accepted one that is not, the first place where the
+/* The first four as in an answer; house: 1 if the header is its own house form, else 0; differs: of an accepted one that is not, the first place where the
    two differ, or the shorter one's length, else 0. */
 typedef struct { uint64_t number, line, start, entries, house, differs; } vcfh_verdict;
 
@@ -125,7 +196,7 @@ typedef struct { uint64_t totals[39]; } vcfh_sheet;
 #define VCFH_SEASON_REFUSED(n) (1 + (n))
 #define VCFH_SEASON_ENTRIES(k) (28 + (k))
 
-/* The same as an answer, or 30 where a total would be larger than 18446744073709551615; and the sheet after it, as it was where that is 30. */
+/* The first four as in an answer, or number 30 where a total would be larger than 18446744073709551615; and the sheet after it, as it was where that is 30. */
 typedef struct { uint64_t number, line, start, entries; vcfh_sheet sheet; } vcfh_added;
 
 /* number: 0, or 30. sheet: the first one as it was where that is 30. */
@@ -166,18 +237,56 @@ vcfh_fed vcfh_feed(vcfh_feeding state, const uint8_t *piece, size_t length, uint
                    uint64_t *table, size_t words);
 vcfh_fed vcfh_close(vcfh_feeding state, uint64_t form, const uint8_t *buffer, size_t space, uint64_t *table, size_t words);
 
-/* 1 fileformat, 2 INFO, 3 FILTER, 4 FORMAT, 5 ALT, 6 contig, 7 other map, 8 other text, 9 column line, 10 sample. The table must hold
-   the entry. */
-static inline unsigned vcfh_kind(const uint64_t *table, uint64_t form, uint64_t entry) {
-    return (unsigned)(table[VCFH_WORDS(form) * entry] >> 60);
-}
-
-static inline const char *vcfh_words(uint64_t number) {
+/* What a refusal's number says, in words; of 0, and of a number that no refusal has, "accepted" or "no refusal has this number". */
+static inline const char *vcfh_message(uint64_t number) {
     switch (number) {
-#define REFUSAL(n, words) case n: return words;
-#include "../refusals.h"
-#undef REFUSAL
-    default: return "accepted";
+    case 0: return "accepted";
+    /* bindings/messages begins */
+    case 1: return "a line follows the column line";
+    case 2: return "the line is longer than 65,535 bytes, or than 16,777,215 in the second form";
+    case 3: return "the line is not UTF-8";
+    case 4: return "the first line is a record, but not the fileformat line";
+    case 5: return "there is a second fileformat line";
+    case 6: return "the line does not begin with ##, has no =, or has nothing between them";
+    case 7: return "the fileformat value is not VCFv, digits, a point and digits";
+    case 8: return "the value is not a whole map: < or > is missing, or something else follows a value or the >";
+    case 9: return "a field has a bad key or value, or is missing after a comma or in a META or PEDIGREE line";
+    case 10: return "a field appears twice in the map, or the map has two IDs";
+    case 11: return "the Number is neither a count nor one of the letters allowed here";
+    case 12: return "the Type is not one of those allowed here";
+    case 13: return "the IDX or length is not a number of at most 18446744073709551615";
+    case 14: return "the ID is missing";
+    case 15: return "the Number is missing";
+    case 16: return "the Type is missing";
+    case 17: return "the Description is missing";
+    case 18: return "a reserved ID is declared with a Number or Type that is not the specification's";
+    case 19: return "the ID appears twice among the lines of its kind";
+    case 20: return "the key has text in one line and a map in another";
+    case 21: return "the ID appears twice among the lines of its key";
+    case 22: return "a column is wrong or missing";
+    case 23: return "a sample name appears twice";
+    case 24: return "the table has no room for the entries";
+    case 25: return "the input is empty";
+    case 26: return "the column line is missing";
+    case 27: return "the header is longer than 1,048,575 bytes, or than 16,777,215 in the second form";
+    case 28: return "the house form, the contig lines or the text is longer than the output";
+    case 29: return "there is no such entry, ID or field, or an entry is not well formed";
+    case 30: return "a total of the sheet would be larger than 18446744073709551615";
+    case 31: return "more entries are to be listed than the list has room for";
+    case 32: return "an entry does not fit the first form";
+    case 33: return "an index has fewer places than there are entries to index";
+    case 34: return "some lines of a dictionary have an IDX and others have none";
+    case 35: return "one ID has two numbers, or two IDs have one number";
+    case 36: return "a dictionary has more pairs than its slice has room for";
+    case 37: return "a cell register needs version 4.3 or later";
+    case 38: return "the ID of the cell line is none of W01 to W40";
+    case 39: return "one of the wells W01 to W40 has no cell line";
+    case 40: return "the cell line has no K, or its K is not a number such as 0.98, from 0.50 through 2.00";
+    case 41: return "a tag is not a letter, a letter or digit, a colon and a value, or it appears twice";
+    case 42: return "the @SQ line has no SN, or no LN from 1 to 2147483647";
+    case 43: return "the SN appears twice among the @SQ lines";
+    /* bindings/messages ends */
+    default: return "no refusal has this number";
     }
 }
 
@@ -193,10 +302,10 @@ vcfh_indexed vcfh_build_index(const uint8_t *header, size_t length, const uint64
 /* found: 1, and entry is its number; or 0. looked: how many places of the index were looked at. */
 typedef struct { uint64_t found, entry, looked; } vcfh_found;
 
-/* Looks for an entry of this kind (2 to 6, as vcfh_kind has them) whose ID has these bytes, unescaped. In an index that was built from this
+/* Looks for an entry of this kind (2 to 6) whose ID has these bytes, unescaped. In an index that was built from this
    header and this table it is found exactly where the table has one, and it is the first. */
 vcfh_found vcfh_find(const uint8_t *header, size_t length, const uint64_t *table, size_t words, uint64_t form,
-                     const uint32_t *index, size_t places, uint64_t kind, const uint8_t *id, size_t id_length);
+                     const uint32_t *index, size_t places, uint64_t kind, const char *id, size_t id_length);
 
 #ifdef __cplusplus
 }

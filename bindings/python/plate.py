@@ -64,8 +64,7 @@ def main(names):
     try:
         registers = []
         for name in names:
-            data = pathlib.Path(name).read_bytes()
-            registers.append(vcfh.Register(data))
+            registers.append(vcfh.Register(vcfh.header_of(pathlib.Path(name))))
     except vcfh.Refused as refused:
         sys.exit(f"{name}: {refused}")
     print("\n".join(plate(*registers)))

@@ -1,4 +1,11 @@
 """The library through ctypes: python3 -m unittest"""
+import doctest
+import gzip
+import os
+import pathlib
+import subprocess
+import sys
+import tempfile
 import unittest
 
 import vcfh
@@ -26,6 +33,125 @@ def refused(call, *arguments, **named):
     except vcfh.Refused as refusal:
         return refusal
     raise AssertionError("not refused")
+
+
+def shown(header):
+    """All that a header shows of its entries."""
+    return [(entry.number, entry.kind, entry.line, entry.key, entry.id, entry.quoted, entry.fields, entry.written) for entry in header]
+
+
+class Names(unittest.TestCase):
+    """Entries, fields and values by name; expected values are read off the lines."""
+
+    HEADER = b"""##fileformat=VCFv4.3
+##b=text
+##c=<K=1,L="2,\\"3\\\\",ID="a\\"b">
+##c=<ID="x",K="">
+##c=<ID=\xc3\xa9\\,K=\\">
+""" + COLUMNS + b"\tFORMAT\ts1\t##s2"
+
+    def headers(self):
+        return [vcfh.Header(self.HEADER, form=form) for form in (vcfh.FIRST, vcfh.SECOND)]
+
+    def test_entries_tell_key_id_and_quotes(self):
+        for header in self.headers():
+            told = [(entry.kind, entry.key, entry.id, entry.quoted) for entry in header]
+            wanted = [("fileformat", "fileformat", None, False), ("other text", "b", None, False), ("other map", "c", 'a"b', True)]
+            wanted += [("other map", "c", "x", True), ("other map", "c", "\u00e9\\", False), ("columns", None, None, False)]
+            self.assertEqual(told, wanted + 2 * [("sample", None, None, False)])
+            self.assertEqual((header.samples, header.version, header.lines), (["s1", "##s2"], (4, 3), 6))
+
+    def test_fields_are_had_by_their_keys(self):
+        for header in self.headers():
+            entry = header["c", 'a"b']
+            self.assertEqual((entry.number, entry["K"], entry["L"], entry[b"ID"], entry.get("M"), entry.get("M", "-")), (2, "1", '2,"3\\', 'a"b', None, "-"))
+            self.assertEqual(("K" in entry, "k" in entry, entry.fields), (True, False, {"K": "1", "L": '2,"3\\', "ID": 'a"b'}))
+            self.assertEqual((header["c", "x"]["K"], header["c", "\u00e9\\"]["K"]), ("", '\\"'))
+            with self.assertRaisesRegex(KeyError, "M"):
+                entry["M"]
+            with self.assertRaises(KeyError):
+                header[1]["K"]
+
+    def test_values_are_had_by_key_id_and_field(self):
+        for header in self.headers():
+            asked = [("c", 'a"b', "L"), (b"c", b"x", b"K"), ("c", "x", "L"), ("c", "y", "K"), ("b", "", "K"), ("d", "x", "K"), ("c", 'a\\"b', "K")]
+            self.assertEqual([header.value(*names) for names in asked], ['2,"3\\', "", None, None, None, None, None])
+            self.assertEqual([(key, name) in header for key, name, _ in asked], [True, True, True, False, False, False, False])
+            self.assertEqual(([header.find("c", "x").number, header.find("c", "y")]), [3, None])
+            with self.assertRaisesRegex(KeyError, "'c', 'y'"):
+                header["c", "y"]
+
+    def test_entries_are_had_by_number(self):
+        for header in self.headers():
+            self.assertEqual([header[n].number for n in (0, 7, -1, -8)], [0, 7, 7, 0])
+            self.assertEqual([[entry.number for entry in header[part]] for part in (slice(1, 3), slice(-2, None), slice(None, None, 3), slice(9, 12))], [[1, 2], [6, 7], [0, 3, 6], []])
+            for n in (8, -9, 2**64):
+                with self.assertRaisesRegex(IndexError, "of 8"):
+                    header[n]
+            for which in ("c", 1.0, ("c",), None):
+                with self.assertRaisesRegex(TypeError, "by its number or by"):
+                    header[which]
+
+    def test_entries_of_one_header_are_equal(self):
+        first, second = self.headers()
+        self.assertEqual((first[2], list(first), hash(first[2])), (second[2], list(second), hash(second[2])))
+        self.assertNotEqual(first[2], first[3])
+        self.assertEqual(repr(first[1]), "Entry(1, 'other text', '##b=text')")
+        self.assertEqual(repr(first), "<Header: version 4.3, 8 entries, 2 samples>")
+
+
+class Sources(unittest.TestCase):
+    """What may be given, and what is said where it may not."""
+
+    VCF = PROBE + b"chr1\t1\t.\tA\tC\t.\t.\t.\n#CHROM\n"
+
+    def test_the_header_of_a_whole_vcf_is_read(self):
+        self.assertEqual((vcfh.header_end(self.VCF), vcfh.header_of(self.VCF), vcfh.header_of(bytearray(gzip.compress(self.VCF)))), (len(PROBE), PROBE, PROBE))
+        self.assertEqual(vcfh.Header.from_vcf(memoryview(self.VCF))["cell", "W07"]["K"], "0.98")
+        self.assertEqual(refused(vcfh.Header, self.VCF).number, 1)
+        self.assertEqual((vcfh.header_end(b""), vcfh.header_end(b"x\ny"), vcfh.header_of(b"x\ny")), (0, 3, b"x\ny"))
+
+    def test_a_path_may_be_given(self):
+        with tempfile.TemporaryDirectory() as folder:
+            for name, data in (("a.vcf", self.VCF), ("b.vcf.gz", gzip.compress(self.VCF[:50]) + gzip.compress(self.VCF[50:])), ("c.vcf", long_line(300000) + b"x\n")):
+                path = pathlib.Path(folder, name)
+                path.write_bytes(data)
+                header = vcfh.Header.from_vcf(path, (4, 4), form=vcfh.SECOND)
+                self.assertEqual((header.version, header.form, header["cell", "W07"]["K"]), ((4, 4), vcfh.SECOND, "0.98"))
+            with self.assertRaises(FileNotFoundError):
+                vcfh.Header.from_vcf(pathlib.Path(folder, "none"))
+            endless = pathlib.Path(folder, "endless")
+            endless.write_bytes(b"##a=" + b"x" * (vcfh.MAX_LENGTH[vcfh.SECOND] * 2))
+            self.assertEqual(refused(vcfh.Header.from_vcf, endless, form=vcfh.SECOND).number, 27)
+
+    def test_text_is_not_taken_for_bytes(self):
+        calls = [vcfh.Header, vcfh.Header.from_vcf, vcfh.house_form, vcfh.Register, vcfh.dictionaries, vcfh.is_house, vcfh.contigs, vcfh.is_utf8, vcfh.header_end]
+        calls += [vcfh.header_of, vcfh.Season().add, vcfh.Feed().feed, vcfh.house_difference]
+        for call in calls:
+            with self.assertRaisesRegex(TypeError, "bytes are needed, not str"):
+                call("##fileformat=VCFv4.3")
+            with self.assertRaisesRegex(TypeError, "bytes are needed, not int"):
+                call(7)
+
+    def test_a_bad_version_is_named(self):
+        for call in (vcfh.Header, vcfh.house_form, vcfh.Register, vcfh.dictionaries, vcfh.is_house, vcfh.Season().add, lambda data, version: vcfh.Feed(version)):
+            for version in ("4.3", 4.3, (4,), (4, "3"), [4, 3], (4, 3, 0)):
+                with self.assertRaisesRegex(TypeError, r"such as \(4, 3\)"):
+                    call(PROBE, version)
+            for version in ((-1, 3), (4, 2**32)):
+                with self.assertRaisesRegex(ValueError, "from 0 to 4294967295"):
+                    call(PROBE, version)
+
+    def test_a_bad_kind_is_named(self):
+        with self.assertRaisesRegex(ValueError, "no kind is 'CONTIG'"):
+            vcfh.Header(PROBE).index().find("CONTIG", "x")
+
+    def test_a_missing_library_is_named(self):
+        run = subprocess.run([sys.executable, "-c", "import vcfh"], cwd=pathlib.Path(vcfh.__file__).parent, env={**os.environ, "VCFH_LIBRARY": "/no/libvcfh.so"}, capture_output=True, text=True)
+        self.assertIn("no libvcfh.so of this version in /no/libvcfh.so: run bindings/build", run.stderr)
+
+    def test_the_words_of_the_module_are_true(self):
+        self.assertEqual(doctest.testmod(vcfh).failed, 0)
 
 
 class Seasons(unittest.TestCase):
@@ -90,12 +216,13 @@ class Reading(unittest.TestCase):
     def test_the_probe_header_has_three_entries(self):
         header = vcfh.Header(PROBE)
         self.assertEqual([entry.kind for entry in header], ["fileformat", "other map", "columns"])
-        self.assertEqual((header[1].id, header[1].line), (b"W07", b"##cell=<ID=W07,K=0.98>"))
+        self.assertEqual((header[1].id, header[1].line, header[1].key), ("W07", "##cell=<ID=W07,K=0.98>", "cell"))
         self.assertEqual((header[2].id, header.lines, len(header)), (None, 3, 3))
 
     def test_fields_are_shown_as_written(self):
         header = vcfh.Header(b'##fileformat=VCFv4.3\n##cell=<K="0,98",ID=W07>\n' + COLUMNS + b"\n")
-        self.assertEqual((header[1].fields, header[2].fields, header.version), ([b'K="0,98"', b"ID=W07"], [], (4, 3)))
+        self.assertEqual((header[1].written, header[2].written, header.version), (['K="0,98"', "ID=W07"], [], (4, 3)))
+        self.assertEqual((header[1].fields, header[2].fields), ({"K": "0,98", "ID": "W07"}, {}))
 
     def test_entries_with_oddly_spelled_numbers_are_listed(self):
         lines = b"##contig=<ID=a,length=007>\n##contig=<ID=b,length=7>\n##contig=<ID=c,IDX=+5>\n"
@@ -131,12 +258,13 @@ class Reading(unittest.TestCase):
 
     def test_samples_follow_the_column_line(self):
         header = vcfh.Header(b"##fileformat=VCFv4.3\n" + COLUMNS + b"\tFORMAT\tNA1\t\tNA2")
-        self.assertEqual([entry.line for entry in header if entry.kind == "sample"], [b"NA1", b"", b"NA2"])
+        self.assertEqual([entry.line for entry in header if entry.kind == "sample"], ["NA1", "", "NA2"])
+        self.assertEqual((header.samples, vcfh.Header(PROBE).samples), (["NA1", "", "NA2"], []))
 
     def test_a_second_equal_id_is_refused_with_its_place_and_words(self):
         refusal = refused(vcfh.Header, TWICE)
         self.assertEqual((refusal.number, refusal.line, refusal.start), (19, 3, 51))
-        self.assertEqual(str(refusal), "line 3, byte 51: the ID stands twice among the lines of its kind (refusal 19)")
+        self.assertEqual(str(refusal), "line 3, byte 51: the ID appears twice among the lines of its kind (refusal 19)")
 
     def test_an_empty_header_is_refused(self):
         self.assertEqual(refused(vcfh.Header, b"").number, 25)
@@ -151,7 +279,7 @@ class Reading(unittest.TestCase):
         self.assertEqual(len(vcfh.Header(meta, (4, 3))), 3)
         self.assertEqual([refused(vcfh.Header, meta, version).number for version in (None, (3, 4))], [9, 9])
         self.assertEqual(vcfh.house_form(meta, (4, 3)), meta.replace(b"4.2", b"4.3"))
-        self.assertEqual(vcfh.Header(meta, (4, 3))[1].fields, [b"ID=x", b"Values=[a,b]"])
+        self.assertEqual(vcfh.Header(meta, (4, 3))[1].fields, {"ID": "x", "Values": "[a,b]"})
 
     def test_a_refused_house_form_has_its_line_and_start(self):
         refusal = refused(vcfh.house_form, TWICE)
@@ -159,11 +287,11 @@ class Reading(unittest.TestCase):
 
     def test_entry_and_field_are_told_apart(self):
         header = vcfh.Header(b'##fileformat=VCFv4.3\n##b=text\n##c=<K=1,L="2,3",ID="W07">\n' + COLUMNS + b"\n")
-        self.assertEqual([entry.fields for entry in header], [[], [], [b"K=1", b'L="2,3"', b'ID="W07"'], []])
+        self.assertEqual([entry.written for entry in header], [[], [], ["K=1", 'L="2,3"', 'ID="W07"'], []])
 
     def test_every_number_has_its_own_words(self):
-        self.assertEqual(sorted(vcfh.WORDS), [*range(1, 44)])
-        self.assertEqual(len(set(vcfh.WORDS.values())), len(vcfh.WORDS))
+        self.assertEqual(sorted(vcfh.MESSAGES), [*range(1, 44)])
+        self.assertEqual(len(set(vcfh.MESSAGES.values())), len(vcfh.MESSAGES))
 
     def test_utf8_is_told_from_other_bytes(self):
         self.assertEqual([vcfh.is_utf8(data) for data in (b"", "Grüße".encode(), b"\xc0\x80", b"\xed\xa0\x80")], [True, True, False, False])
@@ -197,7 +325,7 @@ class Forms(unittest.TestCase):
     def test_a_line_too_long_for_the_first_form_is_read_in_the_second(self):
         header = long_line(vcfh.MAX_LINE[vcfh.FIRST] + 1)
         self.assertEqual([refused(call, header).number for call in self.READERS], [2] * len(self.READERS))
-        self.assertEqual(vcfh.Header(header, form=vcfh.SECOND)[2].line, header.split(b"\n")[2])
+        self.assertEqual(vcfh.Header(header, form=vcfh.SECOND)[2].line, header.split(b"\n")[2].decode())
         self.assertEqual(vcfh.house_form(header, form=vcfh.SECOND), header)
         self.assertEqual(refused(vcfh.Register, header, form=vcfh.SECOND).number, 39)
         self.assertEqual(vcfh.dictionaries(header, form=vcfh.SECOND), ([], []))
@@ -218,22 +346,22 @@ class Forms(unittest.TestCase):
         first = vcfh.Header(b"##fileformat=VCFv4.3\n" + lines + COLUMNS + b"\tFORMAT\ts", (4, 4))
         second = first.to_form(vcfh.SECOND)
         for header, form in ((second, vcfh.SECOND), (second.to_form(vcfh.FIRST), vcfh.FIRST), (first.to_form(vcfh.FIRST), vcfh.FIRST)):
-            self.assertEqual([vars(entry) for entry in header], [vars(entry) for entry in first])
+            self.assertEqual(shown(header), shown(first))
             self.assertEqual((header.odd(), header.version, header.lines, header.form), ([1], (4, 4), 4, form))
 
     def test_keys_and_numbers_of_fields_are_told_in_the_second_form(self):
         lines = b"##META=<ID=x,Values=[a,K=b]>\n##n=t\n"
         first = vcfh.Header(b"##fileformat=VCFv4.3\n" + lines + COLUMNS + b"\tFORMAT\ts")
-        self.assertEqual([first.key(n) for n in range(6)], [None] * 6)
-        wanted = [(b"fileformat", 0), (b"META", 2), (b"n", 0), None, None, None]
-        for header in (first.to_form(vcfh.SECOND), vcfh.Header(first._data, form=vcfh.SECOND)):
-            self.assertEqual([header.key(n) for n in range(6)], wanted)
+        self.assertEqual([first.counted(n) for n in range(6)], [None] * 6)
+        wanted = [("fileformat", 0), ("META", 2), ("n", 0), None, None, None]
+        for header in (first.to_form(vcfh.SECOND), vcfh.Header(first.bytes, form=vcfh.SECOND)):
+            self.assertEqual([header.counted(n) for n in range(6)], wanted)
 
     def test_turning_reads_lines_by_the_version_in_force(self):
         header = vcfh.Header(b"##fileformat=VCFv4.2\n##META=<ID=x,Values=[a,K=b]>\n" + COLUMNS, (4, 3))
-        self.assertEqual(header.to_form(vcfh.SECOND).key(1), (b"META", 2))
+        self.assertEqual(header.to_form(vcfh.SECOND).counted(1), ("META", 2))
         header.version = (4, 2)
-        self.assertEqual(header.to_form(vcfh.SECOND).key(1), (b"META", 3))
+        self.assertEqual(header.to_form(vcfh.SECOND).counted(1), ("META", 3))
 
     def test_entries_that_do_not_fit_the_first_form_are_not_turned(self):
         header = vcfh.Header(long_line(vcfh.MAX_LINE[vcfh.FIRST] + 1), form=vcfh.SECOND)
@@ -259,12 +387,12 @@ class Pieces(unittest.TestCase):
             whole = vcfh.Header(header, form=form)
             for size in (1, 7, 100, 4096):
                 got = self.received([header[at : at + size] for at in range(0, len(header), size)], form=form)
-                self.assertEqual([vars(entry) for entry in got], [vars(entry) for entry in whole])
+                self.assertEqual(shown(got), shown(whole))
                 self.assertEqual((got.version, got.lines, got.form, len(got)), (whole.version, whole.lines, form, len(whole)))
 
     def test_a_header_is_read_by_the_version_imposed(self):
         meta = b"##fileformat=VCFv4.2\n##META=<ID=x,Values=[a,b]>\n" + COLUMNS
-        self.assertEqual(self.received([meta[:30], b"", meta[30:]], (4, 3))[1].fields, [b"ID=x", b"Values=[a,b]"])
+        self.assertEqual(self.received([meta[:30], b"", meta[30:]], (4, 3))[1].fields, {"ID": "x", "Values": "[a,b]"})
         self.assertEqual(refused(self.received, [meta]).number, 9)
 
     def test_a_line_is_refused_when_its_lf_comes_and_ever_after(self):

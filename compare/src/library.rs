@@ -8,6 +8,9 @@ struct VcfhAnswer {
     line: u64,
     start: u64,
     entries: u64,
+    _samples: u64,
+    _major: u32,
+    _minor: u32,
 }
 
 #[repr(C)]
@@ -67,7 +70,7 @@ pub fn answer(case: &Case) -> String {
         )
     };
 
-    let VcfhAnswer { number, line, start, entries } = read;
+    let VcfhAnswer { number, line, start, entries, .. } = read;
     let written = escape(&out[..form.length as usize]);
     format!("{number}\t{line}\t{start}\t{entries}\t{}\t{written}", form.number)
 }

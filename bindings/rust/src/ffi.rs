@@ -8,6 +8,54 @@ pub struct Answer {
     pub line: u64,
     pub start: u64,
     pub entries: u64,
+    pub samples: u64,
+    pub major: u32,
+    pub minor: u32,
+}
+
+#[repr(C)]
+#[derive(Clone, Copy, Debug)]
+pub struct Described {
+    pub number: u64,
+    pub kind: u64,
+    pub start: u64,
+    pub length: u64,
+    pub key_start: u64,
+    pub key_length: u64,
+    pub has_id: u64,
+    pub id_start: u64,
+    pub id_length: u64,
+    pub quoted: u64,
+}
+
+#[repr(C)]
+pub struct FieldParts {
+    pub number: u64,
+    pub key_start: u64,
+    pub key_length: u64,
+    pub start: u64,
+    pub length: u64,
+    pub quoted: u64,
+}
+
+#[repr(C)]
+pub struct Value {
+    pub number: u64,
+    pub start: u64,
+    pub length: u64,
+    pub quoted: u64,
+}
+
+#[repr(C)]
+pub struct Under {
+    pub number: u64,
+    pub entry: u64,
+}
+
+#[repr(C)]
+pub struct Meant {
+    pub number: u64,
+    pub length: u64,
 }
 
 #[repr(C)]
@@ -190,8 +238,76 @@ extern "C" {
     fn vcfh_is_house(header: *const u8, length: usize, imposed: u64, major: u32, minor: u32, form: u64, table: *mut u64, words: usize) -> Verdict;
     fn vcfh_compare(old: Cells, new: Cells) -> Differences;
     fn vcfh_contigs(sam: *const u8, length: usize, out: *mut u8, space: usize) -> ContigLines;
-    fn vcfh_entry(header: *const u8, length: usize, table: *const u64, words: usize, form: u64, entry: u64) -> Part;
-    fn vcfh_id(header: *const u8, length: usize, table: *const u64, words: usize, form: u64, entry: u64) -> Part;
+    fn vcfh_header_end(bytes: *const u8, length: usize) -> u64;
+    fn vcfh_describe(header: *const u8, length: usize, table: *const u64, words: usize, form: u64, entry: u64) -> Described;
+    fn vcfh_field_parts(
+        header: *const u8,
+        length: usize,
+        table: *const u64,
+        words: usize,
+        form: u64,
+        entry: u64,
+        major: u32,
+        minor: u32,
+        field: u64,
+    ) -> FieldParts;
+    fn vcfh_value(
+        header: *const u8,
+        length: usize,
+        table: *const u64,
+        words: usize,
+        form: u64,
+        entry: u64,
+        major: u32,
+        minor: u32,
+        field: *const u8,
+        field_length: usize,
+    ) -> Value;
+    fn vcfh_find_entry(
+        header: *const u8,
+        length: usize,
+        table: *const u64,
+        words: usize,
+        form: u64,
+        key: *const u8,
+        key_length: usize,
+        id: *const u8,
+        id_length: usize,
+    ) -> Under;
+    fn vcfh_find_value(
+        header: *const u8,
+        length: usize,
+        table: *const u64,
+        words: usize,
+        form: u64,
+        major: u32,
+        minor: u32,
+        key: *const u8,
+        key_length: usize,
+        id: *const u8,
+        id_length: usize,
+        field: *const u8,
+        field_length: usize,
+    ) -> Value;
+    fn vcfh_find_text(
+        header: *const u8,
+        length: usize,
+        table: *const u64,
+        words: usize,
+        form: u64,
+        major: u32,
+        minor: u32,
+        key: *const u8,
+        key_length: usize,
+        id: *const u8,
+        id_length: usize,
+        field: *const u8,
+        field_length: usize,
+        out: *mut u8,
+        space: usize,
+    ) -> Meant;
+    fn vcfh_meaning(text: *const u8, length: usize, quoted: u64, out: *mut u8, space: usize) -> Meant;
+    fn vcfh_means(text: *const u8, length: usize, quoted: u64, meaning: *const u8, meaning_length: usize) -> u64;
     fn vcfh_key(header: *const u8, length: usize, table: *const u64, words: usize, form: u64, entry: u64) -> Key;
     fn vcfh_field(
         header: *const u8,
@@ -252,16 +368,7 @@ extern "C" {
     ) -> Added;
     fn vcfh_season_merge(sheet: Sheet, other: Sheet) -> Merged;
     fn vcfh_feed_start(imposed: u64, major: u32, minor: u32) -> Feeding;
-    fn vcfh_feed(
-        state: Feeding,
-        piece: *const u8,
-        length: usize,
-        form: u64,
-        buffer: *mut u8,
-        space: usize,
-        table: *mut u64,
-        words: usize,
-    ) -> Fed;
+    fn vcfh_feed(state: Feeding, piece: *const u8, length: usize, form: u64, buffer: *mut u8, space: usize, table: *mut u64, words: usize) -> Fed;
     fn vcfh_close(state: Feeding, form: u64, buffer: *const u8, space: usize, table: *mut u64, words: usize) -> Fed;
 }
 
@@ -304,12 +411,78 @@ pub fn contigs(sam: &[u8], out: &mut [u8]) -> ContigLines {
     unsafe { vcfh_contigs(sam.as_ptr(), sam.len(), out.as_mut_ptr(), out.len()) }
 }
 
-pub fn entry(header: &[u8], table: &[u64], form: Form, entry: u64) -> Part {
-    unsafe { vcfh_entry(header.as_ptr(), header.len(), table.as_ptr(), table.len(), form as u64, entry) }
+pub fn header_end(bytes: &[u8]) -> u64 {
+    unsafe { vcfh_header_end(bytes.as_ptr(), bytes.len()) }
 }
 
-pub fn id(header: &[u8], table: &[u64], form: Form, entry: u64) -> Part {
-    unsafe { vcfh_id(header.as_ptr(), header.len(), table.as_ptr(), table.len(), form as u64, entry) }
+pub fn describe(header: &[u8], table: &[u64], form: Form, entry: u64) -> Described {
+    unsafe { vcfh_describe(header.as_ptr(), header.len(), table.as_ptr(), table.len(), form as u64, entry) }
+}
+
+pub fn field_parts(header: &[u8], table: &[u64], form: Form, entry: u64, version: Version, field: u64) -> FieldParts {
+    unsafe { vcfh_field_parts(header.as_ptr(), header.len(), table.as_ptr(), table.len(), form as u64, entry, version.major, version.minor, field) }
+}
+
+pub fn value(header: &[u8], table: &[u64], form: Form, entry: u64, version: Version, field: &[u8]) -> Value {
+    let (major, minor) = (version.major, version.minor);
+    unsafe { vcfh_value(header.as_ptr(), header.len(), table.as_ptr(), table.len(), form as u64, entry, major, minor, field.as_ptr(), field.len()) }
+}
+
+pub fn find_entry(header: &[u8], table: &[u64], form: Form, key: &[u8], id: &[u8]) -> Under {
+    unsafe {
+        vcfh_find_entry(header.as_ptr(), header.len(), table.as_ptr(), table.len(), form as u64, key.as_ptr(), key.len(), id.as_ptr(), id.len())
+    }
+}
+
+/// The names are a key, an ID and a field's key.
+pub fn find_value(header: &[u8], table: &[u64], form: Form, version: Version, [key, id, field]: [&[u8]; 3]) -> Value {
+    unsafe {
+        vcfh_find_value(
+            header.as_ptr(),
+            header.len(),
+            table.as_ptr(),
+            table.len(),
+            form as u64,
+            version.major,
+            version.minor,
+            key.as_ptr(),
+            key.len(),
+            id.as_ptr(),
+            id.len(),
+            field.as_ptr(),
+            field.len(),
+        )
+    }
+}
+
+pub fn find_text(header: &[u8], table: &[u64], form: Form, version: Version, [key, id, field]: [&[u8]; 3], out: &mut [u8]) -> Meant {
+    unsafe {
+        vcfh_find_text(
+            header.as_ptr(),
+            header.len(),
+            table.as_ptr(),
+            table.len(),
+            form as u64,
+            version.major,
+            version.minor,
+            key.as_ptr(),
+            key.len(),
+            id.as_ptr(),
+            id.len(),
+            field.as_ptr(),
+            field.len(),
+            out.as_mut_ptr(),
+            out.len(),
+        )
+    }
+}
+
+pub fn meaning(text: &[u8], quoted: bool, out: &mut [u8]) -> Meant {
+    unsafe { vcfh_meaning(text.as_ptr(), text.len(), quoted as u64, out.as_mut_ptr(), out.len()) }
+}
+
+pub fn means(text: &[u8], quoted: bool, meaning: &[u8]) -> bool {
+    unsafe { vcfh_means(text.as_ptr(), text.len(), quoted as u64, meaning.as_ptr(), meaning.len()) == 1 }
 }
 
 pub fn key(header: &[u8], table: &[u64], form: Form, entry: u64) -> Key {

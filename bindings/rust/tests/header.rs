@@ -1,7 +1,7 @@
 //! The library through the safe functions.
 use std::io::{self, Write};
 
-use vcfh::{Difference, Feed, Form, Header, Kind, Refused, Register, Season, Version};
+use vcfh::{Difference, Entry, Feed, Form, Header, Kind, Refused, Register, Season, Version};
 
 const COLUMNS: &str = "#CHROM\tPOS\tID\tREF\tALT\tQUAL\tFILTER\tINFO";
 
@@ -15,9 +15,9 @@ fn the_probe_header_has_three_entries() {
     let header = Header::read(bytes.as_bytes(), None).unwrap();
     let kinds: Vec<Kind> = header.entries().map(|entry| entry.kind()).collect();
     assert_eq!(kinds, [Kind::FileFormat, Kind::OtherMap, Kind::Columns]);
-    assert_eq!(header.entry(1).unwrap().line(), b"##cell=<ID=W07,K=0.98>");
-    assert_eq!(header.entry(1).unwrap().id(), Some(&b"W07"[..]));
-    assert_eq!(header.entry(2).unwrap().id(), None);
+    assert_eq!(header.entry(1).unwrap().line(), "##cell=<ID=W07,K=0.98>");
+    assert_eq!(header.entry(1).unwrap().id().unwrap(), "W07");
+    assert!(header.entry(2).unwrap().id().is_none());
     assert!(header.entry(3).is_none());
     assert_eq!(header.lines(), 3);
 }
@@ -26,10 +26,9 @@ fn the_probe_header_has_three_entries() {
 fn fields_are_shown_as_written() {
     let bytes = format!("##fileformat=VCFv4.3\n##cell=<K=\"0,98\",ID=W07>\n{COLUMNS}\n");
     let header = Header::read(bytes.as_bytes(), None).unwrap();
-    let fields: Vec<&[u8]> = header.entry(1).unwrap().fields().collect();
-    assert_eq!(fields, [&b"K=\"0,98\""[..], b"ID=W07"]);
-    assert_eq!(header.entry(2).unwrap().fields().count(), 0);
-    assert_eq!(header.version(), Some(Version { major: 4, minor: 3 }));
+    assert_eq!(header.entry(1).unwrap().written().collect::<Vec<_>>(), ["K=\"0,98\"", "ID=W07"]);
+    assert_eq!(header.entry(2).unwrap().written().count(), 0);
+    assert_eq!(header.version(), Version::new(4, 3));
 }
 
 #[test]
@@ -67,15 +66,15 @@ fn dictionaries_number_strings_and_contigs() {
 fn samples_follow_the_column_line() {
     let bytes = format!("##fileformat=VCFv4.3\n{COLUMNS}\tFORMAT\tNA1\t\tNA2");
     let header = Header::read(bytes.as_bytes(), None).unwrap();
-    let names: Vec<&[u8]> = header.entries().filter(|entry| entry.kind() == Kind::Sample).map(|entry| entry.line()).collect();
-    assert_eq!(names, [&b"NA1"[..], b"", b"NA2"]);
+    let names: Vec<&str> = header.entries().filter(|entry| entry.kind() == Kind::Sample).map(|entry| entry.line()).collect();
+    assert_eq!(names, ["NA1", "", "NA2"]);
 }
 
 #[test]
 fn a_second_equal_id_is_refused_with_its_place_and_words() {
     let second = refused("##fileformat=VCFv4.3\n##FILTER=<ID=q,Description=x>\n##FILTER=<ID=\"q\",Description=x>\n");
     assert_eq!(second, Refused { number: 19, line: 3, start: 51 });
-    assert_eq!(second.to_string(), "line 3, byte 51: the ID stands twice among the lines of its kind (refusal 19)");
+    assert_eq!(second.to_string(), "line 3, byte 51: the ID appears twice among the lines of its kind (refusal 19)");
 }
 
 #[test]
@@ -112,9 +111,8 @@ fn a_refused_house_form_has_its_line_and_start() {
 fn entry_and_field_are_told_apart() {
     let bytes = format!("##fileformat=VCFv4.3\n##b=text\n##c=<K=1,L=\"2,3\",ID=\"W07\">\n{COLUMNS}\n");
     let header = Header::read(bytes.as_bytes(), None).unwrap();
-    let fields: Vec<Vec<&[u8]>> = header.entries().map(|entry| entry.fields().collect()).collect();
-    let none: Vec<&[u8]> = vec![];
-    assert_eq!(fields, [none.clone(), none.clone(), vec![&b"K=1"[..], b"L=\"2,3\"", b"ID=\"W07\""], none]);
+    let fields: Vec<Vec<&str>> = header.entries().map(|entry| entry.written().collect()).collect();
+    assert_eq!(fields, [vec![], vec![], vec!["K=1", "L=\"2,3\"", "ID=\"W07\""], vec![]]);
 }
 
 #[test]
@@ -126,8 +124,8 @@ fn entries_with_oddly_spelled_numbers_are_listed() {
 
 #[test]
 fn every_number_has_its_own_words() {
-    let mut words: Vec<&str> = (1..=43).map(|number| Refused { number, line: 0, start: 0 }.words()).collect();
-    let none = Refused { number: 44, line: 0, start: 0 }.words();
+    let mut words: Vec<&str> = (1..=43).map(|number| Refused { number, line: 0, start: 0 }.message()).collect();
+    let none = Refused { number: 44, line: 0, start: 0 }.message();
     assert!(!words.contains(&none));
     words.sort();
     words.dedup();
@@ -184,7 +182,7 @@ fn a_line_too_long_for_the_first_form_is_read_in_the_second() {
     let bytes = text.as_bytes();
     let too_long = Refused { number: 2, line: 2, start: 21 };
     assert_eq!(Header::read(bytes, None).unwrap_err(), too_long);
-    assert_eq!(Header::read_in(bytes, None, Form::Second).unwrap().entry(1).unwrap().line(), text.lines().nth(1).unwrap().as_bytes());
+    assert_eq!(Header::read_in(bytes, None, Form::Second).unwrap().entry(1).unwrap().line(), text.lines().nth(1).unwrap());
     assert_eq!(vcfh::house_form(bytes, None).unwrap_err(), too_long);
     assert_eq!(vcfh::house_form_in(bytes, None, Form::Second).unwrap(), bytes);
     assert_eq!(Register::read(bytes, None).unwrap_err(), too_long);
@@ -211,7 +209,16 @@ fn a_house_form_may_be_nearly_twice_as_long_as_the_header() {
 
 /// What a header shows of its entries.
 fn shown(header: &Header) -> Vec<(Kind, String)> {
-    let parts = |entry: &vcfh::Entry| format!("{:?} {:?} {:?}", entry.line(), entry.id(), entry.fields().collect::<Vec<_>>());
+    let parts = |entry: &Entry| {
+        format!(
+            "{:?} {:?} {:?} {:?} {:?}",
+            entry.line(),
+            entry.key(),
+            entry.id(),
+            entry.fields().collect::<Vec<_>>(),
+            entry.written().collect::<Vec<_>>()
+        )
+    };
     header.entries().map(|entry| (entry.kind(), parts(&entry))).collect()
 }
 
@@ -224,7 +231,7 @@ fn entries_turned_to_the_other_form_show_the_same_parts() {
     let (back, same) = (second.to_form(Form::First).unwrap(), first.to_form(Form::First).unwrap());
     for (header, form) in [(&second, Form::Second), (&back, Form::First), (&same, Form::First)] {
         assert_eq!(shown(header), shown(&first));
-        assert_eq!((header.odd(), header.version(), header.lines(), header.form()), (vec![1], Some(by), 4, form));
+        assert_eq!((header.odd(), header.version(), header.lines(), header.form()), (vec![1], by, 4, form));
     }
 }
 
@@ -232,10 +239,10 @@ fn entries_turned_to_the_other_form_show_the_same_parts() {
 fn keys_and_numbers_of_fields_are_told_in_the_second_form() {
     let bytes = format!("##fileformat=VCFv4.3\n##META=<ID=x,Values=[a,K=b]>\n##n=t\n{COLUMNS}\tFORMAT\ts");
     let first = Header::read(bytes.as_bytes(), None).unwrap();
-    assert!(first.entries().all(|entry| entry.key().is_none()));
+    assert!(first.entries().all(|entry| entry.counted().is_none()));
     for header in [first.to_form(Form::Second).unwrap(), Header::read_in(bytes.as_bytes(), None, Form::Second).unwrap()] {
-        let keys: Vec<_> = header.entries().map(|entry| entry.key()).collect();
-        assert_eq!(keys, [Some((&b"fileformat"[..], 0)), Some((b"META", 2)), Some((b"n", 0)), None, None]);
+        let keys: Vec<_> = header.entries().map(|entry| entry.counted()).collect();
+        assert_eq!(keys, [Some(("fileformat", 0)), Some(("META", 2)), Some(("n", 0)), None, None]);
     }
 }
 
@@ -244,7 +251,7 @@ fn turning_reads_lines_by_the_version_in_force() {
     let bytes = format!("##fileformat=VCFv4.2\n##META=<ID=x,Values=[a,K=b]>\n{COLUMNS}");
     for (version, fields) in [(None, 3), (Some(Version { major: 4, minor: 3 }), 2)] {
         let header = Header::read(bytes.as_bytes(), version).unwrap().to_form(Form::Second).unwrap();
-        assert_eq!(header.entry(1).unwrap().key(), Some((&b"META"[..], fields)));
+        assert_eq!(header.entry(1).unwrap().counted(), Some(("META", fields)));
     }
 }
 
@@ -262,11 +269,11 @@ fn ids_are_found_by_kind_and_meaning() {
     for form in [Form::First, Form::Second] {
         let header = Header::read_in(bytes.as_bytes(), None, form).unwrap();
         let index = header.index().unwrap();
-        let found = |kind, id: &str| index.find(kind, id.as_bytes()).0.map(|entry| entry.number());
+        let found = |kind, id: &str| index.find(kind, id).0.map(|entry| entry.number());
         assert_eq!([found(Kind::Filter, "x"), found(Kind::Contig, "x"), found(Kind::Contig, "a\"b")], [Some(1), Some(4), Some(3)]);
         assert_eq!([found(Kind::Contig, "a\\\"b"), found(Kind::Info, "x"), found(Kind::OtherMap, "x")], [None, None, None]);
-        assert_eq!(index.find(Kind::OtherMap, b"x").1, 0);
-        assert_eq!(header.index_of(3).unwrap().find(Kind::Contig, b"y").1, 3);
+        assert_eq!(index.find(Kind::OtherMap, "x").1, 0);
+        assert_eq!(header.index_of(3).unwrap().find(Kind::Contig, "y").1, 3);
         assert_eq!(header.index_of(2).unwrap_err(), Refused { number: 33, line: 0, start: 0 });
     }
 }
@@ -358,4 +365,87 @@ fn a_piece_past_the_limit_is_not_taken() {
     let mut feed = Feed::new(None);
     assert_eq!(feed.feed(&vec![b'x'; Form::First.max_length() + 1]), Err(Refused { number: 27, line: 0, start: 0 }));
     assert_eq!(feed.close().unwrap_err().number, 27);
+}
+
+const LINES: &str = "##fileformat=VCFv4.3\n##b=text\n##c=<K=1,L=\"2,\\\"3\\\\\",ID=\"a\\\"b\">\n##c=<ID=\"x\",K=\"\">\n##c=<ID=\u{e9}\\,K=\\\">\n";
+
+/// The lines above with two samples, in each form; expected values are read off the lines.
+fn by_name(test: impl Fn(Header)) {
+    let bytes = format!("{LINES}{COLUMNS}\tFORMAT\ts1\t##s2");
+    for form in [Form::First, Form::Second] {
+        test(Header::read_in(bytes.as_bytes(), None, form).unwrap());
+    }
+}
+
+#[test]
+fn entries_tell_key_id_and_quotes() {
+    by_name(|header| {
+        let told: Vec<_> = header.entries().map(|entry| (entry.kind(), entry.key(), entry.id().map(|id| (id.to_string(), id.is_quoted())))).collect();
+        let id = |text: &str, quoted| Some((text.to_string(), quoted));
+        let maps = [id("a\"b", true), id("x", true), id("\u{e9}\\", false)].map(|id| (Kind::OtherMap, Some("c"), id));
+        assert_eq!(told[..2], [(Kind::FileFormat, Some("fileformat"), None), (Kind::OtherText, Some("b"), None)]);
+        assert_eq!(told[2..5], maps);
+        assert_eq!(told[5..], [(Kind::Columns, None, None), (Kind::Sample, None, None), (Kind::Sample, None, None)]);
+        assert_eq!((header.samples().collect::<Vec<_>>(), header.samples().len(), header.len()), (vec!["s1", "##s2"], 2, 8));
+        assert_eq!((header.entries().len(), (&header).into_iter().count(), header.version()), (8, 8, Version::new(4, 3)));
+    });
+}
+
+#[test]
+fn fields_are_told_apart() {
+    by_name(|header| {
+        let entry = header.entry(2).unwrap();
+        let fields: Vec<_> =
+            entry.fields().map(|field| (field.key, field.value.raw(), field.value.is_quoted(), field.value.meaning().into_owned())).collect();
+        let wanted = [("K", "1", false, "1"), ("L", "2,\\\"3\\\\", true, "2,\"3\\"), ("ID", "a\\\"b", true, "a\"b")];
+        assert_eq!(fields, wanted.map(|(key, raw, quoted, meaning)| (key, raw, quoted, meaning.to_string())));
+        assert_eq!((header.entry(1).unwrap().fields().count(), header.entry(6).unwrap().fields().count()), (0, 0));
+        assert!(entry.value("L").unwrap() == *"2,\"3\\" && entry.value("L").unwrap() != "2,\\\"3\\\\");
+        assert!(entry.value("M").is_none() && header.entry(1).unwrap().value("K").is_none());
+        assert_eq!(format!("[{:>5}]", entry.value("K").unwrap()), "[    1]");
+    });
+}
+
+#[test]
+fn values_are_had_by_key_id_and_field() {
+    by_name(|header| {
+        let number = |key, id| header.find(key, id).map(|entry| entry.number());
+        assert_eq!([number("c", "a\"b"), number("c", "x"), number("c", "\u{e9}\\")], [Some(2), Some(3), Some(4)]);
+        assert_eq!([number("c", "a\\\"b"), number("b", ""), number("d", "x"), number("", "x"), number("c", "")], [None; 5]);
+        let texts = [("c", "a\"b", "L"), ("c", "x", "K"), ("c", "\u{e9}\\", "K"), ("c", "x", "L"), ("c", "y", "K")]
+            .map(|(key, id, field)| header.text(key, id, field));
+        assert_eq!(texts, [Some("2,\"3\\"), Some(""), Some("\\\""), None, None].map(|text| text.map(str::to_string)));
+        assert_eq!(header.value("c", "x", "K").unwrap().meaning(), "");
+    });
+}
+
+#[test]
+fn the_header_of_a_whole_vcf_is_read() {
+    let header = format!("{LINES}{COLUMNS}\n");
+    let vcf = format!("{header}chr1\t7\n#CHROM\n");
+    assert_eq!((vcfh::header_end(vcf.as_bytes()), vcfh::header_of(vcf.as_bytes())), (header.len(), header.as_bytes()));
+    assert_eq!((vcfh::header_end(b""), vcfh::header_end(b"x\ny")), (0, 3));
+    assert_eq!(Header::from_vcf(vcf.as_bytes(), Some(Version::new(4, 4))).unwrap().version().minor, 4);
+    assert_eq!(Header::read(vcf.as_bytes(), None).unwrap_err().number, 1);
+    assert_eq!(vcfh::read_header(vcf.as_bytes()).unwrap(), header.as_bytes());
+    let long = long_line(300_000) + "chr1\t7\n";
+    assert_eq!(vcfh::read_header(long.as_bytes()).unwrap(), long_line(300_000).as_bytes());
+    assert!(vcfh::read_header(io::repeat(b'x')).unwrap().len() > Form::Second.max_length());
+}
+
+#[test]
+fn a_refusal_says_its_sentence() {
+    let refusal = refused("##fileformat=VCFv4.3\n##FILTER=<ID=q,Description=x>\n##FILTER=<ID=q,Description=x>\n");
+    let sentence = "line 3, byte 51: the ID appears twice among the lines of its kind (refusal 19)";
+    assert_eq!((refusal.to_string().as_str(), format!("{refusal:?}").as_str()), (sentence, sentence));
+    assert_eq!(refused("").to_string(), "the input is empty (refusal 25)");
+    assert_eq!(Refused { number: 0, line: 0, start: 0 }.message(), "no refusal has this number");
+}
+
+#[test]
+fn the_version_in_force_is_told() {
+    let bytes = format!("##fileformat=VCFv4.2\n{COLUMNS}\n");
+    let told = |imposed| Header::read(bytes.as_bytes(), imposed).unwrap().version();
+    assert_eq!((told(None), told(Some(Version::new(9, 7)))), (Version::new(4, 2), Version::new(9, 7)));
+    assert_eq!(told(None).to_string(), "4.2");
 }

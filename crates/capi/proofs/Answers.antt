@@ -26,7 +26,7 @@ use Rattle.entries.specs.declared.shown.Shown.{Shown}
 use Rattle.entries.specs.declared.shown.Shown.the-variants as shown
 use Rattle.entries.proofs.Calls.{answer-is, key-answered-injective}
 use Rattle.values.proofs.Tests.{never}
-use Rattle.header.specs.Parsers.{AnswerMeaning, outcomeNumber, readInto, ReadCall}
+use Rattle.header.specs.Parsers.{AnswerMeaning, outcomeNumber, outcomeSays, readInto, ReadCall}
 use Rattle.header.specs.declared.parser.Outcome.{Outcome}
 use Rattle.header.specs.declared.parser.Outcome.the-variants as outcome
 use Rattle.header.specs.declared.parser.ReadAnswer.{ReadAnswer}
@@ -45,7 +45,8 @@ use Rattle.capi.specs.declared.VcfhOdd.{VcfhOdd}
 use Rattle.turning.specs.Turning.{turnNumber, toSecond, turnAnswer, turnTable}
 use Rattle.turning.specs.declared.turn.TurnAnswer.{TurnAnswer}
 use Rattle.capi.specs.declared.VcfhTurned.{VcfhTurned}
-use Rattle.capi.specs.Answers.{oddAs, turnedAs, flag, imposedBy, formBy, answerInC, formInC, partOf, partAs, Ordered, keyShownIn, keyShownAs, KeyOrdered, registerAs, differencesAs}
+use Rattle.capi.specs.Answers.{oddAs, turnedAs, flag, toldAs, imposedBy, formBy, answerInC, formInC, partOf, partAs, Ordered, keyShownIn, keyShownAs, KeyOrdered, registerAs, differencesAs}
+use Rattle.capi.specs.declared.Told.{Told}
 use Rattle.capi.specs.declared.VcfhAnswer.{VcfhAnswer}
 use Rattle.capi.specs.declared.VcfhForm.{VcfhForm}
 use Rattle.capi.specs.declared.VcfhPart.{VcfhPart}
@@ -122,15 +123,26 @@ pub ruleset keys = (key-ordered, shows-key, key-fits, key-numbers, no-key)
 -- Readings
 
 abbrev numbers : AnswerMeaning → VcfhAnswer
-numbers t = record { number = t .number; line = t .line; start = t .start; entries = t .entries }
+numbers t = record {
+  number = t .number;
+  line = t .line;
+  start = t .start;
+  entries = t .entries;
+  samples = toldAs (t .accepted) .samples;
+  major = toldAs (t .accepted) .major;
+  minor = toldAs (t .accepted) .minor;
+}
 
 -- a call with the form and the version that were asked for
 module _ {f form : Form} (k : f ≡ form) {imposed wanted : Option Version} (e : imposed ≡ wanted) {h t : List ℕ} (a : ReadAnswer) {t′ : List ℕ} (call : ReadCall f imposed h t a t′) where
   asked : ReadCall form wanted h t a t′
   asked = subst₂ (λ (x : Form) (i : Option Version). ReadCall x i h t a t′) k e call
 
-  pub answers : {n : ℕ} → n ≡ outcomeNumber (a .outcome) → record { number = n; line = a .line; start = a .start; entries = a .entries } ≡ answerInC (readInto form wanted t h)
-  answers c = ap (λ k. record { number = k; line = a .line; start = a .start; entries = a .entries }) c ∙ ap numbers (asked .answer)
+  pub answers : {n : ℕ} → n ≡ outcomeNumber (a .outcome) → {x : Told} → x ≡ toldAs (outcomeSays (a .outcome))
+      → record { number = n; line = a .line; start = a .start; entries = a .entries; samples = x .samples; major = x .major; minor = x .minor } ≡ answerInC (readInto form wanted t h)
+  answers c d =
+      ap₂ (λ (k : ℕ) (y : Told). record { number = k; line = a .line; start = a .start; entries = a .entries; samples = y .samples; major = y .major; minor = y .minor }) c d
+      ∙ ap numbers (asked .answer)
 
   pub stored : t′ ≡ storedIn form t 0 (readInto form wanted t h .entries)
   stored = asked .table
@@ -155,6 +167,15 @@ module _ {f form : Form} (k : f ≡ form) {imposed wanted : Option Version} (e :
 module _ (o : Outcome) (x : Refusal) {n : ℕ} where
   pub refused-number : o ≡ outcome.Refused x → n ≡ number x → n ≡ outcomeNumber o
   refused-number e a = a ∙ sym (ap outcomeNumber e)
+
+module _ (o : Outcome) where
+  pub told-accepted : {f : FileFormat} {n : ℕ} → o ≡ outcome.Accepted f n → record { samples = n; major = f .major; minor = f .minor } ≡ toldAs (outcomeSays o)
+  told-accepted e = sym (ap (λ (x : Outcome). toldAs (outcomeSays x)) e)
+
+  pub told-refused : {x : Refusal} → o ≡ outcome.Refused x → record { samples = 0; major = 0; minor = 0 } ≡ toldAs (outcomeSays o)
+  told-refused e = sym (ap (λ (x : Outcome). toldAs (outcomeSays x)) e)
+
+pub ruleset tellings = (told-accepted, told-refused)
 
 pub ruleset readings = (answers, stored, form-answers, form-stored, written, refused-number)
 

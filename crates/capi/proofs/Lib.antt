@@ -5,3 +5,4 @@ pub mod Searches
 pub mod Seasons
 pub mod Verdicts
 pub mod Pieces
+pub mod Asking

@@ -20,6 +20,8 @@ use mathlib.Core.List.{List, map}
 use Rattle.register.specs.Register.{RegisterReading}
 use Rattle.register.specs.Compare.{Difference}
 use Rattle.register.specs.Wells.{filled}
+use Rattle.header.specs.Parsers.{acceptedIn}
+use Rattle.capi.specs.declared.Told.{Told}
 use Rattle.capi.specs.declared.VcfhAnswer.{VcfhAnswer}
 use Rattle.capi.specs.declared.VcfhForm.{VcfhForm}
 use Rattle.capi.specs.declared.VcfhDictionaries.{VcfhDictionaries}
@@ -51,8 +53,21 @@ imposedBy imposed major minor = elim (eqb imposed 0) [ true ↦ none | false ↦
 abbrev pub formBy : ℕ → Form
 formBy form = elim (eqb form 2) [ true ↦ Second | false ↦ First ]
 
+-- of an accepted header, the number of samples and the version in force
+abbrev pub toldAs : Option (Version × ℕ) → Told
+toldAs none = record { samples = 0; major = 0; minor = 0 }
+toldAs (some p) = record { samples = p .1; major = p .0 .major; minor = p .0 .minor }
+
 abbrev pub answerInC : Reading → VcfhAnswer
-answerInC r = record { number = r .number; line = r .line; start = r .start; entries = length (r .entries) }
+answerInC r = record {
+  number = r .number;
+  line = r .line;
+  start = r .start;
+  entries = length (r .entries);
+  samples = toldAs (acceptedIn (r .number) (r .state)) .samples;
+  major = toldAs (acceptedIn (r .number) (r .state)) .major;
+  minor = toldAs (acceptedIn (r .number) (r .state)) .minor;
+}
 
 -- of a reading, and of the form of what was read
 abbrev pub formInC : Reading → HouseReading → VcfhForm

@@ -1,5 +1,6 @@
 pub mod Answers
 pub mod Feeds
+pub mod Lookups
 pub mod Searches
 pub mod Seasons
 pub mod Verdicts

@@ -1,6 +1,7 @@
 // The library for programs in C, Rust or Python: answers are structs of 64-bit numbers, slices pass as pointer and length.
 pub mod feeds;
 pub mod indexes;
+pub mod lookups;
 pub mod sheets;
 
 use entries::form::Form;
@@ -24,26 +25,36 @@ ghost use Rattle.rules.specs.House.{house};
 ghost use Rattle.entries.specs.Values.{limitsBy};
 ghost use Rattle.entries.specs.Tables.{room, stored, shownEntry, shownId, shownKey, shownField};
 ghost use Rattle.header.specs.Verdicts.{imposedOf};
-ghost use Rattle.header.specs.Parsers.{outcomeNumber, readInto};
+ghost use Rattle.header.specs.Parsers.{outcomeNumber, outcomeSays, readInto};
 ghost use Rattle.sam.specs.Contigs.{contigLines, contigsFitting};
 ghost use Rattle.register.specs.Register.{registerOf};
 ghost use Rattle.register.specs.Compare.{differing};
 ghost use Rattle.spelling.specs.Odd.{oddIn, oddAnswer, oddList};
 ghost use Rattle.turning.specs.Turning.{toFirst, toSecond, turnAnswer, turnTable};
-ghost use Rattle.capi.specs.Answers.{flag, imposedBy, formBy, answerInC, formInC, dictionariesIn, dictionariesInC, partOf, partAs, Ordered, keyShownAs, keyShownIn, KeyOrdered, registerAs, differencesAs, oddAs, turnedAs, contigsInC};
+ghost use Rattle.capi.specs.Answers.{flag, toldAs, imposedBy, formBy, answerInC, formInC, dictionariesIn, dictionariesInC, partOf, partAs, Ordered, keyShownAs, keyShownIn, KeyOrdered, registerAs, differencesAs, oddAs, turnedAs, contigsInC};
 ghost use Rattle.house.specs.IsHouse.{isHouse};
 ghost use Rattle.capi.specs.Verdicts.{verdictInC};
 
-// Document 01's number, 0 if accepted; the line and its start; how many entries the table keeps.
+// Document 01's number, 0 if accepted; the line and its start; how many entries the table keeps; of an accepted header the number of
+// samples and the version in force, all 0 if refused.
 #[repr(C)]
 pub struct VcfhAnswer {
     pub number: u64,
     pub line: u64,
     pub start: u64,
     pub entries: u64,
+    pub samples: u64,
+    pub major: u32,
+    pub minor: u32,
 }
 
-// The same, and the length of the form, 0 if refused.
+struct Told {
+    samples: u64,
+    major: u32,
+    minor: u32,
+}
+
+// Number, line, start and entries as there, and the length of the form, 0 if refused.
 #[repr(C)]
 pub struct VcfhForm {
     pub number: u64,
@@ -153,6 +164,23 @@ fn number_of(outcome: Outcome) -> u64
     }
 }
 
+fn told_of(outcome: Outcome) -> Told
+    ensures { λ r. ⌜ r ≡ toldAs (outcomeSays outcome) ⌝ }
+{
+    match outcome {
+        Outcome::Accepted(version, samples) => Told {
+            samples: samples as u64,
+            major: version.major,
+            minor: version.minor,
+        },
+        Outcome::Refused(_) => Told {
+            samples: 0,
+            major: 0,
+            minor: 0,
+        },
+    }
+}
+
 fn part_of(shown: Shown) -> VcfhPart
     requires { ⌜ Ordered shown ⌝ }
     ensures { λ r. ⌜ r ≡ partAs shown ⌝ }
@@ -238,11 +266,15 @@ pub extern "C" fn vcfh_read(
     let answer = header::parser::read(header, version, named, table);
     let outcome = answer.outcome;
     let number = number_of(outcome);
+    let told = told_of(outcome);
     VcfhAnswer {
         number,
         line: answer.line as u64,
         start: answer.start as u64,
         entries: answer.entries as u64,
+        samples: told.samples,
+        major: told.major,
+        minor: told.minor,
     }
 }
 

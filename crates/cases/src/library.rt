@@ -1,6 +1,7 @@
 // The same through the library for C, whose numbers are told apart by their order alone. Asked of a reading or a form: as of `reads` and
 // `forms`. Asked of a part: the version under which the field is read, the table's words, the entry and the field.
 use crate::forms;
+use crate::lookups;
 use crate::reads;
 use crate::text;
 use crate::words;
@@ -20,7 +21,7 @@ pub struct Imposed {
 }
 
 // Any number but 2 names the first form.
-fn form_of(asked: &[u8]) -> u64 {
+pub fn form_of(asked: &[u8]) -> u64 {
     match words::form(asked) {
         Form::First => 9,
         Form::Second => 2,
@@ -186,6 +187,9 @@ fn put_shown(out: &mut [u8], header: &[u8], asked: &[u8], table: &mut [u64], siz
 
 pub fn put(out: &mut [u8], input: &[u8], asked: &[u8], form: &mut [u8]) -> usize {
     let what = words::word(asked, 0);
+    if lookups::is_asked(asked) {
+        return lookups::put(out, input, asked);
+    }
     if words::is_asked(asked, b"c-read") {
         return put_read(out, input, asked);
     }

@@ -7,6 +7,7 @@ mod feeds;
 mod forms;
 mod indexes;
 mod library;
+mod lookups;
 mod odd;
 mod reads;
 mod registers;

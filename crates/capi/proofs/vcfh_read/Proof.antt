@@ -2,22 +2,39 @@ use Rattle.capi.proofs.Answers.{readings}
 use borrow.Author.Needs.{needs}
 use Rattle.capi.proofs.vcfh_read.Statement.{statement}
 use Rattle.capi.proofs.vcfh_read.Tie as tie
+use Rattle.capi.proofs.vcfh_read.Reads as reads
+use Rattle.capi.proofs.vcfh_read.Lts as lts
+use Rattle.capi.proofs.form_of.Reads as form-of-reads
+use Rattle.capi.proofs.imposed_by.Reads as imposed-by-reads
+use Rattle.capi.proofs.number_of.Reads as number-of-reads
+use Rattle.capi.proofs.told_of.Reads as told-of-reads
+use Rattle.header.proofs.parser.read.Reads as read-reads
 
+-- src/lib.rt:264:9
 imposed-by-requires : tie.Need-imposed-by-requires
 imposed-by-requires c κs = search (readings, needs)
 
+-- src/lib.rt:265:9
 form-of-requires : tie.Need-form-of-requires
-form-of-requires c κs = search needs
+form-of-requires c κs = search (readings, needs)
 
+-- src/lib.rt:266:9
 read-requires : tie.Need-read-requires
 read-requires c κs = search (readings, needs)
 
+-- src/lib.rt:268:9
 number-of-requires : tie.Need-number-of-requires
 number-of-requires c κs = search (readings, needs)
 
+-- src/lib.rt:269:9
+told-of-requires : tie.Need-told-of-requires
+told-of-requires c κs = search (readings, needs)
+
+-- src/lib.rt:251:1
 same-length : tie.Need-same-length
 same-length c = search (readings, needs)
 
+-- src/lib.rt:251:1
 returns : tie.Need-returns
 returns c = search (readings, needs)
 
@@ -29,5 +46,6 @@ vcfh-read-spec =
     form-of-requires
     read-requires
     number-of-requires
+    told-of-requires
     same-length
     returns)

@@ -1,0 +1,29 @@
+use Rattle.capi.proofs.Asking.{calls}
+use borrow.Author.Needs.{needs}
+use Rattle.capi.proofs.lookups.vcfh_find_entry.Statement.{statement}
+use Rattle.capi.proofs.lookups.vcfh_find_entry.Tie as tie
+use Rattle.capi.proofs.lookups.vcfh_find_entry.Reads as reads
+use Rattle.capi.proofs.lookups.vcfh_find_entry.Lts as lts
+use Rattle.capi.proofs.form_of.Reads as form-of-reads
+use Rattle.capi.proofs.lookups.entry_of.Reads as entry-of-reads
+use Rattle.lookup.proofs.find.find_entry.Reads as find-entry-reads
+
+-- src/lookups.rt:279:46
+form-of-requires : tie.Need-form-of-requires
+form-of-requires c κs = search (calls, needs)
+
+-- src/lookups.rt:279:14
+find-entry-requires : tie.Need-find-entry-requires
+find-entry-requires c κs = search (calls, needs)
+
+-- src/lookups.rt:279:5
+entry-of-requires : tie.Need-entry-of-requires
+entry-of-requires c κs = search (calls, needs)
+
+-- src/lookups.rt:269:1
+returns : tie.Need-returns
+returns c = search (calls, needs)
+
+pub vcfh-find-entry-spec : {M : Type 1} → statement M
+vcfh-find-entry-spec =
+    tie.close (tie.spec form-of-requires find-entry-requires entry-of-requires returns)

@@ -1,0 +1,23 @@
+use Rattle.capi.proofs.Asking.{meanings}
+use borrow.Author.Needs.{needs}
+use Rattle.capi.proofs.lookups.vcfh_means.Statement.{statement}
+use Rattle.capi.proofs.lookups.vcfh_means.Tie as tie
+use Rattle.capi.proofs.lookups.vcfh_means.Reads as reads
+use Rattle.capi.proofs.lookups.vcfh_means.Lts as lts
+use Rattle.capi.proofs.flag_of.Reads as flag-of-reads
+use Rattle.values.proofs.string.same_meaning.Reads as same-meaning-reads
+
+-- src/lookups.rt:349:13
+same-meaning-requires : tie.Need-same-meaning-requires
+same-meaning-requires c κs = search (meanings, needs)
+
+-- src/lookups.rt:349:5
+flag-of-requires : tie.Need-flag-of-requires
+flag-of-requires c κs = search (meanings, needs)
+
+-- src/lookups.rt:345:1
+returns : tie.Need-returns
+returns c = search (meanings, needs)
+
+pub vcfh-means-spec : {M : Type 1} → statement M
+vcfh-means-spec = tie.close (tie.spec same-meaning-requires flag-of-requires returns)

@@ -1,0 +1,34 @@
+use Rattle.capi.proofs.Asking.{calls}
+use borrow.Author.Needs.{needs}
+use Rattle.capi.proofs.lookups.vcfh_value.Statement.{statement}
+use Rattle.capi.proofs.lookups.vcfh_value.Tie as tie
+use Rattle.capi.proofs.lookups.vcfh_value.Reads as reads
+use Rattle.capi.proofs.lookups.vcfh_value.Lts as lts
+use Rattle.capi.proofs.form_of.Reads as form-of-reads
+use Rattle.capi.proofs.lookups.value_of.Reads as value-of-reads
+use Rattle.lookup.proofs.field.value.Reads as value-reads
+use Rattle.records.proofs.file_format.FileFormat.new.Reads as new-reads
+
+-- src/lookups.rt:264:9
+new-requires : tie.Need-new-requires
+new-requires c κs = search (calls, needs)
+
+-- src/lookups.rt:265:42
+form-of-requires : tie.Need-form-of-requires
+form-of-requires c κs = search (calls, needs)
+
+-- src/lookups.rt:265:14
+value-requires : tie.Need-value-requires
+value-requires c κs = search (calls, needs)
+
+-- src/lookups.rt:265:5
+value-of-requires : tie.Need-value-of-requires
+value-of-requires c κs = search (calls, needs)
+
+-- src/lookups.rt:251:1
+returns : tie.Need-returns
+returns c = search (calls, needs)
+
+pub vcfh-value-spec : {M : Type 1} → statement M
+vcfh-value-spec =
+    tie.close (tie.spec new-requires form-of-requires value-requires value-of-requires returns)

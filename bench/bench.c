@@ -13,7 +13,7 @@
 #endif
 #include "../bindings/c/vcfh.h"
 
-enum { ROUNDS = 5, WORDS = 524288, SIZE = 1048576 };
+enum { ROUNDS = 5, WORDS = 3145728, SIZE = 16777216 };
 static char header[SIZE + 1];
 static size_t length;
 static uint64_t table[WORDS];
@@ -90,8 +90,7 @@ static int prepare(uint64_t form) {
 static int find_in(uint64_t form) {
     size_t words = words_in(form);
     for (size_t i = 0; i < contig_count; i++) {
-        const uint8_t *id = (const uint8_t *)name[i];
-        vcfh_found found = vcfh_find((const uint8_t *)header, length, table, words, form, index_, 2 * entries, 6, id, strlen(name[i]));
+        vcfh_found found = vcfh_find((const uint8_t *)header, length, table, words, form, index_, 2 * entries, 6, name[i], strlen(name[i]));
         if (!found.found || found.entry != entry[i]) return 0;
     }
     return 1;

@@ -1,7 +1,5 @@
 """Writes the headers that are measured into a folder: python3 headers.py FOLDER"""
-import itertools
 import pathlib
-import string
 import sys
 
 COLUMNS = "#CHROM\tPOS\tID\tREF\tALT\tQUAL\tFILTER\tINFO"
@@ -24,35 +22,6 @@ def fields(kind, n):
     ]
 
 
-def hashed(state, letters):
-    """32-bit FNV-1a, from a state on."""
-    for letter in letters:
-        state = (state ^ letter) * 16777619 % 2**32
-    return state
-
-
-def alike(kind, n):
-    """n names of five letters whose hashes, with the kind before them (values::hash), have twelve zero bits in front and three at the end, so that of
-    4,096 bytes of marks all have the same bit. The last letter is worked out from the hash that is wanted and those of four letters."""
-    letters = string.ascii_letters.encode()
-    begun = hashed(2166136261, bytes([kind]))
-    ahead = {}
-    for four in itertools.product(letters[:32], repeat=4):
-        state = hashed(begun, four)
-        ahead.setdefault(state >> 8, (state, four))
-    inverse = pow(16777619, -1, 2**32)
-    names = []
-    for wanted in range(0, 2**20, 8):
-        before = wanted * inverse % 2**32
-        if before >> 8 in ahead:
-            state, four = ahead[before >> 8]
-            if state ^ before in letters:
-                names.append(bytes([*four, state ^ before]).decode())
-    if len(set(names)) < n:
-        raise ValueError("too few letters")
-    return names[:n]
-
-
 def indexed(lines, first):
     return [f"{line[:-1]},IDX={n}>" for n, line in enumerate(lines, first)]
 
@@ -68,8 +37,20 @@ HEADERS = {
     "strings_10000": header(STRINGS),
     "strings_indexed": header(indexed(STRINGS, 1)),
     "samples_2504": header(fields("FORMAT", 25), [f"HG{i:05}" for i in range(96, 2600)]),
-    "contigs_alike": header([f"##contig=<ID={name}>" for name in alike(6, 1000)]),
-    "samples_alike": header([], alike(10, 1000)),
+    # much of one thing; from contigs_250000 on for the second form
+    "contigs_45000": header([f"##contig=<ID=c{i}>" for i in range(45000)]),
+    "maps_60000": header([f"##k=<ID=a{i}>" for i in range(60000)]),
+    "fields_11500": header(["##x=<ID=a," + ",".join(f"{i:x}=" for i in range(11500)) + ">"]),
+    "samples_13000": header([], [f"{i:x}" for i in range(13000)]),
+    "keys_4000": header([f"##k{i}=<ID=a>" for i in range(4000)]),
+    "keys_40000": header([f"##k{i}=<ID=a>" for i in range(40000)]),
+    "mixed_40000": header([f"##m{i}=<ID=a>" if i % 2 else f"##t{i}=x" for i in range(40000)]),
+    "fields_17": header([f"##k=<ID=a{j}," + ",".join(f"{i:x}=" for i in range(16)) + ">" for j in range(10000)]),
+    "contigs_250000": header([f"##contig=<ID=ctg{i:06},length=5>" for i in range(250000)]),
+    "contigs_100000": header([f"##contig=<ID=ctg{i:06},length=5>" for i in range(100000)]),
+    "samples_100000": header([], [f"SAMPLE{i:06}" for i in range(100000)]),
+    "fields_100000": header(["##x=<ID=a," + ",".join(f"f{i:x}=1" for i in range(100000)) + ">"]),
+    "contigs_480000": header([f"##contig=<ID=ctg{i:06},length=5>" for i in range(480000)]),
 }
 
 

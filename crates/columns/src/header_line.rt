@@ -45,7 +45,7 @@ fn is_among(names: &[u8], name: &[u8]) -> bool
 }
 
 // The same, where the marks don't tell it already; the name is marked.
-fn is_repeated(names: &[u8], marks: &mut [u8], name: &[u8]) -> bool
+fn is_repeated(names: &[u8], marks: &mut [u64], name: &[u8]) -> bool
     ensures repeated { λ r. ⌜ r ≡ isRepeated (now (names .entry)) (now (marks .entry)) (now (name .entry)) ⌝ }
     ensures marks { λ _. ⌜ now (marks .exit) ≡ mark (now (marks .entry)) sampleKind (now (name .entry)) ⌝ }
 {
@@ -56,7 +56,7 @@ fn is_repeated(names: &[u8], marks: &mut [u8], name: &[u8]) -> bool
 }
 
 // The names after FORMAT, each held against those before it, whatever stands in `marks` before.
-fn count_samples(s: &[u8], marks: &mut [u8]) -> ColumnsRead
+fn count_samples(s: &[u8], marks: &mut [u64]) -> ColumnsRead
     ensures { λ r. ⌜ r ≡ samplesRead (distinct (split (drop 46 (now (s .entry))))) (length (split (drop 46 (now (s .entry))))) ⌝ }
 {
     let mut at: usize = NAMES_START;
@@ -73,6 +73,39 @@ fn count_samples(s: &[u8], marks: &mut [u8]) -> ColumnsRead
         }
         at = end + 1;
     }
+}
+
+fn count_long(s: &[u8]) -> ColumnsRead
+    ensures { λ r. ⌜ r ≡ samplesRead (distinct (split (drop 46 (now (s .entry))))) (length (split (drop 46 (now (s .entry))))) ⌝ }
+{
+    let mut marks = [0u64; 8192];
+    count_samples(s, &mut marks)
+}
+
+fn count_longer(s: &[u8]) -> ColumnsRead
+    ensures { λ r. ⌜ r ≡ samplesRead (distinct (split (drop 46 (now (s .entry))))) (length (split (drop 46 (now (s .entry))))) ⌝ }
+{
+    let mut marks = [0u64; 32768];
+    count_samples(s, &mut marks)
+}
+
+// The same, with marks of its own where none are lent: a short line has few names, and clearing more marks than they need costs more
+// than it spares. A function that calls itself is not made a part of its caller, nor are those with more marks of it: else all marks
+// would be on the stack of every header.
+fn count_marked(s: &[u8], marks: &mut [u64]) -> ColumnsRead
+    ensures { λ r. ⌜ r ≡ samplesRead (distinct (split (drop 46 (now (s .entry))))) (length (split (drop 46 (now (s .entry))))) ⌝ }
+{
+    if 0 < marks.len() {
+        return count_samples(s, marks);
+    }
+    if s.len() < 16384 {
+        let mut own = [0u64; 512];
+        return count_marked(s, &mut own);
+    }
+    if s.len() < 131072 {
+        return count_long(s);
+    }
+    count_longer(s)
 }
 
 // The line is the fixed columns, or these and FORMAT, or these and the names after FORMAT.
@@ -92,13 +125,8 @@ pub fn parse_header(s: &[u8]) -> ColumnsRead
     if !bytes::starts_with(rest, b"\tFORMAT\t") {
         return ColumnsRead::WrongColumn;
     }
-    // A short line has few names, and clearing more marks than they need costs more than it spares.
-    if s.len() < 8192 {
-        let mut marks = [0u8; 4096];
-        return count_samples(s, &mut marks);
-    }
-    let mut marks = [0u8; 65536];
-    count_samples(s, &mut marks)
+    let mut none = [0u64; 0];
+    count_marked(s, &mut none)
 }
 
 // One entry for each name after FORMAT, from number n on, as far as there is room.

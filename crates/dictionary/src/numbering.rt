@@ -87,7 +87,7 @@ fn number_line(
     count: Count,
     entry: u64,
     out: &mut [u64],
-    marks: &mut [u8],
+    marks: &mut [u64],
     numbers: &mut [u8],
 ) -> Turn
     requires { ⌜ Counts count ⌝ }
@@ -129,7 +129,7 @@ fn number_lines(
     dictionary: Dictionary,
     indexed: bool,
     out: &mut [u64],
-    marks: &mut [u8],
+    marks: &mut [u64],
     numbers: &mut [u8],
 ) -> Numbering
     ensures { λ r. ⌜ NumbersLines dictionary indexed (tableLines dictionary form (now (h .entry)) (now (kept .entry))) (now (out .entry)) r (now (out .exit)) ⌝ }
@@ -178,7 +178,7 @@ pub fn number_dictionary(
 {
     // A short header has few lines, and clearing more marks than they need costs more than it spares.
     if h.len() < 65536 {
-        let mut marks = [0u8; 4096];
+        let mut marks = [0u64; 512];
         let mut numbers = [0u8; 4096];
         return number_lines(
             h,
@@ -191,7 +191,7 @@ pub fn number_dictionary(
             &mut numbers,
         );
     }
-    let mut marks = [0u8; 65536];
+    let mut marks = [0u64; 8192];
     let mut numbers = [0u8; 65536];
     number_lines(
         h,

@@ -82,7 +82,7 @@ fn find_earlier(
     form: Form,
     dictionary: Dictionary,
     e: Entry,
-    marks: &mut [u8],
+    marks: &mut [u64],
 ) -> Earlier
     ensures found { λ r.
         ⌜ earlierMeant (now (h .entry)) r ≡ earlierAt dictionary form (now (h .entry)) (now (ahead .entry)) (now (marks .entry)) e ⌝ }
@@ -192,7 +192,7 @@ pub fn place_line(
     dictionary: Dictionary,
     indexed: bool,
     e: Entry,
-    marks: &mut [u8],
+    marks: &mut [u64],
     numbers: &mut [u8],
 ) -> Placed
     ensures placed { λ r.

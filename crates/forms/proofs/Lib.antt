@@ -4,3 +4,6 @@ pub mod Rows
 pub mod Copies
 pub mod Forms
 pub mod Lines
+pub mod Spellings
+pub mod Stands
+pub mod Asis

@@ -95,13 +95,13 @@ identity v k fs s id tag e h = go (fieldNamed v k (ascii "ID") fs) refl (textNam
 -- A map's line
 
 -- `##`, the key, `=` and `<`
-abbrev opening : Bytes → Bytes
+abbrev pub opening : Bytes → Bytes
 opening k = ascii "##" ++ (k ++ 61 ∷ 60 ∷ [])
 
-opening-long : (k : Bytes) → length (opening k) ≡ fieldsStart k
+pub opening-long : (k : Bytes) → length (opening k) ≡ fieldsStart k
 opening-long k = omega (arith, length-append k (61 ∷ 60 ∷ []))
 
-map-opened : (k : Bytes) (fs : List Field) → writeRecord (fields k fs) ≡ opening k ++ (writeFields fs ++ 62 ∷ [])
+pub map-opened : (k : Bytes) (fs : List Field) → writeRecord (fields k fs) ≡ opening k ++ (writeFields fs ++ 62 ∷ [])
 unfolding writeRecord
 map-opened k fs = ap (ascii "##" ++_) (sym (append-assoc k (61 ∷ 60 ∷ []) (writeFields fs ++ 62 ∷ [])))
 
@@ -110,13 +110,13 @@ opened-take k fs s e = rw (e, map-opened k fs) (take-at (opening k) (writeFields
 
 module _ (version : FileFormat) (k : Bytes) (fs : List Field) (key : MapKey) (s : Bytes) (start : ℕ) (n : Named k key) (r : readRecord (versionOf version) s ≡ ok (fields k fs))
     (l : start ≡ fieldsStart k) where
-  line-is : s ≡ writeRecord (fields k fs)
+  pub line-is : s ≡ writeRecord (fields k fs)
   line-is = on-ok (LineOf s) (record-in (versionOf version) s) r
 
-  meta-is : isMeta (versionOf version) (caseBytes key) ≡ isMeta (versionOf version) k
+  pub meta-is : isMeta (versionOf version) (caseBytes key) ≡ isMeta (versionOf version) k
   meta-is = ap (λ (b : Bool). b && since v4-3 (versionOf version)) (sym (n .meta))
 
-  fields-are : fieldsIn (contextOf key version start) s ≡ fs
+  pub fields-are : fieldsIn (contextOf key version start) s ≡ fs
   fields-are = rw (meta-is, l) (fields-read (isMeta (versionOf version) k) (alwaysMap k) s (fieldsStart k) (on-ok (Scanned (versionOf version) s) (record-scanned (versionOf version) s) r))
 
   fields-text : (id : Text) (f : Field) → fieldNamed (versionOf version) k (ascii "ID") fs ≡ some f → meaningIn s id ≡ meaningOf (f .value)

@@ -1,5 +1,5 @@
 -- What a line is, beside the lines before it. Assumes nothing.
-use Prim.Native.Nat.{ℕ, suc, _+_, _-_, _≤_, _<_}
+use Prim.Native.Nat.{ℕ, zero, suc, _+_, _-_, _≤_, _<_}
 use native.Mathlib.Omega.{arith}
 use mathlib.Core.Path.{_≡_, refl, sym, ap, ap₂, subst, _∙_}
 use mathlib.Core.Bool.{Bool, true, false, not}
@@ -22,6 +22,7 @@ use Rattle.rules.specs.Map.{fieldNamed}
 use Rattle.rules.specs.Record.{Record, fileformat, fields, text, readRecord}
 use Rattle.rules.specs.Columns.{Columns, readColumns}
 use Rattle.rules.specs.Entry.{Entry, formatKind, mapKind, textKind, plainEntry, fieldsStart, textNamed, lineEntry, ifCounted, countsOf, withCounts, recordEntry, columnEntries}
+use Rattle.rules.specs.Shown.{lineIn}
 use Rattle.rules.specs.Reading.{clash, State, empty, ready, begin, enter, finish, isDone, stepText, step}
 use Rattle.rules.specs.House.{writeRecord}
 use Rattle.rules.proofs.Firsts.{on-ok, judged-zero}
@@ -129,14 +130,14 @@ judged-by : {A : Type 0} {n m : ℕ} (x : A) → m ≡ n → {k : ℕ} → m ≡
 judged-by x e f = rw (← e, f)
 
 module _ (lim : Limits) (h : Bytes) (es : List Entry) (ms prefix : Bytes) (e : CodeEntry) {a : Clash} (ea : a ≡ clashFound h es ms prefix (entryOf e)) {ms′ : Bytes} (em : ms′ ≡ markEntry h (entryOf e) ms) where
-  found : 2 ≤ entryOf e .kind → All (Marked h ms) es → clashNumber a ≡ clashNumber (clashIn h es prefix (entryOf e))
-  found two m = ap clashNumber (ea ∙ clash-sure h es ms prefix (entryOf e) two m)
+  found : 2 ≤ entryOf e .kind → prefix ≡ prefixOf (keyIn (lineIn h (entryOf e))) → All (Marked h ms) es → clashNumber a ≡ clashNumber (clashIn h es prefix (entryOf e))
+  found two own m = ap clashNumber (ea ∙ clash-sure h es ms prefix (entryOf e) own two m)
 
   pub id-free : a ≡ clashes.Free → IdJudged lim h es ms prefix (entryOf e) (verdict.Entry e) ms′
   id-free f = record {
     marks = marks-more h ms (entryOf e) em;
-    is = λ two m start g l. (
-      judged-zero (g, entryOf e ∷ []) (sym (found two m) ∙ ap clashNumber f),
+    is = λ two own m start g l. (
+      judged-zero (g, entryOf e ∷ []) (sym (found two own m) ∙ ap clashNumber f),
       subst (λ (y : Bytes). Marked h y (entryOf e)) (sym em) (entry-own h (entryOf e) ms),
     );
   }
@@ -144,7 +145,7 @@ module _ (lim : Limits) (h : Bytes) (es : List Entry) (ms prefix : Bytes) (e : C
   id-clash : (y : Refusal) {b : Clash} → a ≡ b → {n : ℕ} → clashNumber b ≡ suc n → number y ≡ suc n → IdJudged lim h es ms prefix (entryOf e) (verdict.Refused y) ms′
   id-clash y f c i = record {
     marks = marks-more h ms (entryOf e) em;
-    is = λ two m start g l. judged-by (g, entryOf e ∷ []) (found two m) (ap clashNumber f ∙ c) ∙ ap refuse (sym i);
+    is = λ two own m start g l. judged-by (g, entryOf e ∷ []) (found two own m) (ap clashNumber f ∙ c) ∙ ap refuse (sym i);
   }
 
   pub id-twice : a ≡ clashes.TypedId → IdJudged lim h es ms prefix (entryOf e) (verdict.Refused DuplicateId) ms′
@@ -159,6 +160,16 @@ module _ (lim : Limits) (h : Bytes) (es : List Entry) (ms prefix : Bytes) (e : C
 pub ruleset ids = (id-free, id-twice, id-mixed, id-other)
 
 -- A line's `##key=`
+
+take-again : (n : ℕ) (xs : Bytes) → take (length (take n xs)) xs ≡ take n xs
+take-again zero xs = refl
+take-again (suc n) [] = refl
+take-again (suc n) (x ∷ xs) = ap (x ∷_) (take-again n xs)
+
+-- the line that an entry tells
+line-here : (h : Bytes) (e : Entry) (start end : ℕ) {l : Bytes} → l ≡ part h start end → e .start ≡ start → e .length ≡ length l → lineIn h e ≡ l
+unfolding lineIn
+line-here h e start end {l} el es en = rw (es, en, el) (take-again (end - start) (drop start h))
 
 prefix-here : (k r : Bytes) → take (2 + length k + 1) (ascii "##" ++ (k ++ 61 ∷ r)) ≡ prefixOf k
 prefix-here k r = let e : 2 + length k ≡ suc (suc (length k)) = omega arith in rw e (take-append-add (ascii "##" ++ k) (61 ∷ r) 1)
@@ -241,7 +252,7 @@ module _ (lim : Limits) (h : Bytes) (es : List Entry) (ms : Bytes) (start end : 
           (ek ∙ ap (ifCounted (lim .counted)) n) (ec ∙ ap (ifCounted (lim .counted)) many) in
           let two : 2 ≤ kind = rw d (number-small (kindBy (m .key)) .0) in
           subst (λ (e : Entry). Says lim h ms′ (besideEntries h es (prefixOf k) (body v) e) start (body v) l r) q
-          (subst (λ (y : Bytes). Says lim h ms′ (besideEntries h es y (body v) (madeEntry kind start (length l) (m .id) (length name) (m .tag) key count)) start (body v) l r) p (j .is two all start (body v) l))
+          (subst (λ (y : Bytes). Says lim h ms′ (besideEntries h es y (body v) (madeEntry kind start (length l) (m .id) (length name) (m .tag) key count)) start (body v) l r) p (j .is two (p ∙ ap (λ (y : Bytes). prefixOf (keyIn y)) (sym (line-here h (madeEntry kind start (length l) (m .id) (length name) (m .tag) key count) start end el refl refl))) all start (body v) l))
 
 -- A record
 
@@ -291,7 +302,7 @@ module _ (lim : Limits) (h : Bytes) (es : List Entry) (ms : Bytes) (start end : 
       let two : 2 ≤ new .kind = rw q (omega arith) in
       subst (λ (y : Answer (Stage × List Entry)). Says lim h ms′ y start (body v) l r) (text-beside lim h es v start l k (drop at l) (m .1))
       (subst (λ (y : Entry). Says lim h ms′ (besideEntries h es (prefixOf k) (body v) y) start (body v) l r) made
-      (subst (λ (y : Bytes). Says lim h ms′ (besideEntries h es y (body v) new) start (body v) l r) w (j .is two all start (body v) l))))
+      (subst (λ (y : Bytes). Says lim h ms′ (besideEntries h es y (body v) new) start (body v) l r) w (j .is two (w ∙ ap (λ (y : Bytes). prefixOf (keyIn y)) (sym (line-here h new start end el (ap (λ (y : Entry). y .start) q) (ap (λ (y : Entry). y .length) q)))) all start (body v) l))))
       (j .marks)
 
 pub ruleset records = (record-format, record-refused, record-map, record-text)

@@ -14,6 +14,7 @@ use Rattle.rules.specs.Version.{Version}
 use Rattle.rules.specs.Record.{fields, readRecord}
 use Rattle.rules.specs.Columns.{Columns, readColumns}
 use Rattle.rules.specs.Entry.{Entry, formatKind, plainEntry, ifCounted, withCounts, fieldsStart, recordEntry, columnEntries}
+use Rattle.rules.specs.Shown.{lineIn}
 use Rattle.rules.specs.Reading.{empty, ready, enter, stepText}
 use Rattle.rules.specs.Claims.{All, keyIn}
 use Rattle.records.specs.Formats.{versionOf}
@@ -91,7 +92,7 @@ besideEntries h es prefix g e = judged (clashNumber (clashIn h es prefix e)) (g,
 
 pub record IdJudged (lim : Limits) (h : Bytes) (es : List Entry) (ms prefix : Bytes) (e : Entry) (r : Verdict) (ms′ : Bytes) : Type 0 where
   pub marks : MarksKept h ms ms′
-  pub is : 2 ≤ e .kind → All (Marked h ms) es → (start : ℕ) (g : Stage) (l : Bytes) → Says lim h ms′ (besideEntries h es prefix g e) start g l r
+  pub is : 2 ≤ e .kind → prefix ≡ prefixOf (keyIn (lineIn h e)) → All (Marked h ms) es → (start : ℕ) (g : Stage) (l : Bytes) → Says lim h ms′ (besideEntries h es prefix g e) start g l r
 
 -- a map that was read
 pub record MapJudged (lim : Limits) (h : Bytes) (es : List Entry) (ms : Bytes) (start end : ℕ) (m : MapRecord) (r : Verdict) (ms′ : Bytes) : Type 0 where

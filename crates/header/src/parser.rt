@@ -121,22 +121,27 @@ impl Parser {
                 ) {
                     return Partial::Refused(Refusal::TableFull);
                 }
+                let begun = count + 1;
                 Partial::Next(Parser {
-                    phase: Phase::Ready(v),
+                    phase: Phase::Ready(FileFormat {
+                        major: v.major,
+                        minor: v.minor,
+                    }),
                     line,
                     at: next,
-                    count: count + 1,
+                    count: begun,
                 })
             }
             Verdict::Entry(e) => {
                 if !table::put(table, form, count, e) {
                     return Partial::Refused(Refusal::TableFull);
                 }
+                let kept = count + 1;
                 Partial::Next(Parser {
                     phase,
                     line,
                     at: next,
-                    count: count + 1,
+                    count: kept,
                 })
             }
             Verdict::Columns(v, samples) => {
@@ -144,11 +149,19 @@ impl Parser {
                     return Partial::Refused(Refusal::TableFull);
                 }
                 header_line::write_columns(h, start, end, count, table, form);
+                let columns = count + 1;
+                let all = columns + samples;
                 Partial::Next(Parser {
-                    phase: Phase::Done(v, samples),
+                    phase: Phase::Done(
+                        FileFormat {
+                            major: v.major,
+                            minor: v.minor,
+                        },
+                        samples,
+                    ),
                     line,
                     at: next,
-                    count: count + 1 + samples,
+                    count: all,
                 })
             }
         }
@@ -159,7 +172,7 @@ impl Parser {
         self,
         h: &[u8],
         options: Options,
-        marks: &mut [u8],
+        marks: &mut [u64],
         table: &mut [u64],
     ) -> Partial
         requires { ⌜ Bounds (options .form) (now h) (now table) self ⌝ }
@@ -233,7 +246,7 @@ fn read_lines(
     from: Parser,
     options: Options,
     table: &mut [u64],
-    marks: &mut [u8],
+    marks: &mut [u64],
 ) -> Advance
     requires { ⌜ BeginsMarked (options .form) (options .ascii) (now header) (now marks) (now table) (spotIn from) ⌝ }
     ensures { λ r.
@@ -259,7 +272,7 @@ fn read_marked(
     from: Parser,
     options: Options,
     table: &mut [u64],
-    marks: &mut [u8],
+    marks: &mut [u64],
 ) -> Advance
     requires { ⌜ Begins (options .form) (options .ascii) (now header) (now table) (spotIn from) ⌝ }
     ensures { λ r.
@@ -268,6 +281,64 @@ fn read_marked(
     let form = options.form;
     scan::mark_all(header, table::kept(table, form, from.count), form, marks);
     read_lines(header, end, from, options, table, marks)
+}
+
+fn read_long(
+    header: &[u8],
+    end: usize,
+    from: Parser,
+    options: Options,
+    table: &mut [u64],
+) -> Advance
+    requires { ⌜ Begins (options .form) (options .ascii) (now header) (now table) (spotIn from) ⌝ }
+    ensures { λ r.
+        ⌜ ReadsOn (options .form) (imposedOf (options .imposed)) (now (header .entry)) end (now (table .entry)) (spotIn from) r (now (table .exit)) ⌝ }
+{
+    let mut marks = [0u64; 16384];
+    read_marked(header, end, from, options, table, &mut marks)
+}
+
+fn read_longer(
+    header: &[u8],
+    end: usize,
+    from: Parser,
+    options: Options,
+    table: &mut [u64],
+) -> Advance
+    requires { ⌜ Begins (options .form) (options .ascii) (now header) (now table) (spotIn from) ⌝ }
+    ensures { λ r.
+        ⌜ ReadsOn (options .form) (imposedOf (options .imposed)) (now (header .entry)) end (now (table .entry)) (spotIn from) r (now (table .exit)) ⌝ }
+{
+    let mut marks = [0u64; 65536];
+    read_marked(header, end, from, options, table, &mut marks)
+}
+
+// The same, with marks of its own where none are lent: a short header has few entries, and clearing more marks than they need costs
+// more than it spares. A function that calls itself is not made a part of its caller, nor are those with more marks of it: else all
+// marks would be on the stack of every header.
+fn read_sized(
+    header: &[u8],
+    end: usize,
+    from: Parser,
+    options: Options,
+    table: &mut [u64],
+    marks: &mut [u64],
+) -> Advance
+    requires { ⌜ Begins (options .form) (options .ascii) (now header) (now table) (spotIn from) ⌝ }
+    ensures { λ r.
+        ⌜ ReadsOn (options .form) (imposedOf (options .imposed)) (now (header .entry)) end (now (table .entry)) (spotIn from) r (now (table .exit)) ⌝ }
+{
+    if 0 < marks.len() {
+        return read_marked(header, end, from, options, table, marks);
+    }
+    if header.len() < 32768 {
+        let mut own = [0u64; 512];
+        return read_sized(header, end, from, options, table, &mut own);
+    }
+    if header.len() < 0x10_0000 {
+        return read_long(header, end, from, options, table);
+    }
+    read_longer(header, end, from, options, table)
 }
 
 // Reads the lines that begin before `end`, from where the parser stands on, into the table after the entries that it counts. Where
@@ -295,18 +366,12 @@ pub fn read_on(
         form,
         ascii: utf8::is_ascii(&header[at..]),
     };
+    let mut none = [0u64; 0];
     // Few lines are held against all entries in less time than it takes to mark those.
     if header.len() - at < 256 {
-        let mut marks = [0u8; 0];
-        return read_lines(header, end, from, options, table, &mut marks);
+        return read_lines(header, end, from, options, table, &mut none);
     }
-    // A short header has few entries, and clearing more marks than they need costs more than it spares.
-    if header.len() < 65536 {
-        let mut marks = [0u8; 4096];
-        return read_marked(header, end, from, options, table, &mut marks);
-    }
-    let mut marks = [0u8; 65536];
-    read_marked(header, end, from, options, table, &mut marks)
+    read_sized(header, end, from, options, table, &mut none)
 }
 
 // Reads a header into the table, from its first entry on.

@@ -58,7 +58,13 @@ fn judge_first(l: &[u8], imposed: FileFormatOption) -> Verdict
     ensures { λ r. ⌜ FirstJudged (imposedOf imposed) (now (l .entry)) r ⌝ }
 {
     match record::parse_record(l, FileFormat::V4_5) {
-        RecordRead::FileFormat(v) => Verdict::Begin(in_force(imposed, v)),
+        RecordRead::FileFormat(v) => {
+            let w = in_force(imposed, v);
+            Verdict::Begin(FileFormat {
+                major: w.major,
+                minor: w.minor,
+            })
+        }
         RecordRead::Map(_) => Verdict::Refused(Refusal::MissingFileFormat),
         RecordRead::Text(_) => Verdict::Refused(Refusal::MissingFileFormat),
         RecordRead::Refused(x) => Verdict::Refused(x),
@@ -70,7 +76,7 @@ fn judge_id(
     h: &[u8],
     kept: &[u64],
     form: Form,
-    marks: &mut [u8],
+    marks: &mut [u64],
     prefix: &[u8],
     new: Entry,
 ) -> Verdict
@@ -78,7 +84,17 @@ fn judge_id(
         (now (marks .exit)) ⌝ }
 {
     match scan::find_clash(h, kept, form, marks, prefix, new) {
-        Clash::Free => Verdict::Entry(new),
+        Clash::Free => Verdict::Entry(Entry {
+            kind: new.kind,
+            start: new.start,
+            length: new.length,
+            offset: new.offset,
+            id_length: new.id_length,
+            quoted: new.quoted,
+            tag: new.tag,
+            key_length: new.key_length,
+            field_count: new.field_count,
+        }),
         Clash::TypedId => Verdict::Refused(Refusal::DuplicateId),
         Clash::Mixed => Verdict::Refused(Refusal::MixedValues),
         Clash::OtherId => Verdict::Refused(Refusal::DuplicateOtherId),
@@ -89,7 +105,7 @@ fn judge_map(
     h: &[u8],
     kept: &[u64],
     form: Form,
-    marks: &mut [u8],
+    marks: &mut [u64],
     at: Place,
     map: MapRecord,
 ) -> Verdict
@@ -119,7 +135,7 @@ fn judge_record(
     h: &[u8],
     kept: &[u64],
     form: Form,
-    marks: &mut [u8],
+    marks: &mut [u64],
     at: Place,
     version: FileFormat,
 ) -> Verdict
@@ -159,7 +175,7 @@ fn judge_text(
     h: &[u8],
     kept: &[u64],
     form: Form,
-    marks: &mut [u8],
+    marks: &mut [u64],
     at: Place,
     phase: Phase,
     imposed: FileFormatOption,
@@ -191,7 +207,7 @@ fn is_utf8(l: &[u8], ascii: bool) -> bool
 }
 
 // A line, by 1, 2, 3, then its grammar; `kept` are the entries before it, which are marked, and so is it if it is kept.
-pub fn judge_line(h: &[u8], kept: &[u64], marks: &mut [u8], at: Place, given: Given) -> Verdict
+pub fn judge_line(h: &[u8], kept: &[u64], marks: &mut [u64], at: Place, given: Given) -> Verdict
     ensures { λ r. ⌜ LineJudged (limitsBy (given .form)) (now (h .entry)) (entriesIn (given .form) (now (kept .entry))) (now (marks .entry))
         (given .ascii) (at .start) (at .end) (given .phase) (imposedOf (given .imposed)) r (now (marks .exit)) ⌝ }
 {

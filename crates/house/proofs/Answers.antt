@@ -2,6 +2,7 @@
 use Prim.Native.Nat.{ℕ, suc, _<_}
 use native.Mathlib.Omega.{arith}
 use mathlib.Core.Path.{_≡_, refl, ap, _∙_}
+use mathlib.Core.Bool.{false}
 use mathlib.Core.List.{List}
 use mathlib.Core.Option.{Option, none, some}
 use lib.Dec.{leb}
@@ -33,7 +34,7 @@ use Rattle.header.proofs.Callers.{Read, read-line, read-start, read-entries, re
 use Rattle.house.specs.declared.form.FormOutcome.{FormOutcome}
 use Rattle.house.specs.declared.form.FormOutcome.the-variants.{Whole, TooLong, LineTooLong, NoRoom}
 use Rattle.house.specs.declared.form.HouseAnswer.{HouseAnswer}
-use Rattle.house.specs.Keys.{AllReadable}
+use Rattle.house.specs.Keys.{AllListed}
 use Rattle.house.specs.Forms.{formLines, fittedAs, linedAs, outcomeOf, writtenOf, WritesForm}
 use Rattle.house.specs.Answers.{FormMeaning, formAnswerMeans, houseMeans, refusedAnswer, formAnswered, AnswersForm, HouseCall}
 use Rattle.house.proofs.Arranged.{FormIs, form-is}
@@ -139,7 +140,7 @@ module _ (form : Form) (imposed : Option Version) (h : Bytes) (t₀ : List ℕ) 
         form-is (limitsBy form) imposed h (versionOf f) (was-read .records) (was-read .columns) (read .entries) t (read-good call o sized)
 
     module _ {kept : List ℕ} (ek : kept ≡ firstEntries form t (a .entries)) where
-      pub is-readable : AllReadable (versionOf f) h (entriesIn form kept)
+      pub is-readable : AllListed false (versionOf f) h (entriesIn form kept)
       is-readable = rw (read-kept call o ek) (is-form .readable)
 
       the-lines : formLines (versionOf f) h (entriesIn form kept) ≡ houseLines means

@@ -24,7 +24,7 @@ use Rattle.rules.proofs.Tidy.{tidied}
 use Rattle.rules.proofs.Trace.{TracedHeader}
 use Rattle.ids.specs.Clashes.{prefixOf}
 use Rattle.forms.specs.Lines.{recordLine}
-use Rattle.house.specs.Keys.{isUnder, picked, AllReadable, linesUnder, prefixIn, seenUnder, isFirst, linesIf, otherLines}
+use Rattle.house.specs.Keys.{isUnder, picked, Listed, AllListed, linesUnder, prefixIn, seenUnder, isFirst, linesIf, otherLines}
 use Rattle.house.specs.Forms.{columnLine, recordLines, formLines}
 use Rattle.house.proofs.Picks.{picked-yes, picked-no}
 use Rattle.house.proofs.Entries.{line-of, Aside, RowIs, Are, rows-are, format-aside, columns-aside}
@@ -47,15 +47,18 @@ module _ (v : Version) (h : Bytes) where
 
   -- Every line can be read
 
-  aside-readable : (es : List Entry) → Asides es → AllReadable v h es
+  aside-readable : (es : List Entry) → Asides es → AllListed false v h es
   aside-readable [] a = tt
   aside-readable (e ∷ es) a = (λ q. both q (a .0 .unrecorded), aside-readable es (a .1))
 
-  rows-readable : (es : List Entry) (rs : List Record) (rest : List Entry) → Are v h es rs → Asides rest → AllReadable v h (es ++ rest)
+  listed : (e : Entry) (r : Record) → RowIs v h e r → Listed false v h e
+  listed e r a = record { readable = a .readable; copied = λ q. absurd (false≢true q); key = keyOf r; plain = a .plain; other = a .other; prefix = a .prefix; under = a .under }
+
+  rows-readable : (es : List Entry) (rs : List Record) (rest : List Entry) → Are v h es rs → Asides rest → AllListed false v h (es ++ rest)
   rows-readable [] [] rest a b = aside-readable rest b
   rows-readable [] (r ∷ rs) rest a b = absurd a
   rows-readable (e ∷ es) [] rest a b = absurd a
-  rows-readable (e ∷ es) (r ∷ rs) rest a b = (λ q. a .0 .readable, rows-readable es rs rest (a .1) b)
+  rows-readable (e ∷ es) (r ∷ rs) rest a b = (λ q. listed e r (a .0), rows-readable es rs rest (a .1) b)
 
   -- The entries of a key are the records under it
 
@@ -211,7 +214,7 @@ module _ (v : Version) (h : Bytes) (own : Entry) (es : List Entry) (rs : List Re
   abbrev all : List Entry
   all = own ∷ (es ++ rest)
 
-  all-readable : AllReadable v h all
+  all-readable : AllListed false v h all
   all-readable = (λ q. both q (aside .unrecorded), rows-readable v h es rs rest are asides)
 
   pick-under : (k : Bytes) → Plain k → picked v h (prefixOf k) all ≡ map (recordLine v) (under k rs)
@@ -248,7 +251,7 @@ module _ (v : Version) (h : Bytes) (own : Entry) (es : List Entry) (rs : List Re
 
 -- an accepted header: every record's line can be read, and the lines are those of its meaning
 pub record FormIs (v : Version) (h : Bytes) (rs : List Record) (c : Columns) (es : List Entry) : Type 0 where
-  pub readable : AllReadable v h es
+  pub readable : AllListed false v h es
   pub lines : formLines v h es ≡ houseLines (headerMeaning v rs c)
 
 form-lines : (v : Version) (rs : List Record) (c : Columns) → houseLines (headerMeaning v rs c) ≡ writeRecord (fileformat v) ∷ (map (recordLine v) (arrange (allKeys rs) rs) ++ writeColumns (c .format) (c .samples) ∷ [])

@@ -27,7 +27,8 @@ use Rattle.house.specs.declared.progress.Progress.{Progress}
 use Rattle.house.specs.declared.form.FormOutcome.{FormOutcome}
 use Rattle.house.specs.declared.form.FormOutcome.the-variants.{Whole, TooLong, LineTooLong, NoRoom}
 use Rattle.house.specs.Writes.{longIn, WroteLines}
-use Rattle.house.specs.Keys.{AllReadable, PutsKeys, PutsOthers}
+use Rattle.house.specs.Keys.{AllListed, AreFormed, PutsKeys, PutsOthers}
+use Rattle.house.proofs.Picks.{listed-on}
 use Rattle.house.specs.Forms.{columnLine, recordLines, formLines, begun, PutsRecords, PutsForm, isWhole, measuredAs, outcomeOf, fittedAs, linedAs, writtenOf, WritesForm, ComparesForm}
 use Rattle.house.proofs.Writes.{lines-count, then-lines}
 use Rattle.entries.specs.Values.{limitsOf, limitsBy}
@@ -66,17 +67,17 @@ pub ruleset columns = (column-start, column-end, column-here, column-later)
 module _ {v : Version} {h : Bytes} {es : List Entry} {given old : Bytes} where
   pub records-put : {s r : Progress} {o : Bytes} → PutsKeys v h es typedKeys given old s r o → {r′ : Progress} {o′ : Bytes} → PutsOthers v h es given o r r′ o′ → PutsRecords v h es given old s r′ o′
   unfolding recordLines
-  records-put p q = record { is = λ a. then-lines (p .is a) (q .is a) }
+  records-put p q = record { is = λ a. let w = p .is a in then-lines w (q .is (listed-on w v h es a)) }
 
-  pub form-put : {limit : ℕ} {r₁ : Progress} {o₁ : Bytes} → WroteLines given old (begun limit) (writeRecord (fileformat v) ∷ []) r₁ o₁ → {r₂ : Progress} {o₂ : Bytes} → PutsRecords v h es given o₁ r₁ r₂ o₂
-      → {l : Bytes} → l ≡ columnLine h es → {r₃ : Progress} {o₃ : Bytes} → WroteLines given o₂ r₂ (l ∷ []) r₃ o₃ → PutsForm limit v h es given old r₃ o₃
+  pub form-put : {limit : ℕ} {formed : Bool} {r₁ : Progress} {o₁ : Bytes} → WroteLines given old (begun limit formed) (writeRecord (fileformat v) ∷ []) r₁ o₁ → {r₂ : Progress} {o₂ : Bytes} → PutsRecords v h es given o₁ r₁ r₂ o₂
+      → {l : Bytes} → l ≡ columnLine h es → {r₃ : Progress} {o₃ : Bytes} → WroteLines given o₂ r₂ (l ∷ []) r₃ o₃ → PutsForm limit formed v h es given old r₃ o₃
   unfolding formLines
-  form-put p q e t = record { is = λ a. then-lines p (then-lines (q .is a) (rw e at t)) }
+  form-put p q e t = record { is = λ a. then-lines p (then-lines (q .is (listed-on p v h es a)) (rw e at t)) }
 
 -- What becomes of a form; m is what the measuring of it told
 
-module _ (lim : Limits) (small : lim .header < 2 ^ 24) {v : Version} {h : Bytes} {es : List Entry} {given none-out none-left : Bytes} {m : Progress} (p : PutsForm (lim .line) v h es given none-out m none-left)
-    (a : AllReadable v h es) where
+module _ (lim : Limits) (small : lim .header < 2 ^ 24) {v : Version} {h : Bytes} {es : List Entry} {given none-out none-left : Bytes} {m : Progress} {f : Bool} (p : PutsForm (lim .line) f v h es given none-out m none-left)
+    (a : AllListed f v h es) where
   abbrev ls : List Bytes
   ls = formLines v h es
 
@@ -121,28 +122,28 @@ is-whole NoRoom e ls = absurd (false≢true e)
 
 -- the code has the form's limits in hand
 module _ (form : Form) {limits : CodeLimits} (g : limitsOf limits ≡ limitsBy form) {v : Version} {h : Bytes} {es : List Entry} {given none-out none-left : Bytes} {m : Progress}
-    (p : PutsForm (limits .line) v h es given none-out m none-left) where
+    {f : Bool} (p : PutsForm (limits .line) f v h es given none-out m none-left) (k : AreFormed v h es f) where
   small : limits .header < 2 ^ 24
   small = subst (λ (x : Limits). x .header < 2 ^ 24) (sym g) (limits-small form)
 
-  outcome-is : (room : ℕ) {o : FormOutcome} → o ≡ measuredAs (limitsOf limits) room m → AllReadable v h es → o ≡ outcomeOf (limitsBy form) room (formLines v h es)
-  outcome-is room e a = e ∙ measured-is (limitsOf limits) small p a room ∙ ap (λ (x : Limits). outcomeOf x room (formLines v h es)) g
+  outcome-is : (room : ℕ) {o : FormOutcome} → o ≡ measuredAs (limitsOf limits) room m → AllListed false v h es → o ≡ outcomeOf (limitsBy form) room (formLines v h es)
+  outcome-is room e a = e ∙ measured-is (limitsOf limits) small p (k .is a) room ∙ ap (λ (x : Limits). outcomeOf x room (formLines v h es)) g
 
   module _ {out : Bytes} {o : FormOutcome} (e : o ≡ measuredAs (limitsOf limits) (length out) m) {q : Bool} (w : q ≡ isWhole o) where
     pub form-refused : not q ≡ true → WritesForm (limitsBy form) v h es out o out
     form-refused n = record { is = outcome-is (length out) e; output = λ a. rw (not-whole o (sym w ∙ not-true q n) (formLines v h es)) }
 
-    pub form-whole : not q ≡ false → {given′ : Bytes} {m′ : Progress} {new : Bytes} → PutsForm (limits .line) v h es given′ out m′ new → WritesForm (limitsBy form) v h es out o new
-    form-whole n p′ = record { is = outcome-is (length out) e; output = λ a. p′ .is a .text .output ∙ rw (is-whole o (sym w ∙ not-false q n) (formLines v h es)) }
+    pub form-whole : not q ≡ false → {given′ : Bytes} {m′ : Progress} {new : Bytes} → PutsForm (limits .line) f v h es given′ out m′ new → WritesForm (limitsBy form) v h es out o new
+    form-whole n p′ = record { is = outcome-is (length out) e; output = λ a. p′ .is (k .is a) .text .output ∙ rw (is-whole o (sym w ∙ not-false q n) (formLines v h es)) }
 
 pub ruleset writes = (form-refused, form-whole)
 
 -- what answers the needs of `compare_form`
 pub form-compared : (form : Form) {limits : CodeLimits} → limitsOf limits ≡ limitsBy form → {v : Version} {h : Bytes} {es : List Entry} {none-out none-left : Bytes} {m : Progress}
-    → PutsForm (limits .line) v h es h none-out m none-left → {o : FormOutcome} → o ≡ measuredAs (limitsOf limits) (limits .header) m
+    → PutsForm (limits .line) false v h es h none-out m none-left → {o : FormOutcome} → o ≡ measuredAs (limitsOf limits) (limits .header) m
     → ComparesForm (limitsBy form) v h es (record { outcome = o; differs = m .next .differs })
 form-compared form {limits} g {v} {h} {es} p e = record {
-  is = λ a. outcome-is form g p (limits .header) e a ∙ ap (λ (x : Limits). outcomeOf (limitsBy form) (x .header) (formLines v h es)) g;
+  is = λ a. outcome-is form g p (record { is = λ b. b }) (limits .header) e a ∙ ap (λ (x : Limits). outcomeOf (limitsBy form) (x .header) (formLines v h es)) g;
   differs = λ a. p .is a .text .differs;
 }
 

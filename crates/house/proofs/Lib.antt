@@ -1,5 +1,6 @@
 pub mod Writes
 pub mod Picks
+pub mod Doubles
 pub mod Others
 pub mod Forms
 pub mod Entries

@@ -42,7 +42,7 @@ use Rattle.house.specs.Forms.{formLines, isWhole, outcomeOf, ComparesFor
 use Rattle.house.specs.Answers.{FormMeaning, formAnswerMeans, houseMeans, refusedAnswer, formAnswered}
 use Rattle.house.specs.IsHouse.{firstDifference, answeredAs, heldAs, judged, isHouse}
 use Rattle.house.specs.Verdicts.{VerdictMeaning, verdictMeans, isHouseMeans, toldAnswer, verdictBy, verdict, AnswersComparison, IsHouseCall}
-use Rattle.house.specs.Keys.{AllReadable}
+use Rattle.house.specs.Keys.{AllListed}
 use Rattle.house.proofs.Forms.{is-whole}
 use Rattle.house.proofs.Answers.{Answers, refused-told, is-readable, answers-it}
 
@@ -229,7 +229,7 @@ module _ (form : Form) (imposed : Option Version) (h : Bytes) (t₀ : List ℕ) 
     abbrev written : FormOutcome
     written = w .compared .outcome
 
-    readable : AllReadable (versionOf f) h (entriesIn form kept)
+    readable : AllListed false (versionOf f) h (entriesIn form kept)
     readable = is-readable form imposed h t₀ a call o (w .sized) ek
 
     answers : Answers a read ls written form-in

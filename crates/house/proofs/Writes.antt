@@ -22,6 +22,7 @@ use Rattle.rules.specs.Record.{fileformat, readRecord}
 use Rattle.rules.specs.House.{writeRecord, tooLong}
 use Rattle.rules.proofs.Pieces.{no-end}
 use Rattle.forms.specs.Lines.{recordLine, houseLine, ending, WroteEnded}
+use Rattle.forms.specs.Formed.{FormedLine}
 use Rattle.forms.proofs.Lines.{line-ended, entry-is, entry-ended}
 use Rattle.forms.specs.declared.line.LineWritten.{LineWritten}
 use Rattle.house.specs.declared.progress.Progress.{Progress}
@@ -40,25 +41,25 @@ pub ruleset counts = (count-more, count-full)
 
 -- what answers the needs of `note_line`
 module _ (s : Progress) (end : ℕ) (next : Sink) where
-  is-noted : isLong s end ≡ true → record { limit = s .limit; next = next; lines = onward (s .lines) 1; long = onward (s .lines) 1; start = s .next .at } ≡ noted s end next
+  is-noted : isLong s end ≡ true → record { limit = s .limit; next = next; lines = onward (s .lines) 1; long = onward (s .lines) 1; start = s .next .at; formed = s .formed } ≡ noted s end next
   unfolding noted
   is-noted e = rw (noted, e)
 
-  not-noted : isLong s end ≡ false → record { limit = s .limit; next = next; lines = onward (s .lines) 1; long = s .long; start = s .start } ≡ noted s end next
+  not-noted : isLong s end ≡ false → record { limit = s .limit; next = next; lines = onward (s .lines) 1; long = s .long; start = s .start; formed = s .formed } ≡ noted s end next
   unfolding noted
   not-noted e = rw (noted, e)
 
   module _ {n : ℕ} (c : n ≡ onward (s .lines) 1) where
-    pub note-long : s .long ≡ 0 → s .next .at ≤ end → s .limit < end - s .next .at → _≡_ {A = Progress} (record { limit = s .limit; next = next; lines = n; long = n; start = s .next .at }) (noted s end next)
+    pub note-long : s .long ≡ 0 → s .next .at ≤ end → s .limit < end - s .next .at → _≡_ {A = Progress} (record { limit = s .limit; next = next; lines = n; long = n; start = s .next .at; formed = s .formed }) (noted s end next)
     note-long a b d = rw c (is-noted (rw (eq-eqb (s .long) 0 a) (lt-ltb (s .limit) (end - s .next .at) d)))
 
-    pub note-short : s .long ≡ 0 → s .next .at ≤ end → end - s .next .at ≤ s .limit → _≡_ {A = Progress} (record { limit = s .limit; next = next; lines = n; long = s .long; start = s .start }) (noted s end next)
+    pub note-short : s .long ≡ 0 → s .next .at ≤ end → end - s .next .at ≤ s .limit → _≡_ {A = Progress} (record { limit = s .limit; next = next; lines = n; long = s .long; start = s .start; formed = s .formed }) (noted s end next)
     note-short a b d = rw c (not-noted (and-off (eqb (s .long) 0) (le-ltb (s .limit) (end - s .next .at) d)))
 
-    pub note-back : s .long ≡ 0 → end < s .next .at → _≡_ {A = Progress} (record { limit = s .limit; next = next; lines = n; long = s .long; start = s .start }) (noted s end next)
+    pub note-back : s .long ≡ 0 → end < s .next .at → _≡_ {A = Progress} (record { limit = s .limit; next = next; lines = n; long = s .long; start = s .start; formed = s .formed }) (noted s end next)
     note-back a d = rw c (not-noted (and-off (eqb (s .long) 0) (le-ltb (s .limit) (end - s .next .at) (omega arith))))
 
-    pub note-later : (s .long ≡ 0 → ⊥) → _≡_ {A = Progress} (record { limit = s .limit; next = next; lines = n; long = s .long; start = s .start }) (noted s end next)
+    pub note-later : (s .long ≡ 0 → ⊥) → _≡_ {A = Progress} (record { limit = s .limit; next = next; lines = n; long = s .long; start = s .start; formed = s .formed }) (noted s end next)
     note-later a = rw c (not-noted (rw (ne-eqb (s .long) 0 a)))
 
 pub ruleset notes = (note-long, note-short, note-back, note-later)
@@ -100,7 +101,7 @@ lines-count (l ∷ ls) = rw (length-append (writeLine l) (writeLines ls)) (omega
 
 pub wrote-no-lines : (given out : Bytes) (s : Progress) → s .next .at ≤ last → s .lines ≤ last → length out ≤ last → WroteLines given out s [] s out
 unfolding writeLines tooLong onward orElse
-wrote-no-lines given out s a b d = record { limit = refl; text = puts-nothing given out (s .next) a d; count = omega arith; long = λ x y. none-else (longIn s) }
+wrote-no-lines given out s a b d = record { limit = refl; formed = refl; text = puts-nothing given out (s .next) a d; count = omega arith; long = λ x y. none-else (longIn s) }
   where
     none-else : (x : Option (ℕ × ℕ)) → x ≡ orElse x none
     none-else none = refl
@@ -111,6 +112,7 @@ pub then-lines : {given out : Bytes} {s : Progress} {ls : List Bytes} {r : Progr
 unfolding onward orElse
 then-lines {given} {out} {s} {ls} {r} {o} {ms} {r′} {o′} p q = record {
   limit = q .limit ∙ p .limit;
+  formed = q .formed ∙ p .formed;
   text = subst (λ (t : Bytes). Puts given out (s .next) t (r′ .next) o′) (sym (lines-append ls ms)) (then (p .text) (q .text));
   count = q .count ∙ rw (p .count, length-append ls ms) (omega arith);
   long = λ x y.
@@ -137,6 +139,10 @@ module _ (s : Progress) (end : ℕ) (next : Sink) where
   noted-limit : noted s end next .limit ≡ s .limit
   unfolding noted
   noted-limit = elim (test (isLong s end)) [ pass e ↦ rw (noted, e) | fail e ↦ rw (noted, e) ]
+
+  noted-formed : noted s end next .formed ≡ s .formed
+  unfolding noted
+  noted-formed = elim (test (isLong s end)) [ pass e ↦ rw (noted, e) | fail e ↦ rw (noted, e) ]
 
   noted-lines : noted s end next .lines ≡ onward (s .lines) 1
   unfolding noted
@@ -175,6 +181,7 @@ pub one-line : {given out : Bytes} {s : Progress} (l : Bytes) {end : ℕ} {next 
 unfolding writeLines onward
 one-line {given} {out} {s} l {end} {next} {o} place w {r} e = record {
   limit = ap (λ (x : Progress). x .limit) e ∙ noted-limit s end next;
+  formed = ap (λ (x : Progress). x .formed) e ∙ noted-formed s end next;
   text = rw (e, noted-next s end next, append-nil (writeLine l)) w;
   count = ap (λ (x : Progress). x .lines) e ∙ noted-lines s end next;
   long = λ x y.
@@ -186,10 +193,23 @@ one-line {given} {out} {s} l {end} {next} {o} place w {r} e = record {
 pub entry-line : (v : Version) (s : Progress) {p l : Bytes} → p ≡ l → {given out : Bytes} {put : LineWritten} {o : Bytes} → WroteEnded given out (s .next) (houseLine v p) (ends 13 p) put o
     → {r : Progress} → r ≡ noted s (put .end) (put .next) → PutsEntry v l given out s r o
 entry-line v s {p} {l} e {given} {out} {put} {o} w {r} n = record {
-  is = λ x.
+  is = λ x c.
       let d = entry-ended v p (x .line) (ap (readRecord v) e ∙ x .read) (x .entry) w in
       rw (entry-is v l (x .line) (x .read) (x .entry)) (one-line (recordLine v (x .line)) (d .0) (d .1) n);
 }
+
+-- a line that is its own line of the form was copied
+module _ (v : Version) {l line : Bytes} (e : line ≡ l) {given out : Bytes} {s r : Progress} {o : Bytes} (w : WroteLines given out s (line ∷ []) r o) where
+  same-line : houseLine v l ≡ l → WroteLines given out s (houseLine v l ∷ []) r o
+  same-line c = subst (λ (x : Bytes). WroteLines given out s (x ∷ []) r o) (e ∙ sym c) w
+
+  pub entry-copied : {q : Bool} → FormedLine v line q → q ≡ true → PutsEntry v l given out s r o
+  entry-copied f t = record { is = λ g c. same-line (subst (λ (x : Bytes). houseLine v x ≡ x) e (f .is t (g .line) (rw e (g .read)) (g .entry))) }
+
+  pub entry-formed : s .formed ≡ true → PutsEntry v l given out s r o
+  entry-formed t = record { is = λ g c. same-line (c t) }
+
+pub ruleset entries = (entry-line, entry-copied, entry-formed)
 
 -- what answers the needs of `put_plain`
 pub plain-line : {given out : Bytes} {s : Progress} (l : Bytes) {end : Sink} {o : Bytes} → Puts given out (s .next) l end o → {cr : Bool} → cr ≡ ends 13 l

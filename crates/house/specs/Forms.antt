@@ -22,7 +22,7 @@ use Rattle.house.specs.declared.form.Compared.{Compared}
 use Rattle.house.specs.declared.form.FormOutcome.{FormOutcome}
 use Rattle.house.specs.declared.form.FormOutcome.the-variants.{Whole, TooLong, LineTooLong, NoRoom}
 use Rattle.house.specs.Writes.{longIn, WroteLines}
-use Rattle.house.specs.Keys.{AllReadable, linesUnder, otherLines}
+use Rattle.house.specs.Keys.{AllListed, linesUnder, otherLines}
 
 abbrev pub lineOr : Bool → Bytes → Bytes → Bytes
 lineOr true l m = l
@@ -39,15 +39,15 @@ recordLines v h es = linesUnder v h es typedKeys ++ otherLines v h es [] es
 unfoldable pub formLines : Version → Bytes → List Entry → List Bytes
 formLines v h es = writeRecord (fileformat v) ∷ (recordLines v h es ++ columnLine h es ∷ [])
 
--- nothing is written yet, and no difference was met; how long a line may be
-abbrev pub begun : ℕ → Progress
-begun limit = record { limit = limit; next = record { at = 0; differs = last }; lines = 0; long = 0; start = 0 }
+-- nothing is written yet, and no difference was met; how long a line may be, and whether all lines stand in form
+abbrev pub begun : ℕ → Bool → Progress
+begun limit formed = record { limit = limit; next = record { at = 0; differs = last }; lines = 0; long = 0; start = 0; formed = formed }
 
 pub record PutsRecords (v : Version) (h : Bytes) (es : List Entry) (given old : Bytes) (s r : Progress) (new : Bytes) : Type 0 where
-  pub is : AllReadable v h es → WroteLines given old s (recordLines v h es) r new
+  pub is : AllListed (s .formed) v h es → WroteLines given old s (recordLines v h es) r new
 
-pub record PutsForm (limit : ℕ) (v : Version) (h : Bytes) (es : List Entry) (given old : Bytes) (r : Progress) (new : Bytes) : Type 0 where
-  pub is : AllReadable v h es → WroteLines given old (begun limit) (formLines v h es) r new
+pub record PutsForm (limit : ℕ) (formed : Bool) (v : Version) (h : Bytes) (es : List Entry) (given old : Bytes) (r : Progress) (new : Bytes) : Type 0 where
+  pub is : AllListed formed v h es → WroteLines given old (begun limit formed) (formLines v h es) r new
 
 abbrev pub fittedAs : ℕ → ℕ → FormOutcome
 fittedAs room size = elim (leb size room) [ true ↦ Whole size | false ↦ NoRoom ]
@@ -81,10 +81,10 @@ writtenOf (LineTooLong l s) ls = []
 writtenOf NoRoom ls = []
 
 pub record WritesForm (lim : Limits) (v : Version) (h : Bytes) (es : List Entry) (old : Bytes) (r : FormOutcome) (new : Bytes) : Type 0 where
-  pub is : AllReadable v h es → r ≡ outcomeOf lim (length old) (formLines v h es)
-  pub output : AllReadable v h es → new ≡ sets old 0 (writtenOf r (formLines v h es))
+  pub is : AllListed false v h es → r ≡ outcomeOf lim (length old) (formLines v h es)
+  pub output : AllListed false v h es → new ≡ sets old 0 (writtenOf r (formLines v h es))
 
 -- the form was held against the header, the header limit being room enough for it
 pub record ComparesForm (lim : Limits) (v : Version) (h : Bytes) (es : List Entry) (r : Compared) : Type 0 where
-  pub is : AllReadable v h es → r .outcome ≡ outcomeOf lim (lim .header) (formLines v h es)
-  pub differs : AllReadable v h es → r .differs ≡ sooner last (differing h 0 (writeLines (formLines v h es)))
+  pub is : AllListed false v h es → r .outcome ≡ outcomeOf lim (lim .header) (formLines v h es)
+  pub differs : AllListed false v h es → r .differs ≡ sooner last (differing h 0 (writeLines (formLines v h es)))

@@ -1,12 +1,14 @@
 -- The form's lines, as a header's bytes and its entries tell them. Assumes nothing.
-use Prim.Native.Nat.{_+_}
+use Prim.Native.Nat.{ℕ, suc, _+_, _≤_}
 use mathlib.Core.Path.{_≡_}
 use mathlib.Core.Bool.{Bool, true, false, not, _||_, _&&_}
 use mathlib.Core.List.{List, [], _∷_, _++_}
 use lib.Dec.{ltb}
 use lib.ListN.{length, take}
-use Rattle.values.specs.Bytes.{Bytes, ascii, is, before, starts}
+use Rattle.values.specs.Bytes.{Bytes, ascii, is, any, before, same, starts}
+use Rattle.values.specs.Marks.{isMarked}
 use Rattle.rules.specs.Version.{Version}
+use Rattle.rules.specs.Known.{isTyped}
 use Rattle.rules.specs.Entry.{Entry}
 use Rattle.rules.specs.Shown.{lineIn}
 use Rattle.ids.specs.Clashes.{prefixOf}
@@ -32,13 +34,43 @@ unfoldable pub picked : Version → Bytes → Bytes → List Entry → List Byte
 picked v h prefix [] = []
 picked v h prefix (e ∷ es) = pick (isUnder h prefix e) (houseLine v (lineIn h e)) (picked v h prefix es)
 
--- every such line can be read
-abbrev pub AllReadable : Version → Bytes → List Entry → Type 0
-AllReadable v h [] = Unit {0}
-AllReadable v h (e ∷ es) = (isRecord e ≡ true → Readable v (lineIn h e)) × AllReadable v h es
+-- an entry whose key is not typed: an other map, or a text
+abbrev pub isOtherRecord : Entry → Bool
+isOtherRecord e = ltb 6 (e .kind) && ltb (e .kind) 9
+
+-- the line of an entry through its first `=`
+unfoldable pub prefixIn : Bytes → Entry → Bytes
+prefixIn h e = take (length (before (is 61) (lineIn h e)) + 1) (lineIn h e)
+
+-- an entry whose line can be read and begins with the prefix of its key, and of no other; `formed`: it stands as the form writes it
+pub record Listed (formed : Bool) (v : Version) (h : Bytes) (e : Entry) : Type 0 where
+  pub readable : Readable v (lineIn h e)
+  pub copied : formed ≡ true → houseLine v (lineIn h e) ≡ lineIn h e
+  pub key : Bytes
+  pub plain : any (is 61) key ≡ false
+  pub other : isOtherRecord e ≡ not (isTyped key)
+  pub prefix : prefixIn h e ≡ prefixOf key
+  pub under : (k : Bytes) → any (is 61) k ≡ false → isUnder h (prefixOf k) e ≡ same key k
+
+-- every record is such an entry
+abbrev pub AllListed : Bool → Version → Bytes → List Entry → Type 0
+AllListed formed v h [] = Unit {0}
+AllListed formed v h (e ∷ es) = (isRecord e ≡ true → Listed formed v h e) × AllListed formed v h es
+
+-- the lines of all of them stand so
+pub record AreFormed (v : Version) (h : Bytes) (es : List Entry) (r : Bool) : Type 0 where
+  pub is : AllListed false v h es → AllListed r v h es
 
 pub record PutsKey (v : Version) (h : Bytes) (es : List Entry) (prefix given old : Bytes) (s r : Progress) (new : Bytes) : Type 0 where
-  pub is : AllReadable v h es → WroteLines given old s (picked v h prefix es) r new
+  pub is : AllListed (s .formed) v h es → WroteLines given old s (picked v h prefix es) r new
+
+-- an entry whose key is typed
+abbrev pub isTypedRecord : Entry → Bool
+isTypedRecord e = ltb 1 (e .kind) && ltb (e .kind) 7
+
+unfoldable pub anyTyped : List Entry → Bool
+anyTyped [] = false
+anyTyped (e ∷ es) = isTypedRecord e || anyTyped es
 
 -- the form's lines of all records under these keys, key by key
 unfoldable pub linesUnder : Version → Bytes → List Entry → List Bytes → List Bytes
@@ -50,20 +82,12 @@ abbrev pub laterKeys : List Bytes
 laterKeys = ascii "FORMAT" ∷ ascii "ALT" ∷ ascii "contig" ∷ []
 
 pub record PutsKeys (v : Version) (h : Bytes) (es : List Entry) (ks : List Bytes) (given old : Bytes) (s r : Progress) (new : Bytes) : Type 0 where
-  pub is : AllReadable v h es → WroteLines given old s (linesUnder v h es ks) r new
-
--- the line of an entry through its first `=`
-unfoldable pub prefixIn : Bytes → Entry → Bytes
-prefixIn h e = take (length (before (is 61) (lineIn h e)) + 1) (lineIn h e)
+  pub is : AllListed (s .formed) v h es → WroteLines given old s (linesUnder v h es ks) r new
 
 -- a record among these entries has a line that begins with the prefix
 unfoldable pub seenUnder : Bytes → Bytes → List Entry → Bool
 seenUnder h prefix [] = false
 seenUnder h prefix (e ∷ es) = isUnder h prefix e || seenUnder h prefix es
-
--- an entry whose key is not typed: an other map, or a text
-abbrev pub isOtherRecord : Entry → Bool
-isOtherRecord e = ltb 6 (e .kind) && ltb (e .kind) 9
 
 -- such an entry, and no record of its key is among those before it
 unfoldable pub isFirst : Bytes → List Entry → Entry → Bool
@@ -78,5 +102,30 @@ unfoldable pub otherLines : Version → Bytes → List Entry → List Entry → 
 otherLines v h all ahead [] = []
 otherLines v h all ahead (e ∷ es) = linesIf (isFirst h ahead e) (picked v h (prefixIn h e) all) ++ otherLines v h all (ahead ++ e ∷ []) es
 
+-- how many entries are under the prefix
+unfoldable pub countUnder : Bytes → Bytes → List Entry → ℕ
+countUnder h prefix [] = 0
+countUnder h prefix (e ∷ es) = elim (isUnder h prefix e) [ true ↦ suc (countUnder h prefix es) | false ↦ countUnder h prefix es ]
+
+-- a prefix is marked as one of a key
+abbrev pub isMet : Bytes → Bytes → Bool
+isMet marks prefix = isMarked marks 0 prefix
+
+-- a key that is not typed is marked where so many entries have it
+pub record Marked (h : Bytes) (es : List Entry) (n : ℕ) (marks : Bytes) : Type 0 where
+  pub is : (k : Bytes) → any (is 61) k ≡ false → isTyped k ≡ false → n ≤ countUnder h (prefixOf k) es → isMet marks (prefixOf k) ≡ true
+
+-- the keys of several entries are marked
+pub record MarksTwice (h : Bytes) (es : List Entry) (left : Bytes) : Type 0 where
+  pub is : (f : Bool) (v : Version) → AllListed f v h es → Marked h es 2 left
+
+-- no other entry has the key of this one, whose key is not typed
+unfoldable pub isAlone : Bytes → Bytes → Entry → Bool
+isAlone h twice e = isOtherRecord e && not (isMet twice (prefixIn h e))
+
+-- these lines were written, where the keys of several entries are marked
+pub record PutsOthersBy (v : Version) (h : Bytes) (es : List Entry) (twice given old : Bytes) (s r : Progress) (new : Bytes) : Type 0 where
+  pub is : AllListed (s .formed) v h es → Marked h es 2 twice → WroteLines given old s (otherLines v h es [] es) r new
+
 pub record PutsOthers (v : Version) (h : Bytes) (es : List Entry) (given old : Bytes) (s r : Progress) (new : Bytes) : Type 0 where
-  pub is : AllReadable v h es → WroteLines given old s (otherLines v h es [] es) r new
+  pub is : AllListed (s .formed) v h es → WroteLines given old s (otherLines v h es [] es) r new

@@ -28,13 +28,14 @@ isLong s end = eqb (s .long) 0 && ltb (s .limit) (end - s .next .at)
 -- one line more, whose text ends at `end`; `next` stands after its ending
 unfoldable pub noted : Progress → ℕ → Sink → Progress
 noted s end next = elim (isLong s end) [
-  | true ↦ record { limit = s .limit; next = next; lines = onward (s .lines) 1; long = onward (s .lines) 1; start = s .next .at }
-  | false ↦ record { limit = s .limit; next = next; lines = onward (s .lines) 1; long = s .long; start = s .start }
+  | true ↦ record { limit = s .limit; next = next; lines = onward (s .lines) 1; long = onward (s .lines) 1; start = s .next .at; formed = s .formed }
+  | false ↦ record { limit = s .limit; next = next; lines = onward (s .lines) 1; long = s .long; start = s .start; formed = s .formed }
 ]
 
 -- these lines were written; where no number was too large, the first that is too long is that of the rules
 pub record WroteLines (given old : Bytes) (s : Progress) (ls : List Bytes) (r : Progress) (new : Bytes) : Type 0 where
   pub limit : r .limit ≡ s .limit
+  pub formed : r .formed ≡ s .formed
   pub text : Puts given old (s .next) (writeLines ls) (r .next) new
   pub count : r .lines ≡ onward (s .lines) (length ls)
   pub long : s .next .at + length (writeLines ls) ≤ last → s .lines + length ls ≤ last → longIn r ≡ orElse (longIn s) (tooLong (s .limit) (s .lines) (s .next .at) ls)
@@ -46,4 +47,4 @@ pub record Readable (v : Version) (l : Bytes) : Type 0 where
   pub entry : IsEntry line
 
 pub record PutsEntry (v : Version) (l given old : Bytes) (s r : Progress) (new : Bytes) : Type 0 where
-  pub is : Readable v l → WroteLines given old s (houseLine v l ∷ []) r new
+  pub is : Readable v l → (s .formed ≡ true → houseLine v l ≡ l) → WroteLines given old s (houseLine v l ∷ []) r new

@@ -104,17 +104,18 @@ fn put_records(
     keys::put_others(h, kept, form, version, out, given, typed)
 }
 
-// All lines; `kept` are the header's entries.
+// All lines; `kept` are the header's entries. `formed`: the line of each stands as the form writes it.
 fn put_form(
     h: &[u8],
     kept: &[u64],
     form: Form,
     version: FileFormat,
     limit: usize,
+    formed: bool,
     out: &mut [u8],
     given: &[u8],
 ) -> Progress
-    ensures { λ r. ⌜ PutsForm limit (versionOf version) (now (h .entry)) (entriesIn form (now (kept .entry))) (now (given .entry)) (now (out .entry)) r (now (out .exit)) ⌝ }
+    ensures { λ r. ⌜ PutsForm limit formed (versionOf version) (now (h .entry)) (entriesIn form (now (kept .entry))) (now (given .entry)) (now (out .entry)) r (now (out .exit)) ⌝ }
 {
     let begun = Progress {
         limit,
@@ -125,6 +126,7 @@ fn put_form(
         lines: 0,
         long: 0,
         start: 0,
+        formed,
     };
     let formatted = progress::put_version(version, out, given, begun);
     let recorded = put_records(h, kept, form, version, out, given, formatted);
@@ -150,7 +152,7 @@ fn outcome_of(measured: Progress, limits: Limits, room: usize) -> FormOutcome
     FormOutcome::Whole(size)
 }
 
-// Nothing is written unless the whole form may stand and fits.
+// Nothing is written unless the whole form may stand and fits. Whether the lines stand in form is asked once, and not at each putting.
 fn write_form(
     h: &[u8],
     kept: &[u64],
@@ -163,12 +165,22 @@ fn write_form(
 {
     let limits = form.limits();
     let mut nothing = [0u8; 0];
-    let measured = put_form(h, kept, form, version, limits.line, &mut nothing, b"");
+    let formed = keys::are_formed(h, kept, form, version);
+    let measured = put_form(
+        h,
+        kept,
+        form,
+        version,
+        limits.line,
+        formed,
+        &mut nothing,
+        b"",
+    );
     let outcome = outcome_of(measured, limits, out.len());
     if !outcome.is_whole() {
         return outcome;
     }
-    put_form(h, kept, form, version, limits.line, out, b"");
+    put_form(h, kept, form, version, limits.line, formed, out, b"");
     outcome
 }
 
@@ -178,7 +190,7 @@ fn compare_form(h: &[u8], kept: &[u64], form: Form, version: FileFormat) -> Comp
 {
     let limits = form.limits();
     let mut nothing = [0u8; 0];
-    let measured = put_form(h, kept, form, version, limits.line, &mut nothing, h);
+    let measured = put_form(h, kept, form, version, limits.line, false, &mut nothing, h);
     let outcome = outcome_of(measured, limits, limits.header);
     let end = measured.next;
     Compared {

@@ -1,6 +1,7 @@
 // Lines of the form, one after another: what does not fit into the output is counted and not written, and all is held against what is given.
 use entries::entry::Entry;
 use entries::part;
+use forms::formed;
 use forms::line;
 use records::file_format::FileFormat;
 use values::sink;
@@ -16,13 +17,14 @@ ghost use Rattle.rules.specs.House.{writeRecord};
 ghost use Rattle.house.specs.Writes.{noted, WroteLines, PutsEntry};
 
 // How long a line may be; where the writing stands, the number of lines, and the first line that was too long: its number, 0 if
-// none was, and its start.
+// none was, and its start. `formed`: the line of each entry stands as the form writes it.
 pub struct Progress {
     pub limit: usize,
     pub next: Sink,
     pub lines: usize,
     pub long: usize,
     pub start: usize,
+    pub formed: bool,
 }
 
 // One line more, as far as a number goes.
@@ -52,6 +54,7 @@ fn note_line(s: Progress, end: usize, next: Sink) -> Progress
                     lines,
                     long: lines,
                     start: at,
+                    formed: s.formed,
                 };
             }
         }
@@ -62,10 +65,11 @@ fn note_line(s: Progress, end: usize, next: Sink) -> Progress
         lines,
         long,
         start: s.start,
+        formed: s.formed,
     }
 }
 
-// The line of an entry.
+// The line of an entry: most stand as the form writes them, and are copied.
 pub fn put_entry(
     h: &[u8],
     e: Entry,
@@ -77,6 +81,12 @@ pub fn put_entry(
     ensures { λ r. ⌜ PutsEntry (versionOf version) (lineIn (now (h .entry)) (entryOf e)) (now (given .entry)) (now (out .entry)) s r (now (out .exit)) ⌝ }
 {
     let line = part::line_part(h, e);
+    if s.formed {
+        return put_plain(line, out, given, s);
+    }
+    if formed::is_formed(line, version) {
+        return put_plain(line, out, given, s);
+    }
     let at = s.next;
     let put = line::put_line(out, given, at, line, version);
     note_line(s, put.end, put.next)

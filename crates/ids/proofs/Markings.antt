@@ -1,18 +1,21 @@
 -- Marks: what they tell of the entries. Assumes nothing.
-use Prim.Native.Nat.{ℕ, _+_, _≤_, _<_}
+use Prim.Native.Nat.{ℕ, _+_, _-_, _≤_, _<_}
 use native.Mathlib.Omega.{arith}
 use mathlib.Core.Path.{_≡_, refl, sym, ap, subst, _∙_}
 use mathlib.Core.Bool.{Bool, true, false, not, _&&_, false≢true}
-use mathlib.Core.List.{List, [], _∷_}
+use mathlib.Core.List.{List, [], _∷_, _++_, append-assoc}
 use lib.Dec.{eqb, leb, ltb}
-use lib.ListN.{length, drop}
-use borrow.Author.Tests.{eqb-true, eqb-false, ltb-true, ltb-false, leb-true, leb-false, le-ltb, ne-eqb}
-use Rattle.values.specs.Bytes.{Bytes, starts, same}
+use lib.ListN.{length, drop, take}
+use borrow.Author.Tests.{eqb-true, eqb-false, ltb-true, ltb-false, leb-true, leb-false, lt-ltb, le-ltb, ne-eqb}
+use Rattle.values.specs.Bytes.{Bytes, is, any, before, starts, same}
 use Rattle.values.specs.Value.{meaning}
-use Rattle.values.specs.Marks.{isMarked, mark}
+use Rattle.values.specs.Hash.{wideBasis, wideStep, wideFrom}
+use Rattle.values.specs.Marks.{isMet, meet}
 use Rattle.values.proofs.Tests.{pass, fail, test, and-l, and-r, not-true, not-false}
 use Rattle.values.proofs.Sames.{same-sound}
-use Rattle.values.proofs.Markings.{mark-length, mark-own, mark-kept, sure}
+use Rattle.values.proofs.Lists.{before-none, before-stop}
+use Rattle.values.proofs.Fields.{before-part}
+use Rattle.values.proofs.Markings.{meet-length, meet-own, meet-kept, sure}
 use Rattle.rules.specs.Known.{other}
 use Rattle.rules.specs.Entry.{Entry, mapKind, textKind}
 use Rattle.rules.specs.Shown.{lineIn, idIn, idMeaning}
@@ -21,57 +24,57 @@ use Rattle.entries.specs.Values.{entryOf}
 use Rattle.entries.specs.declared.form.Form.{Form}
 use Rattle.entries.specs.Tables.{room, entriesIn, entryIn}
 use Rattle.entries.proofs.Stored.{entries-here, entries-past}
-use Rattle.ids.specs.Clashes.{hasKey, keySeen, isOfKey, isOfId, idSeen, clashBy, clashIn}
-use Rattle.ids.specs.Marks.{markEntry, markAll, Marked, keyFound, idFound, clashFound}
-use Rattle.rules.specs.Claims.{All}
+use Rattle.ids.specs.Clashes.{prefixOf, hasKey, keySeen, isOfKey, isOfId, idSeen, clashBy, clashIn}
+use Rattle.ids.specs.Marks.{keyHash, underHash, idHash, markUnder, markEntry, markAll, Marked, keyFound, idFound, clashFound}
+use Rattle.ids.proofs.Seen.{met-by}
+use Rattle.rules.specs.Claims.{All, keyIn}
+use Rattle.rules.proofs.Records.{starts-is}
 
 -- What is marked stays so
 
-pub entry-length : (h : Bytes) (e : Entry) (ms : Bytes) → length (markEntry h e ms) ≡ length ms
-unfolding markEntry
+pub entry-length : (h : Bytes) (e : Entry) (ms : List ℕ) → length (markEntry h e ms) ≡ length ms
+unfolding markUnder
 entry-length h e ms = elim (test (ltb (e .kind) 7)) [
-  | pass l ↦ rw (markEntry, l) (mark-length ms (e .kind) (idMeaning h e))
+  | pass l ↦ rw (markUnder, l) (meet-length ms _)
   | fail l ↦ elim (test (eqb (e .kind) 7)) [
-    | pass k ↦ rw (markEntry, l, k) (mark-length (mark ms (e .kind) (idMeaning h e)) (mapKind other) [] ∙ mark-length ms (e .kind) (idMeaning h e))
-    | fail k ↦ rw (markEntry, l, k) (mark-length ms (e .kind) [])
+    | pass k ↦ rw (markUnder, l, k) (meet-length (meet ms (idHash (keyHash h e) (e .kind) (idMeaning h e))) _ ∙ meet-length ms _)
+    | fail k ↦ rw (markUnder, l, k) (meet-length ms _)
   ]
 ]
 
 -- the new entry is marked
-pub entry-own : (h : Bytes) (e : Entry) (ms : Bytes) → Marked h (markEntry h e ms) e
-unfolding markEntry
-entry-own h e ms = elim (test (ltb (e .kind) 7)) [
-  | pass l ↦ rw (markEntry, l) (record { id = λ a b. mark-own ms (e .kind) (idMeaning h e); key = λ a b. absurd (omega (arith, ltb-true (e .kind) 7 l)) })
-  | fail l ↦ elim (test (eqb (e .kind) 7)) [
-    | pass k ↦
-        let ns = mark ms (e .kind) (idMeaning h e) in
-        rw (markEntry, l, k) (record {
-          id = λ a b. mark-kept ns (mapKind other) [] (e .kind) (idMeaning h e) (mark-own ms (e .kind) (idMeaning h e));
-          key = λ a b. subst (λ (n : ℕ). isMarked (mark ns (mapKind other) []) n [] ≡ true) (sym (eqb-true (e .kind) 7 k)) (mark-own ns (mapKind other) []);
-        })
-    | fail k ↦
-        let ne = eqb-false (e .kind) 7 k in
-        rw (markEntry, l, k) (record { id = λ a b. absurd (ne (omega (arith, ltb-false (e .kind) 7 l))); key = λ a b. mark-own ms (e .kind) [] })
-  ]
-]
+pub entry-own : (h : Bytes) (e : Entry) (ms : List ℕ) → Marked h (markEntry h e ms) e
+unfolding markUnder
+entry-own h e ms =
+    let i = idHash (keyHash h e) (e .kind) (idMeaning h e) in
+    let u = underHash (keyHash h e) (e .kind) in
+    elim (test (ltb (e .kind) 7)) [
+      | pass l ↦ rw (markUnder, l) (record { id = λ a b. meet-own ms i; key = λ a b. absurd (omega (arith, ltb-true (e .kind) 7 l)) })
+      | fail l ↦ elim (test (eqb (e .kind) 7)) [
+        | pass k ↦ rw (markUnder, l, k) (record { id = λ a b. meet-kept (meet ms i) u i (meet-own ms i); key = λ a b. meet-own (meet ms i) u })
+        | fail k ↦
+            let ne = eqb-false (e .kind) 7 k in
+            rw (markUnder, l, k) (record { id = λ a b. absurd (ne (omega (arith, ltb-false (e .kind) 7 l))); key = λ a b. meet-own ms u })
+      ]
+    ]
 
-one-kept : (h : Bytes) (e : Entry) (ms : Bytes) (kind : ℕ) (t : Bytes) → isMarked ms kind t ≡ true → isMarked (markEntry h e ms) kind t ≡ true
-unfolding markEntry
-one-kept h e ms kind t a = elim (test (ltb (e .kind) 7)) [
-  | pass l ↦ rw (markEntry, l) (mark-kept ms (e .kind) (idMeaning h e) kind t a)
-  | fail l ↦ elim (test (eqb (e .kind) 7)) [
-    | pass k ↦ rw (markEntry, l, k) (mark-kept (mark ms (e .kind) (idMeaning h e)) (mapKind other) [] kind t (mark-kept ms (e .kind) (idMeaning h e) kind t a))
-    | fail k ↦ rw (markEntry, l, k) (mark-kept ms (e .kind) [] kind t a)
-  ]
-]
+one-kept : (h : Bytes) (e : Entry) (ms : List ℕ) (hash : ℕ) → isMet ms hash ≡ true → isMet (markEntry h e ms) hash ≡ true
+unfolding markUnder
+one-kept h e ms hash a =
+    let i = idHash (keyHash h e) (e .kind) (idMeaning h e) in
+    let u = underHash (keyHash h e) (e .kind) in
+    elim (test (ltb (e .kind) 7)) [
+      | pass l ↦ rw (markUnder, l) (meet-kept ms i hash a)
+      | fail l ↦ elim (test (eqb (e .kind) 7)) [
+        | pass k ↦ rw (markUnder, l, k) (meet-kept (meet ms i) u hash (meet-kept ms i hash a))
+        | fail k ↦ rw (markUnder, l, k) (meet-kept ms u hash a)
+      ]
+    ]
 
 -- and so are those that were
-pub all-kept : (h : Bytes) (e : Entry) (ms : Bytes) (es : List Entry) → All (Marked h ms) es → All (Marked h (markEntry h e ms)) es
+pub all-kept : (h : Bytes) (e : Entry) (ms : List ℕ) (es : List Entry) → All (Marked h ms) es → All (Marked h (markEntry h e ms)) es
 all-kept h e ms [] a = tt
-all-kept h e ms (x ∷ es) a = (
-  record { id = λ b c. one-kept h e ms (x .kind) (idMeaning h x) (a .0 .id b c); key = λ b c. one-kept h e ms (x .kind) [] (a .0 .key b c) },
-  all-kept h e ms es (a .1),
-)
+all-kept h e ms (x ∷ es) a = (record { id = λ b c. one-kept h e ms _ (a .0 .id b c); key = λ b c. one-kept h e ms _ (a .0 .key b c) }, all-kept h e ms es (a .1))
 
 -- all that are marked one after the other
 pub all-length : (h : Bytes) (es : List Entry) (ms : Bytes) → length (markAll h es ms) ≡ length ms
@@ -91,41 +94,81 @@ all-marked h (e ∷ es) ms = (still-marked h es (e ∷ []) (markEntry h e ms) (e
 
 -- where there are no marks, all may have been met
 pub unmarked-all : (h : Bytes) (es : List Entry) (ms : Bytes) → length ms ≡ 0 → All (Marked h ms) es
-unfolding isMarked
+unfolding isMet
 unmarked-all h [] ms z = tt
 unmarked-all h (e ∷ es) ms z = (record { id = λ a b. rw z; key = λ a b. rw z }, unmarked-all h es ms z)
 
 -- What the scans find is marked
 
-module _ (h ms prefix : Bytes) (kind : ℕ) where
-  key-marked : 7 ≤ kind → kind ≤ 8 → (es : List Entry) → All (Marked h ms) es → keySeen h prefix kind es ≡ true → isMarked ms kind [] ≡ true
+-- under a key that holds no `=`, a line that begins with its prefix has the key
+key-own : (k l : Bytes) → any (is 61) k ≡ false → starts (prefixOf k) l ≡ true → keyIn l ≡ k
+key-own k l n e =
+    let r = drop (length (prefixOf k)) l in
+    let d : drop 2 l ≡ k ++ 61 ∷ r = ap (drop 2) (starts-is (prefixOf k) l e) ∙ append-assoc k (61 ∷ []) r in
+    ap (before (is 61)) d ∙ before-stop (is 61) k 61 r n refl
+
+module _ (h : Bytes) (e : Entry) where
+  hash-typed : e .kind < 7 → wideBasis ≡ keyHash h e
+  unfolding keyHash
+  hash-typed l = rw (keyHash, lt-ltb (e .kind) 7 l)
+
+  hash-other : 7 ≤ e .kind → wideFrom wideBasis (keyIn (lineIn h e)) ≡ keyHash h e
+  unfolding keyHash
+  hash-other l = rw (keyHash, le-ltb (e .kind) 7 l)
+
+-- e is the new entry, whose line begins with the prefix
+module _ (h : Bytes) (ms : List ℕ) (prefix : Bytes) (e : Entry) (own : prefix ≡ prefixOf (keyIn (lineIn h e))) where
+  same-key : 7 ≤ e .kind → (x : Entry) → 7 ≤ x .kind → starts prefix (lineIn h x) ≡ true → keyHash h x ≡ keyHash h e
+  same-key l x m s =
+      sym (hash-other h x m)
+      ∙ ap (wideFrom wideBasis) (key-own (keyIn (lineIn h e)) (lineIn h x) (before-none (is 61) (drop 2 (lineIn h e))) (ap (λ (p : Bytes). starts p (lineIn h x)) (sym own) ∙ s))
+      ∙ hash-other h e l
+
+  same-id-key : (x : Entry) → x .kind ≡ e .kind → isOfKey h prefix (e .kind) x ≡ true → keyHash h x ≡ keyHash h e
+  unfolding isOfKey
+  same-id-key x k u = elim (test (ltb (e .kind) 7)) [
+    | pass l ↦ let t = ltb-true (e .kind) 7 l in sym (hash-typed h x (omega arith)) ∙ hash-typed h e t
+    | fail l ↦ let t = ltb-false (e .kind) 7 l in same-key t x (omega arith) (rw l at u)
+  ]
+
+  key-marked : 7 ≤ e .kind → (kind : ℕ) → 7 ≤ kind → kind ≤ 8 → (es : List Entry) → All (Marked h ms) es → keySeen h prefix kind es ≡ true → isMet ms (underHash (keyHash h e) kind) ≡ true
   unfolding keySeen hasKey
-  key-marked l m [] a f = absurd (false≢true f)
-  key-marked l m (e ∷ es) a f = elim (test (hasKey h prefix kind e)) [
+  key-marked o kind l m [] a f = absurd (false≢true f)
+  key-marked o kind l m (x ∷ es) a f = elim (test (hasKey h prefix kind x)) [
     | pass g ↦
-        let k = eqb-true (e .kind) kind (and-l (eqb (e .kind) kind) (starts prefix (lineIn h e)) g) in
-        subst (λ (n : ℕ). isMarked ms n [] ≡ true) k (a .0 .key (omega arith) (omega arith))
-    | fail g ↦ key-marked l m es (a .1) (rw g at f)
+        let k = eqb-true (x .kind) kind (and-l (eqb (x .kind) kind) (starts prefix (lineIn h x)) g) in
+        let b = same-key o x (omega arith) (and-r (eqb (x .kind) kind) (starts prefix (lineIn h x)) g) in
+        subst (λ (c : ℕ). isMet ms (underHash c kind) ≡ true) b (subst (λ (n : ℕ). isMet ms (underHash (keyHash h x) n) ≡ true) k (a .0 .key (omega arith) (omega arith)))
+    | fail g ↦ key-marked o kind l m es (a .1) (rw g at f)
   ]
 
-  id-marked : 2 ≤ kind → kind ≤ 7 → (m : Bytes) (es : List Entry) → All (Marked h ms) es → idSeen h prefix kind m es ≡ true → isMarked ms kind m ≡ true
+  id-marked : 2 ≤ e .kind → e .kind ≤ 7 → (es : List Entry) → All (Marked h ms) es → idSeen h prefix (e .kind) (idMeaning h e) es ≡ true → isMet ms (idHash (keyHash h e) (e .kind) (idMeaning h e)) ≡ true
   unfolding idSeen isOfId
-  id-marked n l m [] a f = absurd (false≢true f)
-  id-marked n l m (e ∷ es) a f = elim (test (isOfId h prefix kind m e)) [
+  id-marked n l [] a f = absurd (false≢true f)
+  id-marked n l (x ∷ es) a f = elim (test (isOfId h prefix (e .kind) (idMeaning h e) x)) [
     | pass g ↦
-        let k = eqb-true (e .kind) kind (and-l (eqb (e .kind) kind) (isOfKey h prefix kind e && same (idMeaning h e) m) g) in
-        let i = and-r (isOfKey h prefix kind e) (same (idMeaning h e) m) (and-r (eqb (e .kind) kind) (isOfKey h prefix kind e && same (idMeaning h e) m) g) in
-        subst (λ (i : ℕ). isMarked ms i m ≡ true) k (subst (λ (x : Bytes). isMarked ms (e .kind) x ≡ true) (same-sound (idMeaning h e) m i) (a .0 .id (omega arith) (omega arith)))
-    | fail g ↦ id-marked n l m es (a .1) (rw g at f)
+        let k = eqb-true (x .kind) (e .kind) (and-l (eqb (x .kind) (e .kind)) (isOfKey h prefix (e .kind) x && same (idMeaning h x) (idMeaning h e)) g) in
+        let r = and-r (eqb (x .kind) (e .kind)) (isOfKey h prefix (e .kind) x && same (idMeaning h x) (idMeaning h e)) g in
+        let b = same-id-key x k (and-l (isOfKey h prefix (e .kind) x) (same (idMeaning h x) (idMeaning h e)) r) in
+        let i = same-sound (idMeaning h x) (idMeaning h e) (and-r (isOfKey h prefix (e .kind) x) (same (idMeaning h x) (idMeaning h e)) r) in
+        subst (λ (c : ℕ). isMet ms (idHash c (e .kind) (idMeaning h e)) ≡ true) b
+        (subst (λ (n : ℕ). isMet ms (idHash (keyHash h x) n (idMeaning h e)) ≡ true) k
+        (subst (λ (y : Bytes). isMet ms (idHash (keyHash h x) (x .kind) y) ≡ true) i (a .0 .id (omega arith) (omega arith))))
+    | fail g ↦ id-marked n l es (a .1) (rw g at f)
   ]
 
-  key-sure : 7 ≤ kind → kind ≤ 8 → (es : List Entry) → All (Marked h ms) es → keyFound h es ms prefix kind ≡ keySeen h prefix kind es
+  key-sure : 7 ≤ e .kind → (kind : ℕ) → 7 ≤ kind → kind ≤ 8 → (es : List Entry) → All (Marked h ms) es → keyFound h es ms prefix (keyHash h e) kind ≡ keySeen h prefix kind es
   unfolding keyFound
-  key-sure l m es a = sure (isMarked ms kind []) (keySeen h prefix kind es) (key-marked l m es a)
+  key-sure o kind l m es a = sure (isMet ms (underHash (keyHash h e) kind)) (keySeen h prefix kind es) (key-marked o kind l m es a)
 
-id-sure : (h ms prefix : Bytes) (e : Entry) → 2 ≤ e .kind → e .kind ≤ 7 → (es : List Entry) → All (Marked h ms) es → idFound h es ms prefix e ≡ idSeen h prefix (e .kind) (idMeaning h e) es
-unfolding idFound
-id-sure h ms prefix e n l es a = sure (isMarked ms (e .kind) (idMeaning h e)) (idSeen h prefix (e .kind) (idMeaning h e) es) (id-marked h ms prefix (e .kind) n l (idMeaning h e) es a)
+  id-sure : 2 ≤ e .kind → e .kind ≤ 7 → (es : List Entry) → All (Marked h ms) es → idFound h es ms prefix (keyHash h e) e ≡ idSeen h prefix (e .kind) (idMeaning h e) es
+  unfolding idFound
+  id-sure n l es a = sure (isMet ms (idHash (keyHash h e) (e .kind) (idMeaning h e))) (idSeen h prefix (e .kind) (idMeaning h e) es) (id-marked n l es a)
+
+-- of a typed kind no key is asked for
+typed-only : (kind : ℕ) (i m n x y : Bool) → kind < 7 → clashBy kind i m x ≡ clashBy kind i n y
+unfolding clashBy
+typed-only kind i m n x y l = rw (clashBy, lt-ltb kind 7 l)
 
 -- past the other maps no ID is asked for
 other-clash : (kind : ℕ) (i j m x : Bool) → 7 < kind → clashBy kind i m x ≡ clashBy kind j m x
@@ -133,37 +176,60 @@ unfolding clashBy
 other-clash kind i j m x l = rw (clashBy, le-ltb kind 7 (omega arith), ne-eqb kind 7 (λ k. omega arith))
 
 -- where all entries are marked, what is not marked is not among them
-pub clash-sure : (h : Bytes) (es : List Entry) (ms prefix : Bytes) (e : Entry) → 2 ≤ e .kind → All (Marked h ms) es → clashFound h es ms prefix e ≡ clashIn h es prefix e
-clash-sure h es ms prefix e n a =
-    let t = key-sure h ms prefix textKind (omega arith) (omega arith) es a in
-    let m = key-sure h ms prefix (mapKind other) (omega arith) (omega arith) es a in
-    elim (test (leb (e .kind) 7)) [
-      | pass l ↦ rw (id-sure h ms prefix e n (leb-true (e .kind) 7 l) es a, t, m)
-      | fail l ↦ rw (t, m) (other-clash (e .kind) _ _ _ _ (omega (arith, leb-false (e .kind) 7 l)))
-    ]
+pub clash-sure : (h : Bytes) (es : List Entry) (ms : List ℕ) (prefix : Bytes) (e : Entry) → prefix ≡ prefixOf (keyIn (lineIn h e)) → 2 ≤ e .kind → All (Marked h ms) es
+    → clashFound h es ms prefix e ≡ clashIn h es prefix e
+clash-sure h es ms prefix e own n a = elim (test (ltb (e .kind) 7)) [
+  | pass l ↦ let t = ltb-true (e .kind) 7 l in rw (id-sure h ms prefix e own n (omega arith) es a) (typed-only (e .kind) _ _ _ _ _ t)
+  | fail l ↦
+      let t = ltb-false (e .kind) 7 l in
+      let u = key-sure h ms prefix e own t textKind (omega arith) (omega arith) es a in
+      let m = key-sure h ms prefix e own t (mapKind other) (omega arith) (omega arith) es a in
+      elim (test (leb (e .kind) 7)) [
+        | pass q ↦ rw (id-sure h ms prefix e own n (leb-true (e .kind) 7 q) es a, u, m)
+        | fail q ↦ rw (u, m) (other-clash (e .kind) _ _ _ _ (omega (arith, leb-false (e .kind) 7 q)))
+      ]
+]
+
+-- What the code computes
+
+module _ (h : Bytes) (x : CodeEntry) where
+  pub key-typed : x .kind < 7 → wideBasis ≡ keyHash h (entryOf x)
+  key-typed l = hash-typed h (entryOf x) l
+
+  pub key-other : 7 ≤ x .kind → {l : Bytes} → l ≡ lineIn h (entryOf x) → {end : ℕ} → end ≡ 2 + length (before (is 61) (drop 2 l)) → {p : Bytes} → p ≡ take (end - 2) (drop 2 l)
+      → {r : ℕ} → r ≡ wideFrom wideBasis p → r ≡ keyHash h (entryOf x)
+  key-other k {l} el ee ep er = er ∙ ap (wideFrom wideBasis) (ep ∙ before-part (is 61) l 2 ee ∙ ap keyIn el) ∙ hash-other h (entryOf x) k
+
+  pub id-hashed : (key : ℕ) {u : ℕ} → u ≡ underHash key (x .kind) → {p : Bytes} → p ≡ idIn h (entryOf x) → {r : ℕ} → r ≡ wideFrom u (meaning (x .quoted) p)
+      → r ≡ idHash key (x .kind) (idMeaning h (entryOf x))
+  unfolding idHash
+  id-hashed key eu ep er = er ∙ rw (eu, ep)
+
+pub under-hashed : (key kind : ℕ) {r : ℕ} → r ≡ wideStep key kind → r ≡ underHash key kind
+unfolding underHash
+under-hashed key kind e = e
+
+pub ruleset hashes = (key-typed, key-other, id-hashed, under-hashed)
 
 -- q is what the marks answered
-module _ (h : Bytes) (es : List Entry) (ms prefix : Bytes) (kind : ℕ) {q : Bool} (e : q ≡ isMarked ms kind []) where
-  pub key-unmarked : not q ≡ true → false ≡ keyFound h es ms prefix kind
+module _ (h : Bytes) (es : List Entry) (ms : List ℕ) (prefix : Bytes) (key kind : ℕ) {hash : ℕ} (eh : hash ≡ underHash key kind) {q : Bool} (e : q ≡ isMet ms hash) where
+  pub key-unmarked : not q ≡ true → false ≡ keyFound h es ms prefix key kind
   unfolding keyFound
-  key-unmarked n = rw (← e, not-true q n)
+  key-unmarked n = rw (← eh, ← e, not-true q n)
 
-  pub key-looked : not q ≡ false → {r : Bool} → r ≡ keySeen h prefix kind es → r ≡ keyFound h es ms prefix kind
+  pub key-looked : not q ≡ false → {r : Bool} → r ≡ keySeen h prefix kind es → r ≡ keyFound h es ms prefix key kind
   unfolding keyFound
-  key-looked n f = f ∙ rw (← e, not-false q n)
+  key-looked n f = f ∙ rw (← eh, ← e, not-false q n)
 
--- the code holds the new entry's ID in p
-module _ (h : Bytes) (es : List Entry) (ms prefix : Bytes) (x : CodeEntry) {p : Bytes} (ep : p ≡ idIn h (entryOf x)) {q : Bool} (e : q ≡ isMarked ms (x .kind) (meaning (x .quoted) p)) where
-  pub id-unmarked : not q ≡ true → false ≡ idFound h es ms prefix (entryOf x)
+module _ (h : Bytes) (es : List Entry) (ms : List ℕ) (prefix : Bytes) (key : ℕ) (x : CodeEntry) {hash : ℕ} (eh : hash ≡ idHash key (x .kind) (idMeaning h (entryOf x))) {q : Bool} (e : q ≡ isMet ms hash) where
+  pub id-unmarked : not q ≡ true → false ≡ idFound h es ms prefix key (entryOf x)
   unfolding idFound
-  id-unmarked n = rw (← ep, ← e, not-true q n)
+  id-unmarked n = rw (← eh, ← e, not-true q n)
 
-  pub id-looked : not q ≡ false → {r : Bool} → r ≡ idSeen h prefix (x .kind) (meaning (x .quoted) p) es → r ≡ idFound h es ms prefix (entryOf x)
+  -- the code holds the new entry's ID in p
+  pub id-looked : not q ≡ false → {p : Bytes} → p ≡ idIn h (entryOf x) → {r : Bool} → r ≡ idSeen h prefix (x .kind) (meaning (x .quoted) p) es → r ≡ idFound h es ms prefix key (entryOf x)
   unfolding idFound
-  id-looked n f = f ∙ rw (← ep, ← e, not-false q n)
-
-pub id-met : (h ms : Bytes) (x : CodeEntry) {p : Bytes} → p ≡ idIn h (entryOf x) → {ns : Bytes} → ns ≡ mark ms (x .kind) (meaning (x .quoted) p) → ns ≡ mark ms (x .kind) (idMeaning h (entryOf x))
-id-met h ms x ep e = e ∙ rw ep
+  id-looked n ep f = f ∙ rw (ep, ← eh, ← e, not-false q n)
 
 -- no new line clashes with the fileformat line
 pub unmarked : (h ms : Bytes) (e : Entry) → e .kind < 2 → Marked h ms e
@@ -196,4 +262,4 @@ marking-long g = g .long
 
 pub ruleset markings = (marking-start, marking-end, marking-next, marking-long)
 
-pub ruleset scans = (key-unmarked, key-looked, id-unmarked, id-looked, id-met)
+pub ruleset scans = (key-unmarked, key-looked, id-unmarked, id-looked, met-by)

@@ -9,7 +9,7 @@ use lib.ListN.{length, getD, drop}
 use borrow.Author.Tests.{eq-eqb, ne-eqb, eqb-false, lt-ltb, le-ltb}
 use Rattle.values.specs.Bytes.{Bytes, starts, same}
 use Rattle.values.specs.Value.{meaning}
-use Rattle.values.specs.Marks.{mark}
+use Rattle.values.specs.Marks.{meet}
 use Rattle.values.proofs.Tests.{not-true, not-false, and-off}
 use Rattle.values.proofs.Sames.{differ}
 use Rattle.values.specs.Places.{unescapedAt}
@@ -26,7 +26,7 @@ use Rattle.entries.specs.declared.form.Form.{Form}
 use Rattle.entries.specs.Tables.{room, entriesIn, entryIn}
 use Rattle.entries.proofs.Stored.{entries-here, entries-past}
 use Rattle.ids.specs.Clashes.{hasKey, keySeen, isOfKey, isOfId, idSeen, mapClash, clashBy, lastOf, MayEqual, Candidate}
-use Rattle.ids.specs.Marks.{markEntry}
+use Rattle.ids.specs.Marks.{keyHash, underHash, idHash, markUnder, markEntry, clashUnder, clashFound}
 use Rattle.ids.specs.declared.scan.Clash.{Clash}
 use Rattle.ids.specs.declared.scan.Clash.the-variants.{Free, TypedId, Mixed, OtherId}
 
@@ -212,8 +212,8 @@ module _ {t x : Bool} (et : t ≡ x) (e : t ≡ false) {r i : Bool} (er : r ≡ 
   pub map-free : r ≡ false → Free ≡ mapClash x i
   map-free f = rw (← et, e, ← er, f)
 
-pub marked-twice : (ms : Bytes) (k : ℕ) (t : Bytes) (j : ℕ) (u : Bytes) {a : Bytes} → a ≡ mark ms k t → {b : Bytes} → b ≡ mark a j u → b ≡ mark (mark ms k t) j u
-marked-twice ms k t j u e f = f ∙ rw e
+pub marked-twice : (ms : List ℕ) (i : ℕ) {a : List ℕ} → a ≡ meet ms i → {hash j : ℕ} → hash ≡ j → {b : List ℕ} → b ≡ meet a hash → b ≡ meet (meet ms i) j
+marked-twice ms i e f g = g ∙ rw (e, f)
 
 pub ruleset map-clashes = (map-mixed, map-twice, map-free, marked-twice)
 
@@ -240,17 +240,31 @@ module _ (kind : ℕ) (i m : Bool) {x : Bool} (l : 7 ≤ kind) (ne : kind ≡ 7 
   text-free e = rw (clashBy, le-ltb kind 7 l, ne-eqb kind 7 ne, ← et, e)
 
 -- and what is marked
-module _ (h : Bytes) (e : Entry) (ms : Bytes) {ns : Bytes} where
-  pub typed-marked : e .kind < 7 → ns ≡ mark ms (e .kind) (idMeaning h e) → ns ≡ markEntry h e ms
-  unfolding markEntry
-  typed-marked l a = a ∙ rw (markEntry, lt-ltb (e .kind) 7 l)
+module _ (h : Bytes) (key : ℕ) (e : Entry) (ms : List ℕ) {ns : List ℕ} where
+  pub typed-marked : e .kind < 7 → ns ≡ meet ms (idHash key (e .kind) (idMeaning h e)) → ns ≡ markUnder h key e ms
+  unfolding markUnder
+  typed-marked l a = a ∙ rw (markUnder, lt-ltb (e .kind) 7 l)
 
-  pub map-marked : 7 ≤ e .kind → e .kind ≡ 7 → ns ≡ mark (mark ms (e .kind) (idMeaning h e)) (mapKind other) [] → ns ≡ markEntry h e ms
-  unfolding markEntry
-  map-marked l ek a = a ∙ rw (markEntry, le-ltb (e .kind) 7 l, eq-eqb (e .kind) 7 ek)
+  pub map-marked : 7 ≤ e .kind → e .kind ≡ 7 → ns ≡ meet (meet ms (idHash key (e .kind) (idMeaning h e))) (underHash key (e .kind)) → ns ≡ markUnder h key e ms
+  unfolding markUnder
+  map-marked l ek a = a ∙ rw (markUnder, le-ltb (e .kind) 7 l, eq-eqb (e .kind) 7 ek)
 
-  pub text-marked : 7 ≤ e .kind → (e .kind ≡ 7 → ⊥) → ns ≡ mark ms (e .kind) [] → ns ≡ markEntry h e ms
-  unfolding markEntry
-  text-marked l ne a = a ∙ rw (markEntry, le-ltb (e .kind) 7 l, ne-eqb (e .kind) 7 ne)
+  pub text-marked : 7 ≤ e .kind → (e .kind ≡ 7 → ⊥) → ns ≡ meet ms (underHash key (e .kind)) → ns ≡ markUnder h key e ms
+  unfolding markUnder
+  text-marked l ne a = a ∙ rw (markUnder, le-ltb (e .kind) 7 l, ne-eqb (e .kind) 7 ne)
 
-pub ruleset clashes = (typed-clash, typed-free, map-clash, text-mixed, text-free, typed-marked, map-marked, text-marked)
+-- a mark by a hash that the code computed
+pub met-by : (ms : List ℕ) {hash is : ℕ} → hash ≡ is → {ns : List ℕ} → ns ≡ meet ms hash → ns ≡ meet ms is
+met-by ms e f = f ∙ rw e
+
+-- the key's hash that the code computed is the entry's
+module _ (h : Bytes) (e : Entry) {key : ℕ} (ek : key ≡ keyHash h e) where
+  pub clash-under : (es : List Entry) (ms : List ℕ) (prefix : Bytes) {r : Clash} → r ≡ clashUnder h es ms prefix key e → r ≡ clashFound h es ms prefix e
+  clash-under es ms prefix f = f ∙ ap (λ (k : ℕ). clashUnder h es ms prefix k e) ek
+
+  pub marked-under : (ms : List ℕ) {ns : List ℕ} → ns ≡ markUnder h key e ms → ns ≡ markEntry h e ms
+  marked-under ms f = f ∙ ap (λ (k : ℕ). markUnder h k e ms) ek
+
+pub ruleset clashes = (typed-clash, typed-free, map-clash, text-mixed, text-free, typed-marked, map-marked, text-marked, met-by, marked-twice)
+
+pub ruleset keyed = (clash-under, marked-under)

@@ -5,36 +5,59 @@ use mathlib.Core.Bool.{Bool, true, false, _&&_}
 use mathlib.Core.List.{List, [], _∷_}
 use lib.Dec.{eqb, ltb}
 use Rattle.values.specs.Bytes.{Bytes}
-use Rattle.values.specs.Marks.{isMarked, mark}
+use Rattle.values.specs.Hash.{wideBasis, wideStep, wideFrom}
+use Rattle.values.specs.Marks.{isMet, meet}
 use Rattle.rules.specs.Known.{other}
 use Rattle.rules.specs.Entry.{Entry, mapKind, textKind}
-use Rattle.rules.specs.Shown.{idMeaning}
+use Rattle.rules.specs.Shown.{lineIn, idMeaning}
+use Rattle.rules.specs.Claims.{keyIn}
 use Rattle.ids.specs.Clashes.{keySeen, idSeen, clashBy}
 use Rattle.ids.specs.declared.scan.Clash.{Clash}
 
--- a typed kind's ID; an other map's ID, and its kind alone; a text's kind alone
-unfoldable pub markEntry : Bytes → Entry → Bytes → Bytes
-markEntry h e ms = elim (ltb (e .kind) 7) [
-  | true ↦ mark ms (e .kind) (idMeaning h e)
-  | false ↦ elim (eqb (e .kind) 7) [ true ↦ mark (mark ms (e .kind) (idMeaning h e)) (mapKind other) [] | false ↦ mark ms (e .kind) [] ]
+-- what an entry's hashes begin with: a typed kind has one key, an other record's key is told by its line
+unfoldable pub keyHash : Bytes → Entry → ℕ
+keyHash h e = elim (ltb (e .kind) 7) [ true ↦ wideBasis | false ↦ wideFrom wideBasis (keyIn (lineIn h e)) ]
+
+-- that there is a record of this kind under the key
+unfoldable pub underHash : ℕ → ℕ → ℕ
+underHash key kind = wideStep key kind
+
+-- and one with this ID
+unfoldable pub idHash : ℕ → ℕ → Bytes → ℕ
+idHash key kind id = wideFrom (underHash key kind) id
+
+-- a typed kind's ID; an other map's ID, and its key; a text's key
+unfoldable pub markUnder : Bytes → ℕ → Entry → List ℕ → List ℕ
+markUnder h key e ms = elim (ltb (e .kind) 7) [
+  | true ↦ meet ms (idHash key (e .kind) (idMeaning h e))
+  | false ↦ elim (eqb (e .kind) 7) [
+    | true ↦ meet (meet ms (idHash key (e .kind) (idMeaning h e))) (underHash key (e .kind))
+    | false ↦ meet ms (underHash key (e .kind))
+  ]
 ]
 
-unfoldable pub markAll : Bytes → List Entry → Bytes → Bytes
+abbrev pub markEntry : Bytes → Entry → List ℕ → List ℕ
+markEntry h e ms = markUnder h (keyHash h e) e ms
+
+unfoldable pub markAll : Bytes → List Entry → List ℕ → List ℕ
 markAll h [] ms = ms
 markAll h (e ∷ es) ms = markAll h es (markEntry h e ms)
 
 -- what is marked of an entry that a new line may clash with
-pub record Marked (h : Bytes) (ms : Bytes) (e : Entry) : Type 0 where
-  pub id : 2 ≤ e .kind → e .kind ≤ 7 → isMarked ms (e .kind) (idMeaning h e) ≡ true
-  pub key : 7 ≤ e .kind → e .kind ≤ 8 → isMarked ms (e .kind) [] ≡ true
+pub record Marked (h : Bytes) (ms : List ℕ) (e : Entry) : Type 0 where
+  pub id : 2 ≤ e .kind → e .kind ≤ 7 → isMet ms (idHash (keyHash h e) (e .kind) (idMeaning h e)) ≡ true
+  pub key : 7 ≤ e .kind → e .kind ≤ 8 → isMet ms (underHash (keyHash h e) (e .kind)) ≡ true
 
 -- What is found of a new line: nothing is looked for where the marks tell that it isn't there
 
-unfoldable pub keyFound : Bytes → List Entry → Bytes → Bytes → ℕ → Bool
-keyFound h es ms prefix kind = isMarked ms kind [] && keySeen h prefix kind es
+unfoldable pub keyFound : Bytes → List Entry → List ℕ → Bytes → ℕ → ℕ → Bool
+keyFound h es ms prefix key kind = isMet ms (underHash key kind) && keySeen h prefix kind es
 
-unfoldable pub idFound : Bytes → List Entry → Bytes → Bytes → Entry → Bool
-idFound h es ms prefix e = isMarked ms (e .kind) (idMeaning h e) && idSeen h prefix (e .kind) (idMeaning h e) es
+unfoldable pub idFound : Bytes → List Entry → List ℕ → Bytes → ℕ → Entry → Bool
+idFound h es ms prefix key e = isMet ms (idHash key (e .kind) (idMeaning h e)) && idSeen h prefix (e .kind) (idMeaning h e) es
 
-abbrev pub clashFound : Bytes → List Entry → Bytes → Bytes → Entry → Clash
-clashFound h es ms prefix e = clashBy (e .kind) (idFound h es ms prefix e) (keyFound h es ms prefix textKind) (keyFound h es ms prefix (mapKind other))
+abbrev pub clashUnder : Bytes → List Entry → List ℕ → Bytes → ℕ → Entry → Clash
+clashUnder h es ms prefix key e = clashBy (e .kind) (idFound h es ms prefix key e) (keyFound h es ms prefix key textKind) (keyFound h es ms prefix key (mapKind other))
+
+abbrev pub clashFound : Bytes → List Entry → List ℕ → Bytes → Entry → Clash
+clashFound h es ms prefix e = clashUnder h es ms prefix (keyHash h e) e

@@ -7,18 +7,17 @@ use entries::table;
 use values::bytes;
 use values::cursor::ByteRead;
 use values::cursor::Cursor;
+use values::hash;
 use values::marks;
 ghost use mathlib.Core.Path.{_≡_};
-ghost use mathlib.Core.List.{[]};
 ghost use Rattle.values.specs.Value.{meaning};
-ghost use Rattle.values.specs.Marks.{mark};
-ghost use Rattle.rules.specs.Known.{other};
-ghost use Rattle.rules.specs.Entry.{mapKind, textKind};
+ghost use Rattle.values.specs.Marks.{meet};
+ghost use Rattle.rules.specs.Entry.{textKind};
 ghost use Rattle.rules.specs.Shown.{idMeaning};
 ghost use Rattle.entries.specs.Values.{entryOf};
 ghost use Rattle.entries.specs.Tables.{entriesIn};
 ghost use Rattle.ids.specs.Clashes.{lastOf, isOfKey, MayEqual, Candidate, keySeen, idSeen, mapClash};
-ghost use Rattle.ids.specs.Marks.{markEntry, markAll, keyFound, idFound, clashFound};
+ghost use Rattle.ids.specs.Marks.{keyHash, underHash, idHash, markUnder, markEntry, markAll, keyFound, idFound, clashUnder, clashFound};
 
 pub enum Clash {
     Free,
@@ -156,49 +155,127 @@ fn id_seen(
     found
 }
 
-// The same two, where the marks don't tell it already.
-fn has_key(h: &[u8], kept: &[u64], form: Form, marks: &[u8], prefix: &[u8], kind: u8) -> bool
-    ensures { λ r. ⌜ r ≡ keyFound (now (h .entry)) (entriesIn form (now (kept .entry))) (now (marks .entry)) (now (prefix .entry)) kind ⌝ }
+// What the hashes of an entry begin with: that of an other record's key.
+fn key_hash(h: &[u8], e: Entry) -> u64
+    ensures { λ r. ⌜ r ≡ keyHash (now (h .entry)) (entryOf e) ⌝ }
 {
-    if !marks::is_marked(marks, kind, b"", false) {
+    if e.kind < kind::OTHER_MAP {
+        return hash::WIDE_BASIS;
+    }
+    let line = part::line_part(h, e);
+    let end = bytes::find(line, 2, b'=');
+    hash::wide_from(hash::WIDE_BASIS, bytes::part(line, 2, end), false)
+}
+
+fn under_hash(key: u64, kind: u8) -> u64
+    ensures { λ r. ⌜ r ≡ underHash key kind ⌝ }
+{
+    hash::wide_step(key, kind as u16)
+}
+
+// The ID of an entry, under its key.
+fn id_hash(h: &[u8], key: u64, e: Entry) -> u64
+    ensures { λ r. ⌜ r ≡ idHash key (e .kind) (idMeaning (now (h .entry)) (entryOf e)) ⌝ }
+{
+    hash::wide_from(under_hash(key, e.kind), part::id_part(h, e), e.quoted)
+}
+
+// As `key_seen`, where the marks don't tell it already; `key` is the new entry's key hash.
+fn has_key(
+    h: &[u8],
+    kept: &[u64],
+    form: Form,
+    marks: &[u64],
+    prefix: &[u8],
+    key: u64,
+    kind: u8,
+) -> bool
+    ensures { λ r. ⌜ r ≡ keyFound (now (h .entry)) (entriesIn form (now (kept .entry))) (now (marks .entry)) (now (prefix .entry)) key kind ⌝ }
+{
+    if !marks::is_met(marks, under_hash(key, kind)) {
         return false;
     }
     key_seen(h, kept, form, prefix, kind)
 }
 
 // The new entry's ID is marked by that.
-fn has_id(h: &[u8], kept: &[u64], form: Form, marks: &mut [u8], prefix: &[u8], new: Entry) -> bool
-    ensures found { λ r. ⌜ r ≡ idFound (now (h .entry)) (entriesIn form (now (kept .entry))) (now (marks .entry)) (now (prefix .entry)) (entryOf new) ⌝ }
-    ensures marks { λ _. ⌜ now (marks .exit) ≡ mark (now (marks .entry)) (new .kind) (idMeaning (now (h .entry)) (entryOf new)) ⌝ }
+fn has_id(
+    h: &[u8],
+    kept: &[u64],
+    form: Form,
+    marks: &mut [u64],
+    prefix: &[u8],
+    key: u64,
+    new: Entry,
+) -> bool
+    ensures found { λ r. ⌜ r ≡ idFound (now (h .entry)) (entriesIn form (now (kept .entry))) (now (marks .entry)) (now (prefix .entry)) key (entryOf new) ⌝ }
+    ensures marks { λ _. ⌜ now (marks .exit) ≡ meet (now (marks .entry)) (idHash key (new .kind) (idMeaning (now (h .entry)) (entryOf new))) ⌝ }
 {
-    let id = part::id_part(h, new);
-    if !marks::meet(marks, new.kind, id, new.quoted) {
+    if !marks::meet_hash(marks, id_hash(h, key, new)) {
         return false;
     }
-    id_seen(h, kept, form, prefix, new.kind, id, new.quoted)
+    id_seen(
+        h,
+        kept,
+        form,
+        prefix,
+        new.kind,
+        part::id_part(h, new),
+        new.quoted,
+    )
 }
 
 fn find_map_clash(
     h: &[u8],
     kept: &[u64],
     form: Form,
-    marks: &mut [u8],
+    marks: &mut [u64],
     prefix: &[u8],
+    key: u64,
     new: Entry,
 ) -> Clash
     ensures clash { λ r.
-        ⌜ r ≡ mapClash (keyFound (now (h .entry)) (entriesIn form (now (kept .entry))) (now (marks .entry)) (now (prefix .entry)) textKind)
-        (idFound (now (h .entry)) (entriesIn form (now (kept .entry))) (now (marks .entry)) (now (prefix .entry)) (entryOf new)) ⌝ }
-    ensures marks { λ _. ⌜ now (marks .exit) ≡ mark (mark (now (marks .entry)) (new .kind) (idMeaning (now (h .entry)) (entryOf new))) (mapKind other) [] ⌝ }
+        ⌜ r ≡ mapClash (keyFound (now (h .entry)) (entriesIn form (now (kept .entry))) (now (marks .entry)) (now (prefix .entry)) key textKind)
+        (idFound (now (h .entry)) (entriesIn form (now (kept .entry))) (now (marks .entry)) (now (prefix .entry)) key (entryOf new)) ⌝ }
+    ensures marks { λ _. ⌜ now (marks .exit) ≡ meet (meet (now (marks .entry)) (idHash key (new .kind) (idMeaning (now (h .entry)) (entryOf new)))) (underHash key (new .kind)) ⌝ }
 {
-    let mixed = has_key(h, kept, form, marks, prefix, kind::OTHER_TEXT);
-    let found = has_id(h, kept, form, marks, prefix, new);
-    marks::meet(marks, kind::OTHER_MAP, b"", false);
+    let mixed = has_key(h, kept, form, marks, prefix, key, kind::OTHER_TEXT);
+    let found = has_id(h, kept, form, marks, prefix, key, new);
+    marks::meet_hash(marks, under_hash(key, new.kind));
     if mixed {
         return Clash::Mixed;
     }
     if found {
         return Clash::OtherId;
+    }
+    Clash::Free
+}
+
+fn find_under(
+    h: &[u8],
+    kept: &[u64],
+    form: Form,
+    marks: &mut [u64],
+    prefix: &[u8],
+    key: u64,
+    new: Entry,
+) -> Clash
+    ensures clash { λ r. ⌜ r ≡ clashUnder (now (h .entry)) (entriesIn form (now (kept .entry))) (now (marks .entry)) (now (prefix .entry)) key (entryOf new) ⌝ }
+    ensures marks { λ _. ⌜ now (marks .exit) ≡ markUnder (now (h .entry)) key (entryOf new) (now (marks .entry)) ⌝ }
+{
+    if new.kind < kind::OTHER_MAP {
+        if has_id(h, kept, form, marks, prefix, key, new) {
+            return Clash::TypedId;
+        }
+        return Clash::Free;
+    }
+    if new.kind == kind::OTHER_MAP {
+        return find_map_clash(h, kept, form, marks, prefix, key, new);
+    }
+    let mixed = has_key(h, kept, form, marks, prefix, key, kind::OTHER_MAP);
+    marks::meet_hash(marks, under_hash(key, new.kind));
+    if mixed {
+        return Clash::Mixed;
     }
     Clash::Free
 }
@@ -209,48 +286,40 @@ pub fn find_clash(
     h: &[u8],
     kept: &[u64],
     form: Form,
-    marks: &mut [u8],
+    marks: &mut [u64],
     prefix: &[u8],
     new: Entry,
 ) -> Clash
     ensures clash { λ r. ⌜ r ≡ clashFound (now (h .entry)) (entriesIn form (now (kept .entry))) (now (marks .entry)) (now (prefix .entry)) (entryOf new) ⌝ }
     ensures marks { λ _. ⌜ now (marks .exit) ≡ markEntry (now (h .entry)) (entryOf new) (now (marks .entry)) ⌝ }
 {
-    if new.kind < kind::OTHER_MAP {
-        if has_id(h, kept, form, marks, prefix, new) {
-            return Clash::TypedId;
-        }
-        return Clash::Free;
-    }
-    if new.kind == kind::OTHER_MAP {
-        return find_map_clash(h, kept, form, marks, prefix, new);
-    }
-    let mixed = has_key(h, kept, form, marks, prefix, kind::OTHER_MAP);
-    marks::meet(marks, new.kind, b"", false);
-    if mixed {
-        return Clash::Mixed;
-    }
-    Clash::Free
+    find_under(h, kept, form, marks, prefix, key_hash(h, new), new)
 }
 
-// What a new line may clash with is marked: an ID, or that there is a map or a text under some other key.
-fn mark_entry(h: &[u8], e: Entry, marks: &mut [u8])
-    ensures { λ _. ⌜ now (marks .exit) ≡ markEntry (now (h .entry)) (entryOf e) (now (marks .entry)) ⌝ }
+fn mark_under(h: &[u8], key: u64, e: Entry, marks: &mut [u64])
+    ensures { λ _. ⌜ now (marks .exit) ≡ markUnder (now (h .entry)) key (entryOf e) (now (marks .entry)) ⌝ }
 {
     if e.kind < kind::OTHER_MAP {
-        marks::meet(marks, e.kind, part::id_part(h, e), e.quoted);
+        marks::meet_hash(marks, id_hash(h, key, e));
         return;
     }
     if e.kind == kind::OTHER_MAP {
-        marks::meet(marks, e.kind, part::id_part(h, e), e.quoted);
-        marks::meet(marks, kind::OTHER_MAP, b"", false);
+        marks::meet_hash(marks, id_hash(h, key, e));
+        marks::meet_hash(marks, under_hash(key, e.kind));
         return;
     }
-    marks::meet(marks, e.kind, b"", false);
+    marks::meet_hash(marks, under_hash(key, e.kind));
+}
+
+// What a new line may clash with is marked: an ID, or that there is a map or a text under a key.
+fn mark_entry(h: &[u8], e: Entry, marks: &mut [u64])
+    ensures { λ _. ⌜ now (marks .exit) ≡ markEntry (now (h .entry)) (entryOf e) (now (marks .entry)) ⌝ }
+{
+    mark_under(h, key_hash(h, e), e, marks);
 }
 
 // Marks all entries of a table, so that a scan of them may be left out.
-pub fn mark_all(h: &[u8], kept: &[u64], form: Form, marks: &mut [u8])
+pub fn mark_all(h: &[u8], kept: &[u64], form: Form, marks: &mut [u64])
     ensures { λ _. ⌜ now (marks .exit) ≡ markAll (now (h .entry)) (entriesIn form (now (kept .entry))) (now (marks .entry)) ⌝ }
 {
     let mut k = 0;

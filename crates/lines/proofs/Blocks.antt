@@ -2,42 +2,23 @@
 use Prim.Native.Nat.{ℕ, _+_, _-_, _≤_, _<_}
 use native.Mathlib.Omega.{arith}
 use mathlib.Core.Path.{_≡_, refl, sym, ap, _∙_}
-use mathlib.Core.Bool.{Bool, true, false, _||_}
+use mathlib.Core.Bool.{Bool, true, false}
 use mathlib.Core.List.{[], _∷_, _++_}
-use lib.ListN.{length, getD, take, drop, length-append, length-drop, length-take, take-append-drop, drop-of-length-le}
+use lib.ListN.{length, getD, take, drop, length-append, length-drop, length-take, take-append-drop}
 use lib.Seq.{drop-drop}
 use borrow.Author.Tests.{eq-eqb, ne-eqb}
 use Rattle.values.specs.Bytes.{Bytes, LF, is, any, before}
-use Rattle.values.proofs.Tests.{or-l, or-r, or-on}
-use Rattle.values.proofs.Lists.{here, before-miss}
+use Rattle.values.proofs.Tests.{or-l, or-r}
+use Rattle.values.proofs.Lists.{before-miss}
 use Rattle.values.proofs.Scans.{Scanning, started, stopOf}
+use Rattle.values.proofs.Seeks.{Seeking, sought, seek-met, seek-unmet, all-seen}
 
--- a LF is among the bytes where it was found before k, or is among those from k on
-pub record Seeking (s : Bytes) (found : Bool) (k : ℕ) : Type 0 where
-  pub inside : k ≤ length s
-  pub same : any (is LF) s ≡ (found || any (is LF) (drop k s))
+module _ {s : Bytes} {found : Bool} {k : ℕ} (g : Seeking (is LF) s found k) (h : k < length s) where
+  pub met : getD s k 0 ≡ LF → Seeking (is LF) s true (k + 1)
+  met e = seek-met g h (sym (eq-eqb (getD s k 0) LF e)) refl
 
-pub sought : (s : Bytes) → Seeking s false 0
-sought s = record { inside = omega arith; same = refl }
-
-module _ {s : Bytes} {found : Bool} {k : ℕ} (g : Seeking s found k) (h : k < length s) where
-  turn : any (is LF) s ≡ (found || (is LF (getD s k 0) || any (is LF) (drop (k + 1) s)))
-  unfolding any
-  turn = g .same ∙ rw (here s k)
-
-  pub met : getD s k 0 ≡ LF → Seeking s true (k + 1)
-  met e = record { inside = omega arith; same = turn ∙ or-on found (rw (eq-eqb (getD s k 0) LF e)) }
-
-  pub unmet : (getD s k 0 ≡ LF → ⊥) → Seeking s found (k + 1)
-  unmet ne = record { inside = omega arith; same = turn ∙ rw (ne-eqb (getD s k 0) LF ne) }
-
-pub all-seen : {s : Bytes} {found : Bool} {k : ℕ} → Seeking s found k → length s ≤ k → found ≡ any (is LF) s
-unfolding any
-all-seen {s} {found} g h = sym (g .same ∙ rw (drop-of-length-le s h) (whole found))
-  where
-    whole : (q : Bool) → (q || false) ≡ q
-    whole true = refl
-    whole false = refl
+  pub unmet : (getD s k 0 ≡ LF → ⊥) → Seeking (is LF) s found (k + 1)
+  unmet ne = seek-unmet g h (sym (ne-eqb (getD s k 0) LF ne)) refl
 
 -- what answers the needs of `has_lf`
 pub ruleset seeks = (sought, met, unmet, all-seen)

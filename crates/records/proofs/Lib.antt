@@ -9,6 +9,7 @@ pub mod Tags
 pub mod Checks
 pub mod Walks
 pub mod Maps
+pub mod Distincts
 pub mod Fields
 pub mod Steps
 pub mod Loops

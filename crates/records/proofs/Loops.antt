@@ -22,7 +22,7 @@ use Rattle.rules.specs.Entry.{textNamed}
 use Rattle.records.specs.Formats.{versionOf}
 use Rattle.records.specs.Keys.{caseBytes, contextOf, versionIn, keyBytes}
 use Rattle.rules.specs.Spelling.{hasOdd}
-use Rattle.records.specs.Maps.{FieldsFrom, get, noSlots, closesAsMap, closesAt, bareAt, Held, Walk, tallied, scannedFrom, StepIs, StepMoves, ReadsField, WalksFields, fieldsAfter, ReadsFields}
+use Rattle.records.specs.Maps.{FieldsFrom, get, noSlots, closesAsMap, closesAt, bareAt, Distinct, Held, Walk, tallied, scannedFrom, StepIs, StepMoves, ReadsField, WalksFields, fieldsAfter, ReadsFields}
 use Rattle.records.specs.declared.file_format.FileFormat.{FileFormat}
 use Rattle.records.specs.declared.key.MapKey.{MapKey}
 use Rattle.records.specs.declared.key.MapContext.{MapContext}
@@ -36,7 +36,8 @@ use Rattle.records.specs.declared.map.FieldStep.{FieldStep}
 use Rattle.records.specs.declared.map.FieldStep.the-variants as step
 use Rattle.records.specs.declared.map.FieldsRead.{FieldsRead}
 use Rattle.records.specs.declared.map.FieldsRead.the-variants as fields
-use Rattle.records.proofs.Walks.{walk-scan}
+use Rattle.records.proofs.Walks.{walk-scan, few-fields}
+use Rattle.records.proofs.Distincts.{none-distinct}
 
 no-slot : (t : Tag) → get t noSlots ≡ slot.Empty
 no-slot Id = refl
@@ -53,27 +54,27 @@ none-held : (v : Version) (k : Bytes) (start : ℕ) → Held v k start [] noSlot
 unfolding textNamed hasOdd
 none-held v k start = record { each = λ t e i. no-slot t; plainly = refl; spelling = refl }
 
--- fields stand one after the other, so that there are no more than bytes
-few-fields : (m : Bool) (s : Bytes) (at : ℕ) (fs : List Field) (upto : ℕ) → FieldsFrom m s at fs upto → at + length fs ≤ upto
-few-fields m s at [] upto h = omega (arith, h)
-few-fields m s at (f ∷ fs) upto h = let d = few-fields m s (at + length (writtenField f) + 1) fs upto (h .1) in omega (arith, d)
-
--- the fields before the cursor, and the number of the one at it
-pub record Walking (x : MapContext) (s : Bytes) (at : ℕ) (slots : Slots) (fields : ℕ) : Type 0 where
+-- the fields before the cursor, and the number of the one at it; no name stands twice before d
+pub record Walking (x : MapContext) (s : Bytes) (at : ℕ) (slots : Slots) (fields d : ℕ) : Type 0 where
+  pub known : Distinct x s d
   pub before : List Field
   pub walk : Walk x s before at slots
   pub count : fields ≡ length before + 1
 
-pub walk-start : (x : MapContext) (s : Bytes) {slots : Slots} → slots ≡ noSlots → Walking x s (x .start) slots 1
+pub walk-start : (x : MapContext) (s : Bytes) {slots : Slots} → slots ≡ noSlots → Walking x s (x .start) slots 1 0
 unfolding checkFields
-walk-start x s e = record { before = []; walk = record { fields = refl; fine = refl; held = rw e (none-held (versionIn x) (keyBytes x) (x .start)) }; count = refl }
+walk-start x s e = record { known = none-distinct x s; before = []; walk = record { fields = refl; fine = refl; held = rw e (none-held (versionIn x) (keyBytes x) (x .start)) }; count = refl }
 
-module _ {x : MapContext} {s : Bytes} {at : ℕ} {slots : Slots} {n : ℕ} (g : Walking x s at slots n) {r : FieldStep} (a : ReadsField x s at slots r) where
+module _ {x : MapContext} {s : Bytes} {at : ℕ} {slots : Slots} {n d : ℕ} (g : Walking x s at slots n d) {r : FieldStep} (a : ReadsField x s at slots r) where
   stepped : {y : FieldStep} → r ≡ y → StepIs x s (g .before) at y
   stepped e = subst (StepIs x s (g .before) at) e (a .is (g .before) (g .walk))
 
-  pub walk-next : {d : Cursor} {kept : Slots} → r ≡ step.Next d kept → Walking x s (d .at) kept (n + 1)
-  walk-next e = let y = stepped e in record { before = g .before ++ y .0 ∷ []; walk = y .1; count = ap (_+ 1) (g .count ∙ sym (length-append (g .before) (y .0 ∷ []))) }
+  -- the names before another place were found to differ
+  pub walk-found : {c : Cursor} {kept : Slots} → r ≡ step.Next c kept → {i : ℕ} → Distinct x s i → Walking x s (c .at) kept (n + 1) i
+  walk-found e k = let y = stepped e in record { known = k; before = g .before ++ y .0 ∷ []; walk = y .1; count = ap (_+ 1) (g .count ∙ sym (length-append (g .before) (y .0 ∷ []))) }
+
+  pub walk-next : {c : Cursor} {kept : Slots} → r ≡ step.Next c kept → Walking x s (c .at) kept (n + 1) d
+  walk-next e = walk-found e (g .known)
 
   pub walk-counts : length s * 1 < 2 ^ 63 → {d : Cursor} {kept : Slots} → r ≡ step.Next d kept → Fits w64 (n + 1)
   walk-counts few e =
@@ -101,7 +102,10 @@ module _ {x : MapContext} {s : Bytes} {at : ℕ} {slots : Slots} {n : ℕ} (g : 
         rw (z .2, w) (rw (y .2), y .1, ap₂ tallied (y .1 .spelling) c);
   }
 
-pub ruleset walks = (walk-start, walk-next, walk-counts, walk-less, walk-refused, walk-last)
+pub walk-known : {x : MapContext} {s : Bytes} {at : ℕ} {slots : Slots} {n d : ℕ} → Walking x s at slots n d → Distinct x s d
+walk-known g = g .known
+
+pub ruleset walks = (walk-start, walk-known, walk-next, walk-found, walk-counts, walk-less, walk-refused, walk-last)
 
 -- No field at all
 

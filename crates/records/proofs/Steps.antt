@@ -1,5 +1,5 @@
 -- One field of a map: whether its name stood before, and what it adds. Assumes nothing.
-use Prim.Native.Nat.{ℕ, suc, _+_, _-_, _^_}
+use Prim.Native.Nat.{ℕ, suc, _+_, _-_, _^_, _<_}
 use native.Mathlib.Omega.{arith}
 use mathlib.Core.Path.{_≡_, refl, sym, ap, ap₂, subst, _∙_}
 use mathlib.Core.Bool.{Bool, true, false, _||_, _&&_, and-assoc, or-assoc, false≢true}
@@ -32,7 +32,7 @@ use Rattle.rules.proofs.Scans.{after-more, scan-none, scan-wrong, scan-done, sc
 use Rattle.records.specs.Refusals.{number}
 use Rattle.records.specs.Keys.{kindBy, versionIn, keyBytes}
 use Rattle.records.specs.Tags.{tagRow, tagName, isRequired, isKept}
-use Rattle.records.specs.Maps.{rawRefusal, checkNumber, OddIs, Checked, get, putSlot, slotted, FieldThen, FieldsFrom, keysOf, namesOf, HasKey, Held, allKept, Walk, Repeats, scanRefusal, scannedFrom, RefusedFrom, Taken, TakenIs, TakenMoves, TakesField, ReadsField, afterAt}
+use Rattle.records.specs.Maps.{rawRefusal, checkNumber, OddIs, Checked, get, putSlot, slotted, FieldThen, FieldsFrom, keysOf, namesOf, HasKey, Distinct, Held, allKept, Walk, Repeats, scanRefusal, scannedFrom, RefusedFrom, Taken, TakenIs, TakenMoves, TakesField, ReadsField, afterAt}
 use Rattle.records.specs.declared.key.MapContext.{MapContext}
 use Rattle.records.specs.declared.refusal.Refusal.{Refusal}
 use Rattle.records.specs.declared.refusal.Refusal.the-variants.{InvalidField, DuplicateTag, InvalidMap}
@@ -52,7 +52,7 @@ use Rattle.records.proofs.Refusals.{number-suc}
 use Rattle.records.proofs.Keys.{kind-by-case}
 use Rattle.records.proofs.Tags.{kept-name, kept-known, name-same, other-lineage, other-id}
 use Rattle.records.proofs.Checks.{value-checked, value-spelled}
-use Rattle.records.proofs.Walks.{value-refused, name-refused, field-fine, orElse, text-snoc, text-in, first-suc}
+use Rattle.records.proofs.Walks.{value-refused, name-refused, field-fine, orElse, text-snoc, text-in, first-suc, fields-snoc}
 
 -- Fields that are not kept
 
@@ -96,25 +96,31 @@ module _ (x : MapContext) (s : Bytes) (at : ℕ) (field : Bytes) (t : Tag) (slot
 
   pub kept-filled : q ≡ true → {y : Slot} → y ≡ get t slots → {z : Text} {g : ℕ} → y ≡ slot.Filled z g → Repeats x s at field t slots true
   kept-filled e g f = record {
-    is = λ before b w. let h = held-in e g before b w in sym (sym (h .1) ∙ filled-some (textNamed (versionIn x) (keyBytes x) (tagName t) (x .start) before) (sym (h .0) ∙ f));
+    is = λ before b w f′ rest rd kf. let h = held-in e g before b w in sym (sym (h .1) ∙ filled-some (textNamed (versionIn x) (keyBytes x) (tagName t) (x .start) before) (sym (h .0) ∙ f));
   }
 
   pub kept-empty : q ≡ true → {y : Slot} → y ≡ get t slots → y ≡ slot.Empty → Repeats x s at field t slots false
   kept-empty e g f = record {
-    is = λ before b w. let h = held-in e g before b w in sym (sym (h .1) ∙ rw (empty-none (textNamed (versionIn x) (keyBytes x) (tagName t) (x .start) before) (sym (h .0) ∙ f)));
+    is = λ before b w f′ rest rd kf. let h = held-in e g before b w in sym (sym (h .1) ∙ rw (empty-none (textNamed (versionIn x) (keyBytes x) (tagName t) (x .start) before) (sym (h .0) ∙ f)));
   }
 
   pub looked-for : q ≡ false → {r : Bool} → HasKey (x .brackets) s (x .start) at field r → Repeats x s at field t slots r
-  looked-for e g = record { is = λ before b w. g .among before (w .fields) ∙ other-keys (versionIn x) (keyBytes x) field t b (sym a ∙ e) before }
+  looked-for e g = record { is = λ before b w f′ rest rd kf. g .among before (w .fields) ∙ other-keys (versionIn x) (keyBytes x) field t b (sym a ∙ e) before }
 
   pub all-kept : q ≡ false → slots .plain ≡ true → Repeats x s at field t slots false
   all-kept e p = record {
-    is = λ before b w.
+    is = λ before b w f′ rest rd kf.
         let i = sym a ∙ e in
         sym (sym (other-keys (versionIn x) (keyBytes x) field t b i before) ∙ unkept-key (versionIn x) (keyBytes x) field t b i before (sym (w .held .plainly) ∙ p));
   }
 
-pub ruleset repeats = (kept-filled, kept-empty, looked-for, all-kept)
+  pub known-apart : q ≡ false → {d : ℕ} → Distinct x s d → at < d → Repeats x s at field t slots false
+  known-apart e k l = record {
+    is = λ before b w f′ rest rd kf.
+        sym (sym (other-keys (versionIn x) (keyBytes x) field t b (sym a ∙ e) before) ∙ ap (λ (y : Bytes). isIn y (keysOf before)) kf ∙ k .apart before at (w .fields) f′ rest rd l);
+  }
+
+pub ruleset repeats = (kept-filled, kept-empty, looked-for, all-kept, known-apart)
 
 -- What a field adds to the texts that are kept
 
@@ -211,11 +217,6 @@ module _ (v : Version) (k : Bytes) (m : Bool) (s : Bytes) (start : ℕ) (before 
           rw (name-same v k (f .key) g tag u e i, q, text-snoc v k (tagName u) m s start before at f fields, textNamed, q)
           (held .each u e i ∙ ap slotted (sym (or-none (textNamed v k (tagName u) start before))))
 
-fields-snoc : (m : Bool) (s : Bytes) (start : ℕ) (before : List Field) (at : ℕ) (f : Field) → FieldsFrom m s start before at → FieldThen m s at f
-    → FieldsFrom m s start (before ++ f ∷ []) (at + length (writtenField f) + 1)
-fields-snoc m s start [] at f w h = rw w (h, refl)
-fields-snoc m s start (g ∷ gs) at f w h = (w .0, fields-snoc m s (start + length (writtenField g) + 1) gs at f (w .1) h)
-
 value-text : (q : Bool) (x : Bytes) {value : Value} → valueBy q x ≡ value → (x ≡ textOf value) × (q ≡ isQuoted value)
 value-text true x e = (ap textOf e, ap isQuoted e)
 value-text false x e = (ap textOf e, ap isQuoted e)
@@ -285,7 +286,7 @@ module _ (x : MapContext) (s : Bytes) (at : ℕ) (slots : Slots) {r : FieldRead}
       passes = refusal-is ∙ ap checkNumber u
 
       repeated : (before : List Field) → Walk x s before at slots → q ≡ isIn (nameOf (versionIn x) (keyBytes x) (f .key)) (namesOf (versionIn x) (keyBytes x) before)
-      repeated before l = rw key-is at (rep .is before d l)
+      repeated before l = rw key-is at (rep .is before d l f (drop (n .at) s) (told .read) key-is)
 
       pub field-repeated : q ≡ true → TakesField x s at slots (taken.Refused DuplicateTag)
       field-repeated h = record { moves = tt; is = λ before l. refused-at before (name-refused (versionIn x) (keyBytes x) before (l .fine) f passes (sym (repeated before l) ∙ h)) }

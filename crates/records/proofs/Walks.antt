@@ -1,5 +1,6 @@
 -- Fields one after the other: their checks, their texts and their scan. Assumes nothing.
 use Prim.Native.Nat.{ℕ, zero, suc, _+_, _≤_}
+use native.Mathlib.Omega.{arith}
 use mathlib.Core.Path.{_≡_, refl, sym, ap, _∙_}
 use mathlib.Core.Bool.{Bool, true, false, not, _||_}
 use mathlib.Core.List.{List, [], _∷_, _++_}
@@ -15,7 +16,7 @@ use Rattle.rules.specs.Known.{isIn, kindOf, nameOf}
 use Rattle.rules.specs.Map.{isSome, knownNamed, valueRefusal, checkFields, more, after, scan}
 use Rattle.rules.proofs.Scans.{scan-more}
 use Rattle.rules.specs.Entry.{textNamed}
-use Rattle.records.specs.Maps.{FieldsFrom, namesOf, scannedFrom}
+use Rattle.records.specs.Maps.{FieldThen, FieldsFrom, namesOf, scannedFrom}
 
 -- The first refusal
 
@@ -134,3 +135,13 @@ walk-scan m s start (f ∷ fs) at fuel w h =
   where
     comma : (t : Bytes) → after (44 ∷ t) ≡ more t
     comma t = refl
+
+-- fields stand one after the other, so that there are no more than bytes
+pub few-fields : (m : Bool) (s : Bytes) (at : ℕ) (fs : List Field) (upto : ℕ) → FieldsFrom m s at fs upto → at + length fs ≤ upto
+few-fields m s at [] upto h = omega (arith, h)
+few-fields m s at (f ∷ fs) upto h = let d = few-fields m s (at + length (writtenField f) + 1) fs upto (h .1) in omega (arith, d)
+
+pub fields-snoc : (m : Bool) (s : Bytes) (start : ℕ) (before : List Field) (at : ℕ) (f : Field) → FieldsFrom m s start before at → FieldThen m s at f
+    → FieldsFrom m s start (before ++ f ∷ []) (at + length (writtenField f) + 1)
+fields-snoc m s start [] at f w h = rw w (h, refl)
+fields-snoc m s start (g ∷ gs) at f w h = (w .0, fields-snoc m s (start + length (writtenField g) + 1) gs at f (w .1) h)

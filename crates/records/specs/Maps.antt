@@ -10,6 +10,7 @@ use Rattle.values.specs.Value.{meaning}
 use Rattle.values.specs.Integer.{u64Read}
 use Rattle.values.specs.Field.{Field, writtenField, readField}
 use Rattle.values.specs.Places.{cursorAt}
+use Rattle.values.specs.Marks.{isMarked}
 use Rattle.values.specs.declared.string.Text.{Text}
 use Rattle.rules.specs.Answer.{ok, refuse, unless, first, judged}
 use Rattle.rules.specs.Version.{Version}
@@ -17,6 +18,7 @@ use Rattle.rules.specs.Known.{Kind, Reads, KnownField, anyText, aNumber, aType,
 use Rattle.rules.specs.Reserved.{reservedPages}
 use Rattle.rules.specs.Map.{After, more, done, wrong, after, Scan, scan, readFields, isMeta, knownNamed, checkFields, valueNamed, misdeclared, readMap}
 use Rattle.rules.specs.Entry.{textNamed}
+use Rattle.rules.specs.Claims.{All}
 use Rattle.rules.specs.Spelling.{hasOdd}
 use Rattle.records.specs.Refusals.{number}
 use Rattle.records.specs.Keys.{caseBytes, versionIn, keyBytes}
@@ -142,6 +144,15 @@ keysOf fs = map (λ (f : Field). f .key) fs
 pub record HasKey (m : Bool) (s : Bytes) (start upto : ℕ) (key : Bytes) (r : Bool) : Type 0 where
   pub among : (fs : List Field) → FieldsFrom m s start fs upto → r ≡ isIn key (keysOf fs)
 
+-- a name was looked for among these fields, all of whose names are marked
+pub record NameKnown (x : MapContext) (s : Bytes) (ms : List ℕ) (at : ℕ) (name : Bytes) (r : Bool) : Type 0 where
+  pub among : (fs : List Field) → FieldsFrom (x .brackets) s (x .start) fs at → All (λ (f : Field). isMarked ms 0 (f .key) ≡ true) fs → r ≡ isIn name (keysOf fs)
+
+-- no field that begins before r has the key of an earlier one
+pub record Distinct (x : MapContext) (s : Bytes) (r : ℕ) : Type 0 where
+  pub apart : (before : List Field) (at : ℕ) → FieldsFrom (x .brackets) s (x .start) before at → (f : Field) (rest : Bytes) → readField (x .brackets) (drop at s) ≡ some (f, rest)
+      → at < r → isIn (f .key) (keysOf before) ≡ false
+
 -- the text of a field, and which name stood for the ID
 abbrev pub slotted : Option (Bytes × Text) → Slot
 slotted none = slot.Empty
@@ -172,9 +183,10 @@ pub record Walk (x : MapContext) (s : Bytes) (before : List Field) (at : ℕ) (s
   pub fine : checkFields (versionIn x) (keyBytes x) [] before ≡ 0
   pub held : Held (versionIn x) (keyBytes x) (x .start) before slots
 
--- whether a field of this name stood before
+-- whether a field of this name, which stands at this place, stood before
 pub record Repeats (x : MapContext) (s : Bytes) (at : ℕ) (field : Bytes) (t : Tag) (slots : Slots) (r : Bool) : Type 0 where
   pub is : (before : List Field) → tagRow t ≡ knownNamed (versionIn x) (keyBytes x) field → Walk x s before at slots
+      → (f : Field) (rest : Bytes) → readField (x .brackets) (drop at s) ≡ some (f, rest) → field ≡ f .key
       → r ≡ isIn (nameOf (versionIn x) (keyBytes x) field) (namesOf (versionIn x) (keyBytes x) before)
 
 -- the refusal of fields, and of what ended them

@@ -15,12 +15,14 @@ use values::field::FieldRead;
 use values::field::Separator;
 use values::integer;
 use values::integer::IntegerRead;
+use values::marks;
 use values::string::Text;
 ghost use mathlib.Core.Path.{_≡_};
 ghost use mathlib.Core.Bool.{false, _||_};
 ghost use lib.ListN.{drop};
 ghost use Rattle.values.specs.Integer.{u64Read};
 ghost use Rattle.values.specs.Value.{meaning};
+ghost use Rattle.values.specs.Marks.{mark};
 ghost use Rattle.rules.specs.Answer.{unless};
 ghost use Rattle.rules.specs.Known.{isIn, letters, alwaysMap};
 ghost use Rattle.rules.specs.Record.{looksMap};
@@ -30,7 +32,7 @@ ghost use Rattle.records.specs.Refusals.{number};
 ghost use Rattle.records.specs.Keys.{caseBytes, kindBy};
 ghost use Rattle.records.specs.Numbers.{isCount, lettersOf};
 ghost use Rattle.records.specs.Tags.{tagRow};
-ghost use Rattle.records.specs.Maps.{opensAt, closesAt, afterAt, Checked, rawRefusal, noSlots, get, putSlot, mixed, HasKey, Repeats, TakesField, ReadsField, WalksFields, bareAt, ReadsFields, OpensMap, Identified, Described, ParsesMap};
+ghost use Rattle.records.specs.Maps.{opensAt, closesAt, afterAt, Checked, rawRefusal, noSlots, get, putSlot, mixed, HasKey, NameKnown, Distinct, Repeats, TakesField, ReadsField, WalksFields, bareAt, ReadsFields, OpensMap, Identified, Described, ParsesMap};
 
 // A text that was read, and which name stood for the ID.
 pub enum Slot {
@@ -334,9 +336,71 @@ fn has_key(s: &[u8], start: usize, upto: usize, brackets: bool, key: &[u8]) -> b
     text.start < upto
 }
 
+// Whether a field before `at` has this name, where the marks of those don't tell it already; the name is marked.
+fn is_named(s: &[u8], map: MapContext, at: usize, name: &[u8], marks: &mut [u64]) -> bool
+    ensures named { λ r. ⌜ NameKnown map (now (s .entry)) (now (marks .entry)) at (now (name .entry)) r ⌝ }
+    ensures marks { λ _. ⌜ now (marks .exit) ≡ mark (now (marks .entry)) 0 (now (name .entry)) ⌝ }
+{
+    if !marks::meet(marks, 0, name, false) {
+        return false;
+    }
+    has_key(s, map.start, at, map.brackets, name)
+}
+
+// A place such that no field that begins before it has the name of an earlier one, whatever stands in `marks`.
+fn mark_fields(s: &[u8], map: MapContext, marks: &mut [u64]) -> usize
+    ensures { λ r. ⌜ Distinct map (now (s .entry)) r ⌝ }
+{
+    let mut c = Cursor { at: map.start };
+    loop {
+        let at = c.at;
+        let FieldRead::Field(equals, _, next) = c.split_field(s, map.brackets) else {
+            return at;
+        };
+        if is_named(s, map, at, bytes::part(s, at, equals), marks) {
+            return at;
+        }
+        let Separator::Comma(d) = next.consume_separator(s) else {
+            return next.at;
+        };
+        c = d;
+    }
+}
+
+fn mark_long(s: &[u8], map: MapContext) -> usize
+    ensures { λ r. ⌜ Distinct map (now (s .entry)) r ⌝ }
+{
+    let mut marks = [0u64; 32768];
+    mark_fields(s, map, &mut marks)
+}
+
+// The same, with marks of its own where none are lent. A function that calls itself is not made a part of its caller, whose stack would
+// hold the marks for each line.
+fn find_distinct(s: &[u8], map: MapContext, marks: &mut [u64]) -> usize
+    ensures { λ r. ⌜ Distinct map (now (s .entry)) r ⌝ }
+{
+    if 0 < marks.len() {
+        return mark_fields(s, map, marks);
+    }
+    if s.len() < 65536 {
+        let mut own = [0u64; 4096];
+        return find_distinct(s, map, &mut own);
+    }
+    mark_long(s, map)
+}
+
 // Whether a field of the same name stands before `at`: the kept ones are at hand, others are looked for, unless each
-// field before is kept.
-fn is_repeated(s: &[u8], map: MapContext, at: usize, field: &[u8], tag: Tag, slots: Slots) -> bool
+// field before is kept or the names before `distinct` are known to differ.
+fn is_repeated(
+    s: &[u8],
+    map: MapContext,
+    at: usize,
+    field: &[u8],
+    tag: Tag,
+    slots: Slots,
+    distinct: usize,
+) -> bool
+    requires { ⌜ Distinct map (now s) distinct ⌝ }
     ensures { λ r. ⌜ Repeats map (now (s .entry)) at (now (field .entry)) tag slots r ⌝ }
 {
     if tag.is_kept() {
@@ -349,6 +413,9 @@ fn is_repeated(s: &[u8], map: MapContext, at: usize, field: &[u8], tag: Tag, slo
     if plain {
         return false;
     }
+    if at < distinct {
+        return false;
+    }
     has_key(s, map.start, at, map.brackets, field)
 }
 
@@ -359,7 +426,8 @@ fn either(a: bool, b: bool) -> bool
 }
 
 // The field at the cursor: its tag, what is to be kept of it, whether a number up to it was not plainly spelled, and past it.
-fn take_field(s: &[u8], map: MapContext, c: Cursor, slots: Slots) -> FieldTaken
+fn take_field(s: &[u8], map: MapContext, c: Cursor, slots: Slots, distinct: usize) -> FieldTaken
+    requires { ⌜ Distinct map (now s) distinct ⌝ }
     ensures { λ r. ⌜ TakesField map (now (s .entry)) (c .at) slots r ⌝ }
 {
     let at = c.at;
@@ -374,20 +442,28 @@ fn take_field(s: &[u8], map: MapContext, c: Cursor, slots: Slots) -> FieldTaken
     match key.check_value(version, tag, value, text.quoted) {
         Check::Refused(x) => FieldTaken::Refused(x),
         Check::Passed(odd) => {
-            if is_repeated(s, map, at, field, tag, slots) {
+            if is_repeated(s, map, at, field, tag, slots, distinct) {
                 return FieldTaken::Refused(Refusal::DuplicateTag);
             }
-            let kept = Slot::Filled(text, tag::id_tag(field));
+            let kept = Slot::Filled(
+                Text {
+                    start: text.start,
+                    end: text.end,
+                    quoted: text.quoted,
+                },
+                tag::id_tag(field),
+            );
             FieldTaken::Field(tag, kept, either(slots.odd, odd), next)
         }
     }
 }
 
 // The same, and what follows it.
-fn read_field(s: &[u8], map: MapContext, c: Cursor, slots: Slots) -> FieldStep
+fn read_field(s: &[u8], map: MapContext, c: Cursor, slots: Slots, distinct: usize) -> FieldStep
+    requires { ⌜ Distinct map (now s) distinct ⌝ }
     ensures { λ r. ⌜ ReadsField map (now (s .entry)) (c .at) slots r ⌝ }
 {
-    match take_field(s, map, c, slots) {
+    match take_field(s, map, c, slots, distinct) {
         FieldTaken::Refused(x) => FieldStep::Refused(x),
         FieldTaken::Field(tag, slot, odd, next) => {
             let kept = slots.put(tag, slot, odd);
@@ -407,12 +483,18 @@ fn walk_fields(s: &[u8], map: MapContext) -> FieldsRead
     let mut c = Cursor { at: map.start };
     let mut slots = Slots::empty();
     let mut fields: usize = 1;
+    let mut distinct: usize = 0;
     loop {
-        match read_field(s, map, c, slots) {
+        match read_field(s, map, c, slots, distinct) {
             FieldStep::Next(d, kept) => {
                 c = d;
                 slots = kept;
                 fields += 1;
+                // Few fields are held against all before them in less time than it takes to clear marks.
+                if fields == 16 {
+                    let mut none = [0u64; 0];
+                    distinct = find_distinct(s, map, &mut none);
+                }
             }
             FieldStep::Last(kept) => {
                 let odd = kept.odd;
@@ -478,7 +560,18 @@ pub fn parse_identified(s: &[u8], c: Cursor, key: MapKey, version: FileFormat) -
             let Slot::Filled(id, tag) = named else {
                 return MapRead::Refused(Refusal::MissingId);
             };
-            MapRead::Map(id, tag, tally)
+            MapRead::Map(
+                Text {
+                    start: id.start,
+                    end: id.end,
+                    quoted: id.quoted,
+                },
+                tag,
+                Tally {
+                    odd: tally.odd,
+                    fields: tally.fields,
+                },
+            )
         }
     }
 }
@@ -498,7 +591,18 @@ pub fn parse_described(s: &[u8], c: Cursor, key: MapKey, version: FileFormat) ->
             let Slot::Filled(_, _) = described else {
                 return MapRead::Refused(Refusal::MissingDescription);
             };
-            MapRead::Map(id, tag, tally)
+            MapRead::Map(
+                Text {
+                    start: id.start,
+                    end: id.end,
+                    quoted: id.quoted,
+                },
+                tag,
+                Tally {
+                    odd: tally.odd,
+                    fields: tally.fields,
+                },
+            )
         }
     }
 }

@@ -87,7 +87,10 @@ fn parse_version(s: &[u8], c: Cursor) -> RecordRead
     let FileFormatRead::Version(version) = file_format::parse_file_format(value) else {
         return RecordRead::Refused(Refusal::InvalidFileFormat);
     };
-    RecordRead::FileFormat(version)
+    RecordRead::FileFormat(FileFormat {
+        major: version.major,
+        minor: version.minor,
+    })
 }
 
 pub fn parse_record(s: &[u8], version: FileFormat) -> RecordRead
@@ -102,9 +105,16 @@ pub fn parse_record(s: &[u8], version: FileFormat) -> RecordRead
             ValueParsed::Map(id, tag, tally) => RecordRead::Map(MapRecord {
                 key,
                 value: next.at,
-                id,
+                id: Text {
+                    start: id.start,
+                    end: id.end,
+                    quoted: id.quoted,
+                },
                 tag,
-                tally,
+                tally: Tally {
+                    odd: tally.odd,
+                    fields: tally.fields,
+                },
             }),
             ValueParsed::Text => RecordRead::Text(next.at),
             ValueParsed::Refused(x) => RecordRead::Refused(x),

@@ -4,9 +4,11 @@ use crate::key::MapKey;
 use crate::map;
 use crate::map::FieldsRead;
 use crate::map::Slot;
+use crate::map::Tally;
 use crate::map::TypedRead;
 use crate::refusal::Refusal;
 use values::cursor::Cursor;
+use values::string::Text;
 ghost use Rattle.records.specs.Formats.{versionOf};
 ghost use Rattle.records.specs.Maps.{Full, ParsesTyped};
 
@@ -32,7 +34,28 @@ pub fn parse_typed(s: &[u8], c: Cursor, key: MapKey, version: FileFormat) -> Typ
             let Slot::Filled(_, _) = described else {
                 return TypedRead::Refused(Refusal::MissingDescription);
             };
-            TypedRead::Typed(id, tag, number, kind, tally)
+            TypedRead::Typed(
+                Text {
+                    start: id.start,
+                    end: id.end,
+                    quoted: id.quoted,
+                },
+                tag,
+                Text {
+                    start: number.start,
+                    end: number.end,
+                    quoted: number.quoted,
+                },
+                Text {
+                    start: kind.start,
+                    end: kind.end,
+                    quoted: kind.quoted,
+                },
+                Tally {
+                    odd: tally.odd,
+                    fields: tally.fields,
+                },
+            )
         }
     }
 }

@@ -71,7 +71,18 @@ fn parse_typed_value(s: &[u8], c: Cursor, key: MapKey, version: FileFormat) -> M
             if !validate_definition(s, version, key, id, number, kind) {
                 return MapRead::Refused(Refusal::DefinitionMismatch);
             }
-            MapRead::Map(id, tag, tally)
+            MapRead::Map(
+                Text {
+                    start: id.start,
+                    end: id.end,
+                    quoted: id.quoted,
+                },
+                tag,
+                Tally {
+                    odd: tally.odd,
+                    fields: tally.fields,
+                },
+            )
         }
     }
 }
@@ -111,7 +122,6 @@ pub fn parse_value(s: &[u8], c: Cursor, key: MapKey, version: FileFormat) -> Val
         return ValueParsed::Text;
     }
     match parse_map_value(s, c, key, version) {
-        // Field by field: a copy of the whole text drags its padding along, and reading that back stalls the processor.
         MapRead::Map(id, tag, tally) => ValueParsed::Map(
             Text {
                 start: id.start,
@@ -119,7 +129,10 @@ pub fn parse_value(s: &[u8], c: Cursor, key: MapKey, version: FileFormat) -> Val
                 quoted: id.quoted,
             },
             tag,
-            tally,
+            Tally {
+                odd: tally.odd,
+                fields: tally.fields,
+            },
         ),
         MapRead::Refused(x) => ValueParsed::Refused(x),
     }

@@ -43,7 +43,7 @@ enum Walked {
 }
 
 // All lines, whatever stands in `marks` before. What does not fit into the output is counted and not written.
-fn walk(sam: &[u8], marks: &mut [u8], out: &mut [u8]) -> Walked
+fn walk(sam: &[u8], marks: &mut [u64], out: &mut [u8]) -> Walked
     ensures { λ r. ⌜ Walks (now (sam .entry)) (now (out .entry)) r (now (out .exit)) ⌝ }
 {
     let mut at: usize = 0;
@@ -74,10 +74,10 @@ fn walk_marked(sam: &[u8], out: &mut [u8]) -> Walked
     ensures { λ r. ⌜ Walks (now (sam .entry)) (now (out .entry)) r (now (out .exit)) ⌝ }
 {
     if sam.len() < 8192 {
-        let mut marks = [0u8; 4096];
+        let mut marks = [0u64; 512];
         return walk(sam, &mut marks, out);
     }
-    let mut marks = [0u8; 65536];
+    let mut marks = [0u64; 8192];
     walk(sam, &mut marks, out)
 }
 

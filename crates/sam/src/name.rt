@@ -29,7 +29,7 @@ fn is_among(earlier: &[u8], name: &[u8]) -> bool
 }
 
 // The same, where the marks don't tell it already; the name is marked.
-fn is_repeated(earlier: &[u8], marks: &mut [u8], name: &[u8]) -> bool
+fn is_repeated(earlier: &[u8], marks: &mut [u64], name: &[u8]) -> bool
     ensures repeated { λ r. ⌜ r ≡ isRepeated (now (earlier .entry)) (now (marks .entry)) (now (name .entry)) ⌝ }
     ensures marks { λ _. ⌜ now (marks .exit) ≡ markTwice (now (marks .entry)) (now (name .entry)) ⌝ }
 {
@@ -45,7 +45,7 @@ fn is_repeated(earlier: &[u8], marks: &mut [u8], name: &[u8]) -> bool
 }
 
 // An `@SQ` line beside the lines before it, whose names are marked.
-pub fn read_named(earlier: &[u8], marks: &mut [u8], line: &[u8]) -> SequenceRead
+pub fn read_named(earlier: &[u8], marks: &mut [u64], line: &[u8]) -> SequenceRead
     ensures { λ r. ⌜ ReadsNamed (now (earlier .entry)) (now (marks .entry)) (now (line .entry)) r (now (marks .exit)) ⌝ }
 {
     match sequence::read_sequence(line) {

@@ -1,16 +1,14 @@
 -- The hash: a turn of its loop on plain values. Assumes nothing.
-use Prim.Native.Nat.{ℕ, _-_, _*_, _^_, _<_}
+use Prim.Native.Nat.{ℕ, _+_, _-_, _*_, _^_, _<_}
 use native.Mathlib.Omega.{arith}
 use native.Mathlib.Nat.{mul-le-mul, mod-lt}
-use mathlib.Core.Path.{_≡_, sym, _∙_}
+use mathlib.Core.Path.{_≡_, refl, sym, _∙_}
 use mathlib.Core.Bool.{Bool}
-use mathlib.Core.List.{[], _∷_}
-use lib.Bits.{bitXor}
-use lib.ListN.{drop}
+use lib.ListN.{length, drop}
 use Rattle.values.specs.Bytes.{Bytes}
 use Rattle.values.specs.Value.{meaning}
 use Rattle.values.specs.Places.{unescapedAt}
-use Rattle.values.specs.Hash.{offsetBasis, prime, hashByte, hashed, hashOf}
+use Rattle.values.specs.Hash.{offsetBasis, hashByte, hashed, hashOf, wideBasis, wideStep, wideFrom, wideOf}
 use Rattle.values.specs.declared.cursor.Cursor.{Cursor}
 use Rattle.values.specs.declared.cursor.ByteRead.{ByteRead}
 use Rattle.values.specs.declared.cursor.ByteRead.the-variants.{Byte, End}
@@ -33,14 +31,36 @@ module _ {kind : ℕ} {text : Bytes} {quoted : Bool} {hash i : ℕ} (g : Hashing
   unfolding hashed
   hash-next e h = record { still = g .still ∙ rw (told-byte quoted text i a e, h) }
 
-hashed-small : (hash : ℕ) (s : Bytes) → hash < 2 ^ 32 → hashed hash s < 2 ^ 32
-unfolding hashed hashByte
-hashed-small hash [] h = h
-hashed-small hash (b ∷ s) h = hashed-small (hashByte hash b) s (mod-lt (bitXor hash b * prime) (omega arith))
+-- The hash of 64 bits
 
-pub hash-small : (kind : ℕ) (text : Bytes) → hashOf kind text < 2 ^ 32
-unfolding hashOf
-hash-small kind text = hashed-small offsetBasis (kind ∷ text) (omega arith)
+pub record Widening (start : ℕ) (text : Bytes) (quoted : Bool) (hash i : ℕ) : Type 0 where
+  pub still : wideFrom start (meaning quoted text) ≡ wideFrom hash (meaning quoted (drop i text))
+
+pub wide-start : (start : ℕ) (text : Bytes) (quoted : Bool) → Widening start text quoted start 0
+wide-start start text quoted = record { still = refl }
+
+module _ {start : ℕ} {text : Bytes} {quoted : Bool} {hash i : ℕ} (g : Widening start text quoted hash i) {r : ByteRead} (a : r ≡ unescapedAt quoted text i) where
+  pub wide-end : r ≡ End → hash ≡ wideFrom start (meaning quoted text)
+  unfolding wideFrom
+  wide-end e = sym (g .still ∙ rw (told-end quoted text i a e))
+
+  module _ {b : ℕ} {c : Cursor} (e : r ≡ Byte b c) {r′ : ByteRead} (a′ : r′ ≡ unescapedAt quoted text (c .at)) where
+    pub wide-one : r′ ≡ End → {hash′ : ℕ} → hash′ ≡ wideStep hash b → hash′ ≡ wideFrom start (meaning quoted text)
+    unfolding wideFrom
+    wide-one e′ h = h ∙ sym (g .still ∙ rw (told-byte quoted text i a e, told-end quoted text (c .at) a′ e′))
+
+    pub wide-two : {b′ : ℕ} {c′ : Cursor} → r′ ≡ Byte b′ c′ → {hash′ : ℕ} → hash′ ≡ wideStep hash (b * 256 + b′) → Widening start text quoted hash′ (c′ .at)
+    unfolding wideFrom
+    wide-two e′ h = record { still = g .still ∙ rw (told-byte quoted text i a e, told-byte quoted text (c .at) a′ e′, h) }
+
+    pub wide-less : {b′ : ℕ} {c′ : Cursor} → r′ ≡ Byte b′ c′ → length text - c′ .at < length text - i
+    wide-less e′ = omega (arith, told-less quoted text i a e, told-less quoted text (c .at) a′ e′)
+
+pub wide-kind : (kind : ℕ) (text : Bytes) {start hash : ℕ} → start ≡ wideStep wideBasis kind → hash ≡ wideFrom start text → hash ≡ wideOf kind text
+unfolding wideOf
+wide-kind kind text e h = h ∙ rw e
+
+pub ruleset wides = (wide-start, wide-end, wide-one, wide-two, wide-less)
 
 -- the product of two numbers of 32 bits has 64
 pub product-fits : (a b : ℕ) → a < 2 ^ 32 → b < 2 ^ 32 → a * b < 2 ^ 64

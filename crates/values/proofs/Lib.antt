@@ -10,6 +10,7 @@ pub mod Integers
 pub mod Decimals
 pub mod Outputs
 pub mod Scans
+pub mod Seeks
 pub mod Cursors
 pub mod Meanings
 pub mod Hashes

@@ -1,22 +1,22 @@
--- Marks: a byte and its bit, and what stays marked. Assumes nothing.
+-- Marks: a word and its bits, and what stays marked. Assumes nothing.
 use Prim.Native.Nat.{ℕ, _-_, _*_, _/_, _%_, _^_, _≤_, _<_, min, max}
 use native.Mathlib.Omega.{arith}
 use native.Mathlib.Nat.{mod-lt, mul-le-mul, div-lt-iff-lt-mul, min-le-left, min-eq-left, min-eq-right}
-use mathlib.Core.Path.{_≡_, refl}
-use mathlib.Core.Bool.{Bool, true, false, not, _&&_}
-use mathlib.Core.List.{[], _∷_}
+use mathlib.Core.Path.{_≡_, refl, _∙_}
+use mathlib.Core.Bool.{Bool, true, false, _&&_}
+use mathlib.Core.List.{List, [], _∷_}
 use lib.Arith.{bin-ind}
-use lib.Bits.{bitAnd, bitOr, and-step, or-step, or-comm, and-self}
+use lib.Bits.{bitAnd, bitOr, and-step, or-step, or-comm, and-self, and-le-r}
 use lib.Dec.{eqb}
 use lib.ListN.{length, getD, set, length-set}
-use lib.Pow.{pow-pos, pow-lt}
+use lib.Pow.{pow-lt}
 use lib.Seq.{getD-set-same, getD-set-other}
-use borrow.Author.Tests.{ne-eqb, eqb-true, eqb-false}
+use borrow.Author.Tests.{eq-eqb, ne-eqb, eqb-true, eqb-false}
 use Rattle.values.specs.Bytes.{Bytes}
-use Rattle.values.specs.Hash.{hashOf}
-use Rattle.values.specs.Marks.{markByte, markBit, hasBit, isMarked, setBit, mark}
+use Rattle.values.specs.Hash.{wideStep, wideOf}
+use Rattle.values.specs.Marks.{ended, markWord, markBit, markBits, hasBits, isMet, setBits, meet, isMarked, mark}
 use Rattle.values.proofs.Tests.{pass, fail, test}
-use Rattle.values.proofs.Hashes.{hash-small, product-fits}
+use Rattle.values.proofs.Hashes.{product-fits}
 
 -- Bits: what `or` adds takes none away
 
@@ -30,119 +30,152 @@ bits-kept = bin-ind (λ (x : ℕ). (y z : ℕ) → bitAnd x z ≤ bitAnd (bitOr 
         let odd : bitOr x y % 2 ≡ max (x % 2) (y % 2) = omega arith in
         rw (and-step x z, and-step (bitOr x y) z, half, odd) (omega (arith, ih (y / 2) (z / 2)))
 
-bit-set : (byte bit : ℕ) → 0 < bit → hasBit (bitOr byte bit) bit ≡ true
-unfolding hasBit
-bit-set byte bit h = rw (ne-eqb (bitAnd (bitOr byte bit) bit) 0 (λ e. omega (arith, rw (and-self bit, or-comm bit byte, e) at (bits-kept bit byte bit))))
+-- what has all bits of a mask gives the mask back
+bits-had : (x z : ℕ) → z ≤ bitAnd x z → hasBits x z ≡ true
+unfolding hasBits
+bits-had x z h = eq-eqb (bitAnd x z) z (omega (arith, and-le-r x z))
 
-bit-kept : (byte bit other : ℕ) → hasBit byte bit ≡ true → hasBit (bitOr byte other) bit ≡ true
-unfolding hasBit
-bit-kept byte bit other a = elim (test (eqb (bitAnd byte bit) 0)) [
-  | pass e ↦ let z : not true ≡ true = rw e at a in cc
-  | fail e ↦ rw (ne-eqb (bitAnd (bitOr byte other) bit) 0 (λ z. eqb-false (bitAnd byte bit) 0 e (omega (arith, bits-kept byte other bit))))
-]
+bits-set : (word bits : ℕ) → hasBits (bitOr word bits) bits ≡ true
+bits-set word bits = bits-had (bitOr word bits) bits (omega (arith, rw (and-self bits, or-comm bits word) at (bits-kept bits word bits)))
 
-bit-some : (hash : ℕ) → 0 < markBit hash
-unfolding markBit
-bit-some hash = pow-pos (hash % 8)
+bits-stay : (word bits other : ℕ) → hasBits word bits ≡ true → hasBits (bitOr word other) bits ≡ true
+unfolding hasBits
+bits-stay word bits other a = bits-had (bitOr word other) bits (omega (arith, eqb-true (bitAnd word bits) bits a, bits-kept word other bits))
 
--- A byte of the marks
+-- A word of the marks
 
-pub byte-inside : (n hash : ℕ) → 0 < n → hash < 2 ^ 32 → markByte n hash < n
-unfolding markByte
-byte-inside n hash h l =
+pub word-inside : (n hash : ℕ) → 0 < n → markWord n hash < n
+unfolding markWord
+word-inside n hash h =
     div-lt-iff-lt-mul {k = 2 ^ 32} (omega arith) .1
-    (omega (arith, mul-le-mul {n₁ = hash} {m₁ = min n (2 ^ 32 - 1)} {n₂ = 2 ^ 32 - 1} {m₂ = n} (omega arith) (min-le-left n (2 ^ 32 - 1))))
+    (omega (arith, mul-le-mul {n₁ = hash % 2 ^ 32} {m₁ = min n (2 ^ 32 - 1)} {n₂ = 2 ^ 32 - 1} {m₂ = n} (omega arith) (min-le-left n (2 ^ 32 - 1))))
 
--- what answers the needs of `byte_of` and `bit_of`
+-- what answers the needs of `word_of` and `bit_of`
 module _ (n hash : ℕ) where
-  pub byte-of-few : n < 2 ^ 32 - 1 → hash * n / 2 ^ 32 ≡ markByte n hash
-  unfolding markByte
-  byte-of-few h = rw (min-eq-left {n = n} {m = 2 ^ 32 - 1} (omega arith))
+  pub word-of-few : n < 2 ^ 32 - 1 → hash % 2 ^ 32 * n / 2 ^ 32 ≡ markWord n hash
+  unfolding markWord
+  word-of-few h = rw (min-eq-left {n = n} {m = 2 ^ 32 - 1} (omega arith))
 
-  pub byte-of-many : 2 ^ 32 - 1 ≤ n → hash * (2 ^ 32 - 1) / 2 ^ 32 ≡ markByte n hash
-  unfolding markByte
-  byte-of-many h = rw (min-eq-right {n = 2 ^ 32 - 1} {m = n} h)
+  pub word-of-many : 2 ^ 32 - 1 ≤ n → hash % 2 ^ 32 * (2 ^ 32 - 1) / 2 ^ 32 ≡ markWord n hash
+  unfolding markWord
+  word-of-many h = rw (min-eq-right {n = 2 ^ 32 - 1} {m = n} h)
 
-  pub few-fit : hash < 2 ^ 32 → n < 2 ^ 32 - 1 → hash * n < 2 ^ 64
-  few-fit l h = product-fits hash n l (omega arith)
+  pub few-fit : n < 2 ^ 32 - 1 → hash % 2 ^ 32 * n < 2 ^ 64
+  few-fit h = product-fits (hash % 2 ^ 32) n (mod-lt hash (omega arith)) (omega arith)
 
-pub ruleset bytes = (byte-of-few, byte-of-many, few-fit)
+pub ruleset words = (word-of-few, word-of-many, few-fit)
 
-pub bit-is : (hash : ℕ) → 1 * 2 ^ (hash % 8) % 256 ≡ markBit hash
+pub bit-is : (n : ℕ) → 1 * 2 ^ (n % 64) % 2 ^ 64 ≡ markBit n
 unfolding markBit
-bit-is hash = omega (arith, pow-lt {i = hash % 8} {j = 8} (mod-lt hash (omega arith)))
+bit-is n = omega (arith, pow-lt {i = n % 64} {j = 64} (mod-lt n (omega arith)))
 
-module _ (ms : Bytes) (kind : ℕ) (text : Bytes) where
-  abbrev hash : ℕ
-  hash = hashOf kind text
+pub bits-are : (hash : ℕ) {a b c d : ℕ} → a ≡ markBit (hash / 2 ^ 32) → b ≡ markBit (hash / 2 ^ 38) → c ≡ markBit (hash / 2 ^ 44) → d ≡ markBit (hash / 2 ^ 50)
+    → bitOr (bitOr (bitOr a b) c) d ≡ markBits hash
+unfolding markBits
+bits-are hash ea eb ec ed = rw (ea, eb, ec, ed)
 
-  pub none-marked : length ms ≡ 0 → true ≡ isMarked ms kind text
-  unfolding isMarked
-  none-marked e = rw e
+module _ (ms : List ℕ) (hash : ℕ) where
+  pub none-met : length ms ≡ 0 → true ≡ isMet ms hash
+  unfolding isMet
+  none-met e = rw e
 
-  pub none-to-mark : length ms ≡ 0 → ms ≡ mark ms kind text
-  unfolding mark
-  none-to-mark e = go ms e
+  pub none-to-meet : length ms ≡ 0 → ms ≡ meet ms hash
+  unfolding meet
+  none-to-meet e = go ms e
     where
-      go : (ns : Bytes) → length ns ≡ 0 → ns ≡ setBit ns (markByte (length ns) hash) (markBit hash)
+      go : (ns : List ℕ) → length ns ≡ 0 → ns ≡ setBits ns (markWord (length ns) (ended hash)) (markBits (ended hash))
       go [] e = refl
       go (n ∷ ns) e = absurd (omega arith)
 
   -- what the code computed
-  module _ {h at : ℕ} (eh : h ≡ hash) (ea : at ≡ markByte (length ms) h) where
-    pub mark-inside : (length ms ≡ 0 → ⊥) → at < length ms
-    mark-inside some = rw (ea, eh) (byte-inside (length ms) hash (omega (arith, some)) (hash-small kind text))
+  module _ {end at : ℕ} (ee : end ≡ wideStep hash 0) (ea : at ≡ markWord (length ms) end) where
+    pub word-here : (length ms ≡ 0 → ⊥) → at < length ms
+    word-here some = rw ea (word-inside (length ms) end (omega (arith, some)))
 
-    module _ {bit : ℕ} (eb : bit ≡ markBit h) where
-      pub looked-up : (length ms ≡ 0 → ⊥) → not (eqb (bitAnd (getD ms at 0) bit) 0) ≡ isMarked ms kind text
-      unfolding isMarked hasBit
-      looked-up some = rw (ea, eb, eh, ne-eqb (length ms) 0 some)
+    module _ {bits : ℕ} (eb : bits ≡ markBits end) where
+      pub looked-up : (length ms ≡ 0 → ⊥) → eqb (bitAnd (getD ms at 0) bits) bits ≡ isMet ms hash
+      unfolding isMet hasBits
+      looked-up some = rw (ea, eb, ee, ne-eqb (length ms) 0 some)
 
-      pub marked : set ms at (bitOr (getD ms at 0) bit) ≡ mark ms kind text
-      unfolding mark
-      marked = rw (ea, eb, eh)
+      pub met-is : set ms at (bitOr (getD ms at 0) bits) ≡ meet ms hash
+      unfolding meet
+      met-is = rw (ea, eb, ee)
 
-pub ruleset looks = (none-marked, none-to-mark, mark-inside, looked-up, marked)
+pub ruleset looks = (none-met, none-to-meet, word-here, looked-up, met-is)
+
+-- by a kind and a text
+module _ (ms : List ℕ) (kind : ℕ) (text : Bytes) where
+  pub none-marked : length ms ≡ 0 → true ≡ isMarked ms kind text
+  unfolding isMarked
+  none-marked e = none-met ms (wideOf kind text) e
+
+  pub none-to-mark : length ms ≡ 0 → ms ≡ mark ms kind text
+  unfolding mark
+  none-to-mark e = none-to-meet ms (wideOf kind text) e
+
+module _ (ms : List ℕ) (kind : ℕ) (text : Bytes) {hash : ℕ} (eh : hash ≡ wideOf kind text) where
+  pub marked-is : {q : Bool} → q ≡ isMet ms hash → q ≡ isMarked ms kind text
+  unfolding isMarked
+  marked-is e = e ∙ rw eh
+
+  pub mark-is : {ns : List ℕ} → ns ≡ meet ms hash → ns ≡ mark ms kind text
+  unfolding mark
+  mark-is e = e ∙ rw eh
+
+pub ruleset texts = (none-marked, none-to-mark, marked-is, mark-is)
 
 -- What is marked stays so
 
-pub mark-length : (ms : Bytes) (kind : ℕ) (text : Bytes) → length (mark ms kind text) ≡ length ms
-unfolding mark
-mark-length ms kind text = length-set ms _ _
+pub meet-length : (ms : List ℕ) (hash : ℕ) → length (meet ms hash) ≡ length ms
+unfolding meet
+meet-length ms hash = length-set ms _ _
 
 -- at is a place of the marks
-module _ (ms : Bytes) (at bit : ℕ) where
-  own-bit : at < length ms → 0 < bit → hasBit (getD (setBit ms at bit) at 0) bit ≡ true
-  own-bit l h = rw (getD-set-same ms at (bitOr (getD ms at 0) bit) 0 l) (bit-set (getD ms at 0) bit h)
+module _ (ms : List ℕ) (at bits : ℕ) where
+  own-bits : at < length ms → hasBits (getD (setBits ms at bits) at 0) bits ≡ true
+  own-bits l = rw (getD-set-same ms at (bitOr (getD ms at 0) bits) 0 l) (bits-set (getD ms at 0) bits)
 
-  other-bit : at < length ms → (place other : ℕ) → hasBit (getD ms place 0) other ≡ true → hasBit (getD (setBit ms at bit) place 0) other ≡ true
-  other-bit l place other a = elim (test (eqb place at)) [
+  other-bits : at < length ms → (place other : ℕ) → hasBits (getD ms place 0) other ≡ true → hasBits (getD (setBits ms at bits) place 0) other ≡ true
+  other-bits l place other a = elim (test (eqb place at)) [
     | pass f ↦
         let e = eqb-true place at f in
-        rw (e, getD-set-same ms at (bitOr (getD ms at 0) bit) 0 l) (bit-kept (getD ms at 0) other bit (rw e at a))
-    | fail f ↦ rw (getD-set-other ms at place (bitOr (getD ms at 0) bit) 0 (eqb-false place at f)) a
+        rw (e, getD-set-same ms at (bitOr (getD ms at 0) bits) 0 l) (bits-stay (getD ms at 0) other bits (rw e at a))
+    | fail f ↦ rw (getD-set-other ms at place (bitOr (getD ms at 0) bits) 0 (eqb-false place at f)) a
   ]
 
-module _ (ms : Bytes) (kind : ℕ) (text : Bytes) where
+module _ (ms : List ℕ) (hash : ℕ) where
   abbrev at : ℕ
-  at = markByte (length ms) (hashOf kind text)
+  at = markWord (length ms) (ended hash)
 
   inside : eqb (length ms) 0 ≡ false → at < length ms
-  inside e = byte-inside (length ms) (hashOf kind text) (omega (arith, eqb-false (length ms) 0 e)) (hash-small kind text)
+  inside e = word-inside (length ms) (ended hash) (omega (arith, eqb-false (length ms) 0 e))
+
+  pub meet-own : isMet (meet ms hash) hash ≡ true
+  unfolding isMet meet
+  meet-own = elim (test (eqb (length ms) 0)) [
+    | pass e ↦ rw (length-set ms at _, e)
+    | fail e ↦ rw (length-set ms at _, e) (own-bits ms at (markBits (ended hash)) (inside e))
+  ]
+
+  pub meet-kept : (other : ℕ) → isMet ms other ≡ true → isMet (meet ms hash) other ≡ true
+  unfolding isMet meet
+  meet-kept other a = elim (test (eqb (length ms) 0)) [
+    | pass e ↦ rw (length-set ms at _, e)
+    | fail e ↦ rw (length-set ms at _, e) (other-bits ms at (markBits (ended hash)) (inside e) (markWord (length ms) (ended other)) (markBits (ended other)) (rw e at a))
+  ]
+
+module _ (ms : List ℕ) (kind : ℕ) (text : Bytes) where
+  pub mark-length : length (mark ms kind text) ≡ length ms
+  unfolding mark
+  mark-length = meet-length ms (wideOf kind text)
 
   pub mark-own : isMarked (mark ms kind text) kind text ≡ true
   unfolding isMarked mark
-  mark-own = elim (test (eqb (length ms) 0)) [
-    | pass e ↦ rw (length-set ms at _, e)
-    | fail e ↦ rw (length-set ms at _, e) (own-bit ms at (markBit (hashOf kind text)) (inside e) (bit-some (hashOf kind text)))
-  ]
+  mark-own = meet-own ms (wideOf kind text)
 
   pub mark-kept : (j : ℕ) (t : Bytes) → isMarked ms j t ≡ true → isMarked (mark ms kind text) j t ≡ true
   unfolding isMarked mark
-  mark-kept j t a = elim (test (eqb (length ms) 0)) [
-    | pass e ↦ rw (length-set ms at _, e)
-    | fail e ↦ rw (length-set ms at _, e) (other-bit ms at (markBit (hashOf kind text)) (inside e) (markByte (length ms) (hashOf j t)) (markBit (hashOf j t)) (rw e at a))
-  ]
+  mark-kept j t a = meet-kept ms (wideOf kind text) (wideOf j t) a
 
 -- where all that is there is marked, nothing is lost by not looking for what is not
 pub sure : (q t : Bool) → (t ≡ true → q ≡ true) → (q && t) ≡ t

@@ -1,14 +1,15 @@
 -- Values: the scan for a closingAt quote, and the ways through the readers of a value, on plain values. Assumes nothing.
-use Prim.Native.Nat.{ℕ, suc, _+_, _≤_, _<_}
+use Prim.Native.Nat.{ℕ, suc, _+_, _-_, _≤_, _<_}
 use native.Mathlib.Omega.{arith}
 use mathlib.Core.Path.{_≡_, refl, sym, ap, _∙_}
 use mathlib.Core.Bool.{Bool, true, false, not}
 use mathlib.Core.List.{[], _∷_, _++_}
 use mathlib.Core.Option.{Option, none, some}
 use lib.Dec.{eqb}
-use lib.ListN.{length, getD, drop, length-append}
+use lib.ListN.{length, getD, take, drop, length-append, length-take, length-drop, take-append-drop}
+use lib.Seq.{drop-drop}
 use borrow.Author.Tests.{eq-eqb, ne-eqb}
-use Rattle.values.specs.Bytes.{Bytes, is, begins, before, from}
+use Rattle.values.specs.Bytes.{Bytes, is, any, begins, before, from}
 use Rattle.values.specs.Value.{quoted, written, prepend, isEscapable, quotedText, inQuotes, readQuoted, isStop, readBare, isBracketed, readBracketed, readValues, readUnquoted, readValue}
 use Rattle.values.specs.Places.{cursorAt, byteAt, closingAt, valuePlaced, escapedFrom, valueAt}
 use Rattle.values.specs.declared.cursor.Cursor.{Cursor}
@@ -18,7 +19,7 @@ use Rattle.values.specs.declared.string.Closing.{Closing}
 use Rattle.values.specs.declared.string.Closing.the-variants.{At, Missing}
 use Rattle.values.specs.declared.string.ValueRead.{ValueRead}
 use Rattle.values.specs.declared.string.ValueRead.the-variants as value
-use Rattle.values.proofs.Tests.{not-true, not-false, and-off}
+use Rattle.values.proofs.Tests.{not-true, not-false, and-off, or-l, or-r}
 use Rattle.values.proofs.Lists.{there, past, stands, drop-past, here, from-at, from-none, from-some}
 use Rattle.values.proofs.Scans.{stopOf}
 use Rattle.values.proofs.Cursors.{byte-read, byte-there}
@@ -70,8 +71,37 @@ module _ {s : Bytes} {start : ℕ} {escaped : Bool} {i : ℕ} (g : Quoting s sta
     unfolding quotedText
     goes-on e ne = record { still = turn ∙ rw (e, quotedText, ne-eqb b 34 ne) (closing-put i b (quotedText (eqb b 92) t)) }
 
+-- the text goes on over bytes that are neither a quote nor a backslash
+plain-past : (xs ys : Bytes) (i : ℕ) → any isEscapable xs ≡ false → closingAt i (quotedText false (xs ++ ys)) ≡ closingAt (i + length xs) (quotedText false ys)
+unfolding any quotedText
+plain-past [] ys i e = let z : i + 0 ≡ i = omega arith in rw z
+plain-past (b ∷ xs) ys i e =
+    let n = or-l (isEscapable b) (any isEscapable xs) e in
+    let w : i + suc (length xs) ≡ i + 1 + length xs = omega arith in
+    rw (quotedText, or-l (is 34 b) (is 92 b) n, or-r (is 34 b) (is 92 b) n, w)
+    (closing-put i b (quotedText false (xs ++ ys)) ∙ plain-past xs ys (i + 1) (or-r (isEscapable b) (any isEscapable xs) e))
+
+module _ {s : Bytes} {start i : ℕ} (g : Quoting s start false i) where
+  pub plain-skipped : 16 ≤ length s → i ≤ length s - 16 → {q : Bool} → q ≡ any isEscapable (take (i + 16 - i) (drop i s)) → q ≡ false → Quoting s start false (i + 16)
+  plain-skipped w l a e =
+      let n : i + 16 - i ≡ 16 = omega arith in
+      let m : length (take 16 (drop i s)) ≡ 16 = omega (arith, length-take 16 (drop i s), length-drop i s) in
+      let d : drop 16 (drop i s) ≡ drop (i + 16) s = drop-drop 16 i s in
+      let p = plain-past (take 16 (drop i s)) (drop 16 (drop i s)) i (rw n at (sym a ∙ e)) in
+      record { still = g .still ∙ rw (← take-append-drop 16 (drop i s)) (p ∙ rw (m, d)) }
+
+  pub plain-stops : closingAt i (quotedText false (drop i s)) ≡ closingAt start (quotedText false (drop start s))
+  plain-stops = sym (g .still)
+
+-- what answers the needs of `skip_plain`
+pub ruleset plains = (open-quote, plain-skipped, plain-stops)
+
+-- from where the blocks end
+pub from-plain : {s : Bytes} {start i : ℕ} → closingAt i (quotedText false (drop i s)) ≡ closingAt start (quotedText false (drop start s)) → Quoting s start false i
+from-plain e = record { still = sym e }
+
 -- what answers the needs of `find_closing`
-pub ruleset closes = (open-quote, never-closed, bad-escape, good-escape, closed, goes-on)
+pub ruleset closes = (from-plain, never-closed, bad-escape, good-escape, closed, goes-on)
 
 -- what answers the needs of `parse_raw_string`
 pub bare-placed : (s : Bytes) (i : ℕ) {e : ℕ} → e ≡ stopOf isStop s i

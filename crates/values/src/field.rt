@@ -116,7 +116,15 @@ impl Cursor {
         let ValueRead::Value(text, next) = c.parse_value(s, bracketed) else {
             return FieldRead::Refused;
         };
-        FieldRead::Field(equals, text, next)
+        FieldRead::Field(
+            equals,
+            Text {
+                start: text.start,
+                end: text.end,
+                quoted: text.quoted,
+            },
+            Cursor { at: next.at },
+        )
     }
 
     pub fn consume_separator(self, s: &[u8]) -> Separator

@@ -1,49 +1,89 @@
-// Which texts may have been met: where the bit for a text's hash is not set, it was not met, and need not be looked for.
+// Which texts may have been met: where one of the four bits for a text's hash is not set, it was not met, and need not be looked for.
 use crate::hash;
 ghost use mathlib.Core.Path.{_≡_};
 ghost use Rattle.values.specs.Value.{meaning};
-ghost use Rattle.values.specs.Marks.{markByte, markBit, isMarked, mark};
+ghost use Rattle.values.specs.Marks.{markWord, markBit, markBits, isMet, meet, isMarked, mark};
+ghost use Rattle.values.specs.Hash.{wideOf};
 
-// The byte for a hash: a product, where a remainder would take a division.
-fn byte_of(bytes: usize, hash: u32) -> usize
-    ensures { λ r. ⌜ r ≡ markByte bytes hash ⌝ }
+// The word for a hash, by its lower half: a product, where a remainder would take a division.
+fn word_of(words: usize, hash: u64) -> usize
+    ensures { λ r. ⌜ r ≡ markWord words hash ⌝ }
 {
-    if bytes < 0xFFFF_FFFF {
-        return ((hash as u64) * (bytes as u64) / 0x1_0000_0000) as usize;
+    let low = hash % 0x1_0000_0000;
+    if words < 0xFFFF_FFFF {
+        return (low * (words as u64) / 0x1_0000_0000) as usize;
     }
-    ((hash as u64) * 0xFFFF_FFFF / 0x1_0000_0000) as usize
+    (low * 0xFFFF_FFFF / 0x1_0000_0000) as usize
 }
 
-fn bit_of(hash: u32) -> u8
+fn bit_of(hash: u64) -> u64
     ensures { λ r. ⌜ r ≡ markBit hash ⌝ }
 {
-    1 << (hash % 8)
+    1 << (hash % 64)
+}
+
+// Its bits in that word, by its upper half.
+fn bits_of(hash: u64) -> u64
+    ensures { λ r. ⌜ r ≡ markBits hash ⌝ }
+{
+    bit_of(hash / 0x1_0000_0000)
+        | bit_of(hash / 0x40_0000_0000)
+        | bit_of(hash / 0x1000_0000_0000)
+        | bit_of(hash / 0x4_0000_0000_0000)
+}
+
+// Whether a text of this hash may have been met.
+pub fn is_met(marks: &[u64], hash: u64) -> bool
+    ensures { λ r. ⌜ r ≡ isMet (now (marks .entry)) hash ⌝ }
+{
+    if marks.len() == 0 {
+        return true;
+    }
+    let end = hash::wide_step(hash, 0);
+    let at = word_of(marks.len(), end);
+    let bits = bits_of(end);
+    marks[at] & bits == bits
+}
+
+// The same, and the text is marked.
+pub fn meet_hash(marks: &mut [u64], hash: u64) -> bool
+    ensures met { λ r. ⌜ r ≡ isMet (now (marks .entry)) hash ⌝ }
+    ensures marks { λ _. ⌜ now (marks .exit) ≡ meet (now (marks .entry)) hash ⌝ }
+{
+    if marks.len() == 0 {
+        return true;
+    }
+    let end = hash::wide_step(hash, 0);
+    let at = word_of(marks.len(), end);
+    let bits = bits_of(end);
+    let word = marks[at];
+    marks[at] = word | bits;
+    word & bits == bits
+}
+
+fn hash_of(kind: u8, text: &[u8], quoted: bool) -> u64
+    ensures { λ r. ⌜ r ≡ wideOf kind (meaning quoted (now (text .entry))) ⌝ }
+{
+    hash::wide_from(hash::wide_step(hash::WIDE_BASIS, kind as u16), text, quoted)
 }
 
 // Whether a text of this kind may have been met.
-pub fn is_marked(marks: &[u8], kind: u8, text: &[u8], quoted: bool) -> bool
+pub fn is_marked(marks: &[u64], kind: u8, text: &[u8], quoted: bool) -> bool
     ensures { λ r. ⌜ r ≡ isMarked (now (marks .entry)) kind (meaning quoted (now (text .entry))) ⌝ }
 {
     if marks.len() == 0 {
         return true;
     }
-    let hash = hash::hash_of(kind, text, quoted);
-    let at = byte_of(marks.len(), hash);
-    marks[at] & bit_of(hash) != 0
+    is_met(marks, hash_of(kind, text, quoted))
 }
 
 // The same, and the text is marked.
-pub fn meet(marks: &mut [u8], kind: u8, text: &[u8], quoted: bool) -> bool
+pub fn meet(marks: &mut [u64], kind: u8, text: &[u8], quoted: bool) -> bool
     ensures met { λ r. ⌜ r ≡ isMarked (now (marks .entry)) kind (meaning quoted (now (text .entry))) ⌝ }
     ensures marks { λ _. ⌜ now (marks .exit) ≡ mark (now (marks .entry)) kind (meaning quoted (now (text .entry))) ⌝ }
 {
     if marks.len() == 0 {
         return true;
     }
-    let hash = hash::hash_of(kind, text, quoted);
-    let at = byte_of(marks.len(), hash);
-    let bit = bit_of(hash);
-    let byte = marks[at];
-    marks[at] = byte | bit;
-    byte & bit != 0
+    meet_hash(marks, hash_of(kind, text, quoted))
 }

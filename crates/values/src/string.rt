@@ -10,12 +10,13 @@ ghost use mathlib.Core.Bool.{false};
 ghost use mathlib.Core.List.{[], _∷_};
 ghost use Prim.Native.Nat.{_+_};
 ghost use lib.ListN.{length, drop};
-ghost use Rattle.values.specs.Bytes.{before, same};
-ghost use Rattle.values.specs.Value.{isStop, quotedText, readBare, readValues, meaning, spelling, writeValue};
+ghost use Rattle.values.specs.Bytes.{any, before, same};
+ghost use Rattle.values.specs.Value.{isEscapable, isStop, quotedText, readBare, readValues, meaning, spelling, writeValue};
 ghost use Rattle.values.specs.Places.{closingAt, escapedFrom, valuePlaced};
 ghost use Rattle.values.specs.Written.{Puts};
 
-// A text without its quotes.
+// A text without its quotes. Where it is handed on at each field it is copied field by field: a copy of the whole drags its padding along, and
+// reading that back stalls the processor. So are a `Tally`, a version and an entry in `records` and `header`.
 pub struct Text {
     pub start: usize,
     pub end: usize,
@@ -52,10 +53,45 @@ fn find_stop(s: &[u8], start: usize) -> usize
     i
 }
 
+// Whether a quote or a backslash is among the bytes: no early end, so that many are looked at at once.
+fn has_escapable(s: &[u8]) -> bool
+    ensures { λ r. ⌜ r ≡ any isEscapable (now (s .entry)) ⌝ }
+{
+    let mut found = false;
+    let mut k = 0;
+    while k < s.len() {
+        let b = s[k];
+        k += 1;
+        if is_escapable(b) {
+            found = true;
+        }
+    }
+    found
+}
+
+// Past blocks of 16 bytes that have neither: the quote that ends the text is the first from there on.
+fn skip_plain(s: &[u8], at: usize) -> usize
+    ensures { λ r. ⌜ closingAt r (quotedText false (drop r (now (s .entry)))) ≡ closingAt at (quotedText false (drop at (now (s .entry)))) ⌝ }
+{
+    if s.len() < 16 {
+        return at;
+    }
+    let last = s.len() - 16;
+    let mut i = at;
+    while i <= last {
+        let next = i + 16;
+        if has_escapable(&s[i..next]) {
+            return i;
+        }
+        i = next;
+    }
+    i
+}
+
 fn find_closing(s: &[u8], start: usize) -> Closing
     ensures { λ r. ⌜ r ≡ closingAt start (quotedText false (drop start (now (s .entry)))) ⌝ }
 {
-    let mut i = start;
+    let mut i = skip_plain(s, start);
     let mut escaped = false;
     while i < s.len() {
         let b = s[i];

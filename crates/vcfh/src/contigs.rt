@@ -26,7 +26,7 @@ fn name_in(l: &[u8]) -> &[u8] {
 fn say_twice(l: &[u8]) {
     say::text(2, b"the SN ");
     say::shown(2, name_in(l));
-    say::text(2, b" stands twice among the @SQ lines\n");
+    say::text(2, b" appears twice among the @SQ lines\n");
 }
 
 // In a sentence; l is the line that was refused.
@@ -36,7 +36,7 @@ fn say_why(refusal: SamRefusal, l: &[u8]) {
         SamRefusal::InvalidUtf8 => say::text(2, b"the line is not UTF-8\n"),
         SamRefusal::InvalidTag => say::text(
             2,
-            b"a tag is not a letter, a letter or digit, a colon and a value, or it stands twice\n",
+            b"a tag is not a letter, a letter or digit, a colon and a value, or it appears twice\n",
         ),
         SamRefusal::InvalidSequence => say::text(
             2,

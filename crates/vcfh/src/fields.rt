@@ -163,7 +163,7 @@ fn say_no_key(l: &[u8], at: usize) {
     let rest = bytes::part(l, end, l.len());
     if end == at {
         if bytes::starts_with(rest, b"=") {
-            say::text(2, b"nothing stands before the =\n");
+            say::text(2, b"there is nothing before the =\n");
             return;
         }
         say::text(2, b"a field is missing\n");
@@ -192,7 +192,7 @@ pub fn say_bad_field(l: &[u8], version: FileFormat) {
             say_rest(bytes::part(l, at, equals));
             say::text(
                 2,
-                b" does not end, or a backslash in it stands before neither a quote nor a backslash\n",
+                b" does not end, or has a backslash that is not followed by a quote or a backslash\n",
             );
         }
         KeyRead::Refused => say_no_key(l, at),

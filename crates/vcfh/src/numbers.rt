@@ -49,7 +49,7 @@ fn say_why(number: u64) {
     if number == 34 {
         say::text(
             2,
-            b"IDX stands on some lines of a dictionary and not on others\n",
+            b"some lines of a dictionary have an IDX and others have none\n",
         );
     } else if number == 35 {
         say::text(2, b"one ID has two numbers, or two IDs have one number\n");

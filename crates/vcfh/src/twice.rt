@@ -1,4 +1,4 @@
-// What stands twice in a header, in a sentence on standard error.
+// What appears twice in a header, in a sentence on standard error.
 use crate::fields;
 use crate::say;
 use lines::line;
@@ -44,7 +44,7 @@ fn say_id(header: &[u8], version: FileFormat, l: &[u8], id: &[u8], quoted: bool)
     let key = fields::key_of(l);
     say::text(2, b"the ID ");
     say::shown(2, id);
-    say::text(2, b" stands twice among the ");
+    say::text(2, b" appears twice among the ");
     say::shown(2, key);
     say::numbered(
         2,
@@ -57,7 +57,7 @@ fn say_id(header: &[u8], version: FileFormat, l: &[u8], id: &[u8], quoted: bool)
 // 19 and 21, of the second of two lines with one ID.
 pub fn say_id_twice(header: &[u8], l: &[u8], version: FileFormat) {
     match record::parse_record(l, version) {
-        RecordRead::FileFormat(_) => say::text(2, b"an ID stands twice\n"),
+        RecordRead::FileFormat(_) => say::text(2, b"an ID appears twice\n"),
         RecordRead::Map(map) => {
             let id = map.id;
             say_id(
@@ -68,8 +68,8 @@ pub fn say_id_twice(header: &[u8], l: &[u8], version: FileFormat) {
                 id.quoted,
             )
         }
-        RecordRead::Text(_) => say::text(2, b"an ID stands twice\n"),
-        RecordRead::Refused(_) => say::text(2, b"an ID stands twice\n"),
+        RecordRead::Text(_) => say::text(2, b"an ID appears twice\n"),
+        RecordRead::Refused(_) => say::text(2, b"an ID appears twice\n"),
     }
 }
 
@@ -100,7 +100,7 @@ pub fn say_name_twice(l: &[u8]) {
         if stands_before(l, first, at, name) {
             say::text(2, b"the sample name \"");
             say::shown(2, name);
-            say::text(2, b"\" stands twice\n");
+            say::text(2, b"\" appears twice\n");
             return;
         }
         if l.len() <= end {

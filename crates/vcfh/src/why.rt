@@ -72,7 +72,7 @@ fn say_no_record(l: &[u8]) {
     } else if !bytes::starts_with(l, b"##") {
         say(b"the line does not begin with ##");
     } else if bytes::starts_with(l, b"##=") {
-        say(b"nothing stands between ## and =");
+        say(b"there is nothing between ## and =");
     } else {
         say(b"the line has no =");
     }
@@ -83,7 +83,7 @@ fn say_no_start(number: u64, header: &[u8], l: &[u8]) {
     if is_utf16(header) {
         say(b"this is UTF-16, and a header is UTF-8");
     } else if is_marked(header) {
-        say(b"a byte order mark stands before the first line");
+        say(b"there is a byte order mark before the first line");
     } else if number == 3 {
         say(b"the line is not UTF-8");
     } else {
@@ -101,7 +101,7 @@ fn say_line(number: u64, l: &[u8], version: FileFormat) {
         ),
         3 => say(b"the line is not UTF-8"),
         4 => say(b"the first line is a record, but not the fileformat line"),
-        5 => say(b"a fileformat line stands after the first line"),
+        5 => say(b"there is a second fileformat line"),
         6 => say_no_record(l),
         7 => say(b"the fileformat value is not VCFv, digits, a point and digits"),
         8 => fields::say_no_map(l, version),
@@ -112,7 +112,7 @@ fn say_line(number: u64, l: &[u8], version: FileFormat) {
 // 10 to 18: what the fields of a map say.
 fn say_map(number: u64, l: &[u8], version: FileFormat) {
     match number {
-        10 => say(b"a field key stands twice in the map, or the map names its ID twice"),
+        10 => say(b"a field appears twice in the map, or the map has two IDs"),
         11 => say(b"the Number is neither a count nor one of the letters allowed here"),
         12 => say(b"the Type is not one of those allowed here"),
         13 => say(b"the IDX or length is not a number of at most 18446744073709551615"),
@@ -139,7 +139,7 @@ fn say_whole(number: u64, header: &[u8], l: &[u8], version: FileFormat) {
         24 => say(
             b"the header has more than 1,000,000 entries, which is a limit of this tool and not of VCF",
         ),
-        25 => say(b"there is no line at all"),
+        25 => say(b"the input is empty"),
         26 => say(b"the column line is missing"),
         27 => say(
             b"the header is longer than 16,777,215 bytes, which is a limit of this tool and not of VCF",

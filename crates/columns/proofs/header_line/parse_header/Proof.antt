@@ -36,23 +36,14 @@ starts-with-requires-2 c κs = search (lines, needs)
 returns-4 : tie.Need-returns-4
 returns-4 c = search (lines, needs)
 
-slice-aggregate-count-samples : tie.Need-slice-aggregate-count-samples
-slice-aggregate-count-samples c = search (lines, needs)
+slice-aggregate-count-marked : tie.Need-slice-aggregate-count-marked
+slice-aggregate-count-marked c = search (lines, needs)
 
-count-samples-requires : tie.Need-count-samples-requires
-count-samples-requires c κs = search (lines, needs)
+count-marked-requires : tie.Need-count-marked-requires
+count-marked-requires c κs = search (lines, needs)
 
 returns-5 : tie.Need-returns-5
 returns-5 c = search (lines, needs)
-
-slice-aggregate-count-samples-2 : tie.Need-slice-aggregate-count-samples-2
-slice-aggregate-count-samples-2 c = search (lines, needs)
-
-count-samples-requires-2 : tie.Need-count-samples-requires-2
-count-samples-requires-2 c κs = search (lines, needs)
-
-returns-6 : tie.Need-returns-6
-returns-6 c = search (lines, needs)
 
 pub parse-header-spec : {M : Type 1} → statement M
 parse-header-spec =
@@ -69,9 +60,6 @@ parse-header-spec =
     slice-aggregate-starts-with-2
     starts-with-requires-2
     returns-4
-    slice-aggregate-count-samples
-    count-samples-requires
-    returns-5
-    slice-aggregate-count-samples-2
-    count-samples-requires-2
-    returns-6)
+    slice-aggregate-count-marked
+    count-marked-requires
+    returns-5)

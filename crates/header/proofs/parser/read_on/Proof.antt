@@ -45,29 +45,17 @@ same-length-3 c = search (ons, needs)
 returns-3 : tie.Need-returns-3
 returns-3 c = search (ons, needs)
 
-slice-aggregate-read-marked : tie.Need-slice-aggregate-read-marked
-slice-aggregate-read-marked c = search (ons, needs)
+slice-aggregate-read-sized : tie.Need-slice-aggregate-read-sized
+slice-aggregate-read-sized c = search (ons, needs)
 
-read-marked-requires : tie.Need-read-marked-requires
-read-marked-requires c κs = search (ons, needs)
+read-sized-requires : tie.Need-read-sized-requires
+read-sized-requires c κs = search (ons, needs)
 
 same-length-4 : tie.Need-same-length-4
 same-length-4 c = search (ons, needs)
 
 returns-4 : tie.Need-returns-4
 returns-4 c = search (ons, needs)
-
-slice-aggregate-read-marked-2 : tie.Need-slice-aggregate-read-marked-2
-slice-aggregate-read-marked-2 c = search (ons, needs)
-
-read-marked-requires-2 : tie.Need-read-marked-requires-2
-read-marked-requires-2 c κs = search (ons, needs)
-
-same-length-5 : tie.Need-same-length-5
-same-length-5 c = search (ons, needs)
-
-returns-5 : tie.Need-returns-5
-returns-5 c = search (ons, needs)
 
 pub read-on-spec : {M : Type 1} → statement M
 read-on-spec =
@@ -87,11 +75,7 @@ read-on-spec =
     read-lines-requires
     same-length-3
     returns-3
-    slice-aggregate-read-marked
-    read-marked-requires
+    slice-aggregate-read-sized
+    read-sized-requires
     same-length-4
-    returns-4
-    slice-aggregate-read-marked-2
-    read-marked-requires-2
-    same-length-5
-    returns-5)
+    returns-4)

@@ -6,6 +6,9 @@ use Rattle.house.proofs.form.write_form.Tie as tie
 limits-requires : tie.Need-limits-requires
 limits-requires c κs = search (writes, needs)
 
+are-formed-requires : tie.Need-are-formed-requires
+are-formed-requires c κs = search (writes, needs)
+
 slice-aggregate-put-form : tie.Need-slice-aggregate-put-form
 slice-aggregate-put-form c = search (writes, needs)
 
@@ -41,6 +44,7 @@ write-form-spec =
     tie.close
     (tie.spec
     limits-requires
+    are-formed-requires
     slice-aggregate-put-form
     slice-aggregate-put-form-2
     put-form-requires

@@ -1,76 +1,66 @@
-use Prim.Native.Nat.{_-_}
-use Rattle.records.specs.Formats.{versionOf}
-use Rattle.entries.specs.Tables.{room}
-use Rattle.house.proofs.Others.{Othering, other-start, others}
+use mathlib.Core.Path.{refl}
+use Rattle.house.proofs.Others.{markings}
 use borrow.Author.Needs.{needs}
 use Rattle.house.proofs.keys.put_others.Statement.{statement}
 use Rattle.house.proofs.keys.put_others.Tie as tie
 
-abbrev Inv-loop : tie.InvT-loop
-Inv-loop h kept form version out₀ given progress₀ k₀ out progress k = Othering form (versionOf version) h kept given out₀ progress₀ out progress k
+slice-aggregate-put-others-by : tie.Need-slice-aggregate-put-others-by
+slice-aggregate-put-others-by c = search (markings, refl, needs)
 
-abbrev μ-loop : tie.MeasureT-loop
-μ-loop h kept form version out₀ given progress₀ k₀ out progress k = room form kept - k
+put-others-by-requires : tie.Need-put-others-by-requires
+put-others-by-requires c κs = search (markings, refl, needs)
 
-loop-holds : tie.Need-loop-holds Inv-loop μ-loop
-loop-holds c = other-start _ _ _ _ _ _ _ (search needs) (search needs) (search needs)
+same-length : tie.Need-same-length
+same-length c = search (markings, refl, needs)
 
-count-requires : tie.Need-count-requires Inv-loop μ-loop
-count-requires c κs = search (others, needs)
+returns : tie.Need-returns
+returns c = search (markings, refl, needs)
 
-get-requires : tie.Need-get-requires Inv-loop μ-loop
-get-requires c κs = search (others, needs)
+slice-aggregate-put-others-marked : tie.Need-slice-aggregate-put-others-marked
+slice-aggregate-put-others-marked c = search (markings, refl, needs)
 
-kept-requires : tie.Need-kept-requires Inv-loop μ-loop
-kept-requires c κs = search (others, needs)
+slice-aggregate-put-others-marked-2 : tie.Need-slice-aggregate-put-others-marked-2
+slice-aggregate-put-others-marked-2 c = search (markings, refl, needs)
 
-add-k : tie.Need-add-k Inv-loop μ-loop
-add-k c = search (others, needs)
+put-others-marked-requires : tie.Need-put-others-marked-requires
+put-others-marked-requires c κs = search (markings, refl, needs)
 
-is-first-requires : tie.Need-is-first-requires Inv-loop μ-loop
-is-first-requires c κs = search (others, needs)
+same-length-2 : tie.Need-same-length-2
+same-length-2 c = search (markings, refl, needs)
 
-prefix-part-requires : tie.Need-prefix-part-requires Inv-loop μ-loop
-prefix-part-requires c κs = search (others, needs)
+returns-2 : tie.Need-returns-2
+returns-2 c = search (markings, refl, needs)
 
-put-key-requires : tie.Need-put-key-requires Inv-loop μ-loop
-put-key-requires c κs = search (others, needs)
+slice-aggregate-put-others-marked-3 : tie.Need-slice-aggregate-put-others-marked-3
+slice-aggregate-put-others-marked-3 c = search (markings, refl, needs)
 
-loop-less : tie.Need-loop-less Inv-loop μ-loop
-loop-less c = search (others, needs)
+slice-aggregate-put-others-marked-4 : tie.Need-slice-aggregate-put-others-marked-4
+slice-aggregate-put-others-marked-4 c = search (markings, refl, needs)
 
-loop-again : tie.Need-loop-again Inv-loop μ-loop
-loop-again c = search (others, needs)
+put-others-marked-requires-2 : tie.Need-put-others-marked-requires-2
+put-others-marked-requires-2 c κs = search (markings, refl, needs)
 
-loop-less-2 : tie.Need-loop-less-2 Inv-loop μ-loop
-loop-less-2 c = search (others, needs)
+same-length-3 : tie.Need-same-length-3
+same-length-3 c = search (markings, refl, needs)
 
-loop-again-2 : tie.Need-loop-again-2 Inv-loop μ-loop
-loop-again-2 c = search (others, needs)
-
-same-length : tie.Need-same-length Inv-loop μ-loop
-same-length c = search (others, needs)
-
-returns : tie.Need-returns Inv-loop μ-loop
-returns c = search (others, needs)
+returns-3 : tie.Need-returns-3
+returns-3 c = search (markings, refl, needs)
 
 pub put-others-spec : {M : Type 1} → statement M
 put-others-spec =
     tie.close
     (tie.spec
-    Inv-loop
-    μ-loop
-    loop-holds
-    count-requires
-    get-requires
-    kept-requires
-    add-k
-    is-first-requires
-    prefix-part-requires
-    put-key-requires
-    loop-less
-    loop-again
-    loop-less-2
-    loop-again-2
+    slice-aggregate-put-others-by
+    put-others-by-requires
     same-length
-    returns)
+    returns
+    slice-aggregate-put-others-marked
+    slice-aggregate-put-others-marked-2
+    put-others-marked-requires
+    same-length-2
+    returns-2
+    slice-aggregate-put-others-marked-3
+    slice-aggregate-put-others-marked-4
+    put-others-marked-requires-2
+    same-length-3
+    returns-3)

@@ -1,69 +1,19 @@
-use Rattle.ids.proofs.Seen.{clashes}
+use Rattle.ids.proofs.Seen.{keyed}
 use borrow.Author.Needs.{needs}
 use Rattle.ids.proofs.scan.find_clash.Statement.{statement}
 use Rattle.ids.proofs.scan.find_clash.Tie as tie
 
-has-id-requires : tie.Need-has-id-requires
-has-id-requires c κs = search (clashes, needs)
+key-hash-requires : tie.Need-key-hash-requires
+key-hash-requires c κs = search (keyed, needs)
+
+find-under-requires : tie.Need-find-under-requires
+find-under-requires c κs = search (keyed, needs)
 
 same-length : tie.Need-same-length
-same-length c = search (clashes, needs)
+same-length c = search (keyed, needs)
 
 returns : tie.Need-returns
-returns c = search (clashes, needs)
-
-same-length-2 : tie.Need-same-length-2
-same-length-2 c = search (clashes, needs)
-
-returns-2 : tie.Need-returns-2
-returns-2 c = search (clashes, needs)
-
-find-map-clash-requires : tie.Need-find-map-clash-requires
-find-map-clash-requires c κs = search (clashes, needs)
-
-same-length-3 : tie.Need-same-length-3
-same-length-3 c = search (clashes, needs)
-
-returns-3 : tie.Need-returns-3
-returns-3 c = search (clashes, needs)
-
-has-key-requires : tie.Need-has-key-requires
-has-key-requires c κs = search (clashes, needs)
-
-slice-aggregate-meet : tie.Need-slice-aggregate-meet
-slice-aggregate-meet c = search (clashes, needs)
-
-meet-requires : tie.Need-meet-requires
-meet-requires c κs = search (clashes, needs)
-
-same-length-4 : tie.Need-same-length-4
-same-length-4 c = search (clashes, needs)
-
-returns-4 : tie.Need-returns-4
-returns-4 c = search (clashes, needs)
-
-same-length-5 : tie.Need-same-length-5
-same-length-5 c = search (clashes, needs)
-
-returns-5 : tie.Need-returns-5
-returns-5 c = search (clashes, needs)
+returns c = search (keyed, needs)
 
 pub find-clash-spec : {M : Type 1} → statement M
-find-clash-spec =
-    tie.close
-    (tie.spec
-    has-id-requires
-    same-length
-    returns
-    same-length-2
-    returns-2
-    find-map-clash-requires
-    same-length-3
-    returns-3
-    has-key-requires
-    slice-aggregate-meet
-    meet-requires
-    same-length-4
-    returns-4
-    same-length-5
-    returns-5)
+find-clash-spec = tie.close (tie.spec key-hash-requires find-under-requires same-length returns)

@@ -9,11 +9,11 @@ has-key-requires c κs = search (map-clashes, needs)
 has-id-requires : tie.Need-has-id-requires
 has-id-requires c κs = search (map-clashes, needs)
 
-slice-aggregate-meet : tie.Need-slice-aggregate-meet
-slice-aggregate-meet c = search (map-clashes, needs)
+under-hash-requires : tie.Need-under-hash-requires
+under-hash-requires c κs = search (map-clashes, needs)
 
-meet-requires : tie.Need-meet-requires
-meet-requires c κs = search (map-clashes, needs)
+meet-hash-requires : tie.Need-meet-hash-requires
+meet-hash-requires c κs = search (map-clashes, needs)
 
 same-length : tie.Need-same-length
 same-length c = search (map-clashes, needs)
@@ -39,8 +39,8 @@ find-map-clash-spec =
     (tie.spec
     has-key-requires
     has-id-requires
-    slice-aggregate-meet
-    meet-requires
+    under-hash-requires
+    meet-hash-requires
     same-length
     returns
     same-length-2

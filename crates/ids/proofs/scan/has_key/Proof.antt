@@ -3,11 +3,11 @@ use borrow.Author.Needs.{needs}
 use Rattle.ids.proofs.scan.has_key.Statement.{statement}
 use Rattle.ids.proofs.scan.has_key.Tie as tie
 
-slice-aggregate-is-marked : tie.Need-slice-aggregate-is-marked
-slice-aggregate-is-marked c = search (scans, needs)
+under-hash-requires : tie.Need-under-hash-requires
+under-hash-requires c κs = search (scans, needs)
 
-is-marked-requires : tie.Need-is-marked-requires
-is-marked-requires c κs = search (scans, needs)
+is-met-requires : tie.Need-is-met-requires
+is-met-requires c κs = search (scans, needs)
 
 returns : tie.Need-returns
 returns c = search (scans, needs)
@@ -20,5 +20,4 @@ returns-2 c = search (scans, needs)
 
 pub has-key-spec : {M : Type 1} → statement M
 has-key-spec =
-    tie.close
-    (tie.spec slice-aggregate-is-marked is-marked-requires returns key-seen-requires returns-2)
+    tie.close (tie.spec under-hash-requires is-met-requires returns key-seen-requires returns-2)

@@ -1,12 +1,14 @@
 use borrow.Author.Needs.{needs}
 use Prim.Native.Nat.{_-_}
 use lib.ListN.{length}
-use Rattle.lines.proofs.Blocks.{Seeking, seeks}
+use Rattle.values.specs.Bytes.{LF, is}
+use Rattle.values.proofs.Seeks.{Seeking}
+use Rattle.lines.proofs.Blocks.{seeks}
 use Rattle.lines.proofs.line.has_lf.Statement.{statement}
 use Rattle.lines.proofs.line.has_lf.Tie as tie
 
 abbrev Inv-loop : tie.InvT-loop
-Inv-loop s found₀ k₀ found k = Seeking s found k
+Inv-loop s found₀ k₀ found k = Seeking (is LF) s found k
 
 abbrev μ-loop : tie.MeasureT-loop
 μ-loop s found₀ k₀ found k = length s - k

@@ -3,9 +3,6 @@ use borrow.Author.Needs.{needs}
 use Rattle.values.proofs.marks.bit_of.Statement.{statement}
 use Rattle.values.proofs.marks.bit_of.Tie as tie
 
-cast-result : tie.Need-cast-result
-cast-result c = search (bit-is, needs)
-
 shl-result : tie.Need-shl-result
 shl-result c = search (bit-is, needs)
 
@@ -13,4 +10,4 @@ returns : tie.Need-returns
 returns c = search (bit-is, needs)
 
 pub bit-of-spec : {M : Type 1} → statement M
-bit-of-spec = tie.close (tie.spec cast-result shl-result returns)
+bit-of-spec = tie.close (tie.spec shl-result returns)

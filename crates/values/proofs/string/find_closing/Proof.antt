@@ -11,6 +11,9 @@ Inv-loop s start i₀ escaped₀ i escaped = Quoting s start escaped i
 abbrev μ-loop : tie.MeasureT-loop
 μ-loop s start i₀ escaped₀ i escaped = length s - i
 
+skip-plain-requires : tie.Need-skip-plain-requires Inv-loop μ-loop
+skip-plain-requires c κs = search (closes, needs)
+
 loop-holds : tie.Need-loop-holds Inv-loop μ-loop
 loop-holds c = search (closes, needs)
 
@@ -50,6 +53,7 @@ find-closing-spec =
     (tie.spec
     Inv-loop
     μ-loop
+    skip-plain-requires
     loop-holds
     shared-slice-read-b
     add-i

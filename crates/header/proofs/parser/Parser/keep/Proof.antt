@@ -33,8 +33,8 @@ same-length c = search (keeps, next-fits, needs)
 returns : tie.Need-returns
 returns c = search (keeps, next-fits, needs)
 
-add-t23 : tie.Need-add-t23
-add-t23 c = search (keeps, next-fits, needs)
+add-begun : tie.Need-add-begun
+add-begun c = search (keeps, next-fits, needs)
 
 enum-known-verdict-3 : tie.Need-enum-known-verdict-3
 enum-known-verdict-3 c = search (keeps, next-fits, needs)
@@ -48,8 +48,8 @@ same-length-2 c = search (keeps, next-fits, needs)
 returns-2 : tie.Need-returns-2
 returns-2 c = search (keeps, next-fits, needs)
 
-add-t34 : tie.Need-add-t34
-add-t34 c = search (keeps, next-fits, needs)
+add-kept : tie.Need-add-kept
+add-kept c = search (keeps, next-fits, needs)
 
 enum-known-verdict-4 : tie.Need-enum-known-verdict-4
 enum-known-verdict-4 c = search (keeps, next-fits, needs)
@@ -69,11 +69,11 @@ returns-3 c = search (keeps, next-fits, needs)
 write-columns-requires : tie.Need-write-columns-requires
 write-columns-requires c κs = search (keeps, next-fits, needs)
 
-add-t36 : tie.Need-add-t36
-add-t36 c = search (keeps, next-fits, needs)
+add-columns : tie.Need-add-columns
+add-columns c = search (keeps, next-fits, needs)
 
-add-t39 : tie.Need-add-t39
-add-t39 c = search (keeps, next-fits, needs)
+add-all : tie.Need-add-all
+add-all c = search (keeps, next-fits, needs)
 
 returns-4 : tie.Need-returns-4
 returns-4 c = search (keeps, next-fits, needs)
@@ -109,20 +109,20 @@ keep-spec =
     put-requires
     same-length
     returns
-    add-t23
+    add-begun
     enum-known-verdict-3
     put-requires-2
     same-length-2
     returns-2
-    add-t34
+    add-kept
     enum-known-verdict-4
     count-requires
     sub-if3
     same-length-3
     returns-3
     write-columns-requires
-    add-t36
-    add-t39
+    add-columns
+    add-all
     returns-4
     same-length-4
     returns-5

@@ -227,6 +227,30 @@ def forged_words():
         fed(f'third-word-{name}', EXAMPLE, f'+44 w5={third} +39 c', form=model.SECOND, numbers=[0, 29, 29] if name == 'zero-bits' else [0, 0, 0])
 
 
+def clashes_ahead():
+    """An ID of the first piece once more, after enough lines that IDs ahead are noted: as it stands, quoted or escaped, under the same key or another."""
+    fillers = [b'##contig=<ID=filler_%04d,length=1000>' % n for n in range(8)]
+    noise = [b'##x%d="a \\"word\\" \\\\"' % n for n in range(3)]
+    ids = {'short': (b'c1', b'"c1"'), 'seven': (b'contig7', b'"contig7"'), 'eight': (b'contig_8', b'"contig_8"'), 'long': (b'scaffold_12345', b'"scaffold_12345"'),
+           'escaped': (b'scaf"fold_1', b'"scaf\\"fold_1"'), 'escaped-last': (b'scaffold"', b'"scaffold\\""'), 'backslash': (b'scaf\\fold_1', b'"scaf\\\\fold_1"')}
+    for name, spellings in ids.items():
+        for old, new in [(a, b) for a in spellings for b in spellings]:
+            for key, number in ((b'contig', 19), (b'cell', 21)):
+                for between in (fillers, fillers + noise):
+                    first = text(F, b'##%s=<ID=%s,K=1>' % (key, old))
+                    rest = text(*between, b'##%s=<K=2,ID=%s>' % (key, new), COLS)
+                    label = f'ahead-{name}-{spellings.index(old)}{spellings.index(new)}-{key.decode()}-{len(between)}'
+                    fed(label, first + rest, f'+{len(first) + 5} +{len(rest)} c', room=60, size=1000, numbers=[0, number, number])
+        other = spellings[0][:-1] + b'x'
+        rest = text(*fillers, b'##contig=<ID=%s>' % other, b'##INFO=<ID="%s",Number=1,Type=Integer,Description="d">' % name.encode(), COLS)
+        first = text(F, b'##contig=<ID=%s>' % spellings[1])
+        fed(f'ahead-{name}-free', first + rest, f'+{len(first)} +{len(rest)} c', room=90, size=1000, form=model.SECOND, numbers=[0, 0, 0])
+    # a text after a map of its key, and a map after a text
+    for name, old, new in (('text', b'##cell=<ID=W07,K=1>', b'##cell=x'), ('map', b'##cell=x', b'##cell=<ID=W07,K=1>')):
+        first, rest = text(F, old), text(*fillers, new, COLS)
+        fed(f'ahead-mixed-{name}', first + rest, f'+{len(first)} +{len(rest)} c', room=60, size=1000, numbers=[0, 20, 20])
+
+
 def at_random():
     """Headers of several lines, with repeats and mistakes, cut and forged at random."""
     lines = [F, b'##fileformat=VCFv4.2', b'##a=b', b'##a=<ID=x>', b'##a=<ID="x">', b'##b=<ID=x>', b'##contig=<ID=c>', b'##contig=<ID="c",IDX=+1>', b'##contig=<ID=d>',
@@ -247,7 +271,7 @@ def at_random():
 def main():
     recorded('reads', model.FIRST)
     recorded('second', model.SECOND)
-    for make in (documented, long_pieces, forged_counts, forged_phases, forged_words, at_random):
+    for make in (documented, long_pieces, forged_counts, forged_phases, forged_words, clashes_ahead, at_random):
         make()
     record.write('feeds', CASES)
 

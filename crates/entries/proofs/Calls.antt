@@ -76,15 +76,6 @@ module _ (e : Entry) where
 
 pub ruleset said = (offset-said, length-said, quotes-said, tag-said)
 
-module _ (k : ℕ) (s : Bool) {q : Bool} (b : q ≡ hasId k) where
-  pub id-due : q ≡ true → true ≡ (hasId k || s)
-  id-due f = rw (← b, f)
-
-  pub no-id-due : q ≡ false → {r : Bool} → r ≡ s → r ≡ (hasId k || s)
-  no-id-due f a = rw (← b, f) a
-
-pub ruleset dues = (id-due, no-id-due)
-
 module _ (size start len : ℕ) where
   pub begins-outside : size < start → false ≡ leb (start + len) size
   begins-outside h = sym (lt-leb (start + len) size (omega arith))
@@ -97,36 +88,77 @@ module _ (size start len : ℕ) where
 
 pub ruleset insides = (begins-outside, begins-inside)
 
-module _ (size : ℕ) (e : RuleEntry) {p : Bool} (a : p ≡ (leb 1 (e .kind) && leb (e .kind) 10)) where
-  pub wrong-kind : not p ≡ true → false ≡ wellFormed size e
+-- a test that fails, behind three others
+fourth-fails : (a b c x : Bool) → x ≡ false → false ≡ (a && (b && (c && x)))
+fourth-fails true true true x e = sym e
+fourth-fails true true false x e = refl
+fourth-fails true false c x e = refl
+fourth-fails false b c x e = refl
+
+third-fails : (a b c x : Bool) → c ≡ false → false ≡ (a && (b && (c && x)))
+third-fails true true c x e = rw e
+third-fails true false c x e = refl
+third-fails false b c x e = refl
+
+no-tag : (e : RuleEntry) → saysNoId e ≡ true → eqb (e .tag) 0 ≡ true
+unfolding saysNoId
+no-tag e says =
+    let rest = and-r (eqb (e .offset) 0) (eqb (e .idLength) 0 && (not (e .quoted) && eqb (e .tag) 0)) says in
+    and-r (not (e .quoted)) (eqb (e .tag) 0) (and-r (eqb (e .idLength) 0) (not (e .quoted) && eqb (e .tag) 0) rest)
+
+module _ (size : ℕ) (e : RuleEntry) {u : Bool} (g : u ≡ leb (e .start + e .length) size) where
+  abbrev known : Bool
+  known = leb 1 (e .kind) && leb (e .kind) 10
+
+  abbrev due-tag : Bool
+  due-tag = eqb (e .tag) 0 || (eqb (e .kind) 7 && leb (e .tag) 2)
+
+  abbrev due : Bool
+  due = hasId (e .kind) || saysNoId e
+
+  abbrev placed : Bool
+  placed = leb (e .start + e .length) size && (leb (e .offset + e .idLength) (e .length) && countsInPlace e)
+
+  pub line-outside : not u ≡ true → false ≡ wellFormed size e
   unfolding wellFormed
-  wrong-kind f = rw (← a, not-true p f)
+  line-outside f = fourth-fails known due-tag due placed (rw (← g, not-true u f))
 
-  module _ (on : not p ≡ false) {r : Bool} (c : r ≡ (eqb (e .tag) 0 || (eqb (e .kind) 7 && leb (e .tag) 2))) where
-    pub wrong-tag : not r ≡ true → false ≡ wellFormed size e
+  module _ (un : not u ≡ false) {w : Bool} (b : w ≡ leb (e .offset + e .idLength) (e .length)) where
+    pub id-outside : not w ≡ true → false ≡ wellFormed size e
     unfolding wellFormed
-    wrong-tag f = rw (← a, not-false p on, ← c, not-true r f)
+    id-outside f = fourth-fails known due-tag due placed (rw (← g, not-false u un, ← b, not-true w f))
 
-    module _ (rn : not r ≡ false) {t : Bool} (d : t ≡ (hasId (e .kind) || saysNoId e)) where
-      pub wrong-id : not t ≡ true → false ≡ wellFormed size e
-      unfolding wellFormed
-      wrong-id f = rw (← a, not-false p on, ← c, not-false r rn, ← d, not-true t f)
+    module _ (wn : not w ≡ false) {i : Bool} (d : i ≡ hasId (e .kind)) where
+      -- of a kind with an ID only the tag may be wrong
+      pub with-id : i ≡ true → {r : Bool} → r ≡ (eqb (e .tag) 0 || (eqb (e .kind) 7 && leb (e .tag) 2)) → r ≡ wellFormed size e
+      unfolding wellFormed countsInPlace
+      with-id f {r} c =
+          let has : hasId (e .kind) ≡ true = sym d ∙ f in
+          let low = leb-true 2 (e .kind) (and-l (leb 2 (e .kind)) (leb (e .kind) 7) has) in
+          let high = leb-true (e .kind) 7 (and-r (leb 2 (e .kind)) (leb (e .kind) 7) has) in
+          rw (← g, not-false u un, ← b, not-false w wn, ← c, le-leb 1 (e .kind) (omega arith), le-leb (e .kind) 10 (omega arith), has, le-leb (e .kind) 8 (omega arith)) (sym (and-true r))
 
-      module _ (tn : not t ≡ false) {u : Bool} (g : u ≡ leb (e .start + e .length) size) where
-        pub line-outside : not u ≡ true → false ≡ wellFormed size e
+      module _ (f : i ≡ false) {k : Bool} (a : k ≡ (leb 1 (e .kind) && leb (e .kind) 10)) where
+        pub wrong-kind : not k ≡ true → false ≡ wellFormed size e
         unfolding wellFormed
-        line-outside f = rw (← a, not-false p on, ← c, not-false r rn, ← d, not-false t tn, ← g, not-true u f)
+        wrong-kind z = rw (← a, not-true k z)
 
-        module _ (un : not u ≡ false) {w : Bool} (b : w ≡ leb (e .offset + e .idLength) (e .length)) where
-          pub id-outside : not w ≡ true → false ≡ wellFormed size e
+        module _ (on : not k ≡ false) {n : Bool} (c : n ≡ saysNoId e) where
+          no-id : hasId (e .kind) ≡ false
+          no-id = sym d ∙ f
+
+          pub wrong-id : not n ≡ true → false ≡ wellFormed size e
           unfolding wellFormed
-          id-outside f = rw (← a, not-false p on, ← c, not-false r rn, ← d, not-false t tn, ← g, not-false u un, ← b, not-true w f)
+          wrong-id z = third-fails known due-tag due placed (rw (no-id, ← c, not-true n z))
 
-          pub id-inside : not w ≡ false → {x : Bool} → x ≡ countsInPlace e → x ≡ wellFormed size e
+          -- what says nothing of an ID has tag 0
+          pub without-id : not n ≡ false → {x : Bool} → x ≡ countsInPlace e → x ≡ wellFormed size e
           unfolding wellFormed
-          id-inside f k = rw (← a, not-false p on, ← c, not-false r rn, ← d, not-false t tn, ← g, not-false u un, ← b, not-false w f) k
+          without-id z k-is =
+              let says : saysNoId e ≡ true = sym c ∙ not-false n z in
+              k-is ∙ rw (← a, not-false k on, no-tag e says, no-id, says, ← g, not-false u un, ← b, not-false w wn)
 
-pub ruleset wells = (wrong-kind, wrong-tag, wrong-id, line-outside, id-outside, id-inside)
+pub ruleset wells = (line-outside, id-outside, with-id, wrong-kind, wrong-id, without-id)
 
 -- The parts
 

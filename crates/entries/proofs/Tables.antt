@@ -61,15 +61,15 @@ words-between Second i n h = omega arith
 
 -- What answers the needs of the table's functions
 
-module _ (form : Form) (t : List ℕ) {w : ℕ} (e : w ≡ wordCount form) where
-  pub size-positive : 0 < w
-  size-positive = omega (arith, some-words form)
+pub count-first : (form : Form) (t : List ℕ) → form ≡ First → length t / 2 ≡ room form t
+unfolding room
+count-first form t e = rw e
 
-  pub room-told : length t / w ≡ room form t
-  unfolding room
-  room-told = rw e
+pub count-second : (form : Form) (t : List ℕ) → form ≡ Second → length t / 3 ≡ room form t
+unfolding room
+count-second form t e = rw e
 
-pub ruleset counted = (size-positive, room-told)
+pub ruleset counted = (count-first, count-second)
 
 -- by what `count` and `words` answered
 module _ (form : Form) (t : List ℕ) (n : ℕ) {k : ℕ} (a : k ≡ room form t) where

@@ -12,7 +12,7 @@ ghost use mathlib.Core.Bool.{_&&_, _||_};
 ghost use lib.Dec.{eqb, leb};
 ghost use lib.ListN.{length};
 ghost use Prim.Native.Nat.{_+_};
-ghost use Rattle.rules.specs.Shown.{saysNoId, hasId, countsInPlace, wellFormed, nthFieldPart};
+ghost use Rattle.rules.specs.Shown.{saysNoId, countsInPlace, wellFormed, nthFieldPart};
 ghost use Rattle.rules.specs.Map.{fieldsAt};
 ghost use Rattle.entries.specs.Values.{entryOf};
 ghost use Rattle.entries.specs.Tables.{entryAt, shownEntry, shownId, shownKey};
@@ -77,16 +77,6 @@ fn says_no_id(e: Entry) -> bool
     e.tag == 0
 }
 
-// Nothing is said of an ID where the kind has none.
-fn has_due_id(e: Entry) -> bool
-    ensures { λ r. ⌜ r ≡ (hasId (e .kind) || saysNoId (entryOf e)) ⌝ }
-{
-    if kind::has_id(e.kind) {
-        return true;
-    }
-    says_no_id(e)
-}
-
 // A key is counted of records alone, and fields of maps.
 fn has_due_counts(e: Entry) -> bool
     ensures { λ r. ⌜ r ≡ countsInPlace (entryOf e) ⌝ }
@@ -117,19 +107,20 @@ fn lies_inside(size: usize, start: usize, length: usize) -> bool
 fn is_well_formed(size: usize, e: Entry) -> bool
     ensures { λ r. ⌜ r ≡ wellFormed size (entryOf e) ⌝ }
 {
-    if !has_known_kind(e.kind) {
-        return false;
-    }
-    if !has_known_tag(e.kind, e.tag) {
-        return false;
-    }
-    if !has_due_id(e) {
-        return false;
-    }
     if !lies_inside(size, e.start, e.length) {
         return false;
     }
     if !lies_inside(e.length, e.offset, e.id_length) {
+        return false;
+    }
+    // Most entries have an ID, and of these only the tag is left to be looked at.
+    if kind::has_id(e.kind) {
+        return has_known_tag(e.kind, e.tag);
+    }
+    if !has_known_kind(e.kind) {
+        return false;
+    }
+    if !says_no_id(e) {
         return false;
     }
     has_due_counts(e)

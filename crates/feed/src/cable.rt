@@ -8,9 +8,9 @@ use header::parser::Advance;
 use header::parser::Outcome;
 use header::parser::Parser;
 use header::parser::ReadAnswer;
-use lines::line;
 use records::file_format::FileFormat;
 use records::refusal::Refusal;
+use values::bytes;
 use values::output;
 ghost use mathlib.Core.Path.{_≡_};
 ghost use Prim.Native.Nat.{_+_, _^_, _<_};
@@ -133,7 +133,7 @@ fn last_end(h: &[u8], at: usize) -> usize
         return at;
     }
     // A line may be long, so whether it is complete is looked at for many bytes at once.
-    if !line::has_lf(&h[at..]) {
+    if !bytes::has(&h[at..], b'\n') {
         return at;
     }
     let mut end = h.len();

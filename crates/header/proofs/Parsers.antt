@@ -44,10 +44,10 @@ use Rattle.lines.proofs.Lines.{pieces-past, pieces-there}
 use Rattle.columns.specs.HeaderLines.{columnsPut}
 use Rattle.columns.proofs.Answers.{columns-room}
 use Rattle.columns.proofs.Stores.{columns-put}
-use Rattle.ids.specs.Marks.{markAll, Marked}
-use Rattle.ids.proofs.Markings.{unmarked, unmarked-last, unmarked-all, all-marked, all-length}
+use Rattle.ids.specs.Marks.{Marked, MarkedFrom, markAhead}
+use Rattle.ids.proofs.Markings.{unmarked, unmarked-last, unmarked-all, marked-from, ahead-marked, ahead-long}
 use Rattle.header.specs.Steps.{Stage, stepOn, Point, Went, passed, goOn, startPoint, Spot, Told, startSpot, fits, pointOf, wentOn, toldBy, readOn, tableOn}
-use Rattle.header.specs.Verdicts.{stageOf, formatEntry, Ended, Says, LineJudged}
+use Rattle.header.specs.Verdicts.{stageOf, formatEntry, Ended, Says, MarkedBefore, LineJudged}
 use Rattle.header.specs.Parsers.{answerMeans, readInto, refusedAs, ReadCall, spotIn, advanceMeans, endedAt, refusedAt, closedAt, ReadsOn, Begins, BeginsMarked, Bounds, spotAfter, tableAfter, partialMeans, Stepped, KeepsLine, Parses}
 use Rattle.header.specs.declared.phase.Phase.{Phase}
 use Rattle.header.specs.declared.phase.Phase.the-variants as phase
@@ -106,12 +106,12 @@ columns-marked : (h ms : Bytes) (start : ℕ) (l : Bytes) (c : Columns) → All 
 unfolding columnEntries
 columns-marked h ms start l c = (unmarked-last h ms (plainEntry columnsKind start (length l)) (omega arith), samples-marked h ms (start + samplesStart) (c .samples))
 
-module _ (form : Form) (p : Parser) (h : Bytes) (end next : ℕ) (v : Verdict) (t : List ℕ) where
+module _ (form : Form) (p : Parser) (h : Bytes) (end next : ℕ) (t : List ℕ) where
   abbrev l : Bytes
   l = part h (p .at) end
 
-  abbrev Keeps : Partial → List ℕ → Type 0
-  Keeps r t′ = KeepsLine form p h end next v t r t′
+  abbrev Keeps : Verdict → Partial → List ℕ → Type 0
+  Keeps v r t′ = KeepsLine form p h end next v t r t′
 
   abbrev SaysHere : Bytes → Answer (Stage × List Entry) → Verdict → Type 0
   SaysHere ms a x = Says (limitsBy form) h ms a (p .at) (stageOf (p .phase)) l x
@@ -129,10 +129,14 @@ module _ (form : Form) (p : Parser) (h : Bytes) (end next : ℕ) (v : Verdict) (
         let b = le-leb (p .count + length (q .1)) (room form t) f in
         rw e (record { told = rw (g, c) (sym (spot-more form (spotIn p) next t q b)); table = w ∙ sym (table-more form (spotIn p) next t q b); marked = m })
 
-  pub keep-refused : {x : Refusal} → v ≡ verdict.Refused x → Keeps (partial.Refused x) t
-  keep-refused {x} e = record { is = λ ms a s. stays ms x (subst (SaysHere ms a) e s) }
+  pub keep-refused : (v : Verdict) {x : Refusal} → v ≡ verdict.Refused x → Keeps v (partial.Refused x) t
+  keep-refused v {x} e = record { is = λ ms a s. stays ms x (subst (SaysHere ms a) e s) }
 
-  module _ {f : FileFormat} (e : v ≡ verdict.Begin f) {s : Bytes} (es : s ≡ l) {n : ℕ} (en : n ≡ ifCounted (limitsBy form .counted) 10)
+  -- as the part of the code for this kind of line keeps it
+  pub keep-by : (v : Verdict) {w : Verdict} → v ≡ w → {r : Partial} {t′ : List ℕ} → Keeps w r t′ → Keeps v r t′
+  keep-by v e {r} {t′} k = rw e k
+
+  module _ (f : FileFormat) {s : Bytes} (es : s ≡ l) {n : ℕ} (en : n ≡ ifCounted (limitsBy form .counted) 10)
       {y : CodeEntry} (ey : entryOf y ≡ withCounts (record { keyLength = n; fieldCount = 0 }) (plainEntry formatKind (p .at) (length s))) {q : Bool} (a : q ≡ ltb (p .count) (room form t))
       {t′ : List ℕ} (b : t′ ≡ put form t (p .count) (entryOf y)) where
     abbrev own : Entry
@@ -141,49 +145,53 @@ module _ (form : Form) (p : Parser) (h : Bytes) (end next : ℕ) (v : Verdict) (
     own-is : entryOf y ≡ own
     own-is = ey ∙ ap₂ (λ (k : ℕ) (x : Bytes). withCounts (record { keyLength = k; fieldCount = 0 }) (plainEntry formatKind (p .at) (length x))) en es
 
-    pub begin-full : not q ≡ true → Keeps (partial.Refused TableFull) t′
+    pub begin-full : not q ≡ true → Keeps (verdict.Begin f) (partial.Refused TableFull) t′
     begin-full d = record {
-      is = λ ms z s. full ms (subst (SaysHere ms z) e s) (unmarked h ms own (omega arith), tt) (omega (arith, no-room form t (p .count) (entryOf y) a b d)) (not-put form t (p .count) (entryOf y) a b d);
+      is = λ ms z s. full ms s (unmarked h ms own (omega arith), tt) (omega (arith, no-room form t (p .count) (entryOf y) a b d)) (not-put form t (p .count) (entryOf y) a b d);
     }
 
-    pub begin-kept : not q ≡ false → Keeps (partial.Next (record { phase = phase.Ready f; line = p .line + 1; at = next; count = p .count + 1 })) t′
+    pub begin-kept : not q ≡ false → Keeps (verdict.Begin f) (partial.Next (record { phase = phase.Ready f; line = p .line + 1; at = next; count = p .count + 1 })) t′
     begin-kept d = record {
-      is = λ ms z s. taken ms (subst (SaysHere ms z) e s) (unmarked h ms own (omega arith), tt) (omega (arith, some-room form t (p .count) (entryOf y) a b d))
+      is = λ ms z s. taken ms s (unmarked h ms own (omega arith), tt) (omega (arith, some-room form t (p .count) (entryOf y) a b d))
           (was-put form t (p .count) (entryOf y) a b d ∙ ap (λ (x : Entry). stored form t (p .count) (x ∷ [])) own-is) (phase.Ready f) refl refl;
     }
 
-  module _ {y : CodeEntry} (e : v ≡ verdict.Entry y) {q : Bool} (a : q ≡ ltb (p .count) (room form t)) {t′ : List ℕ} (b : t′ ≡ put form t (p .count) (entryOf y)) where
-    pub entry-full : not q ≡ true → Keeps (partial.Refused TableFull) t′
+  module _ (v : Verdict) {y : CodeEntry} (e : v ≡ verdict.Entry y) {q : Bool} (a : q ≡ ltb (p .count) (room form t)) {t′ : List ℕ} (b : t′ ≡ put form t (p .count) (entryOf y)) where
+    pub entry-full : not q ≡ true → Keeps v (partial.Refused TableFull) t′
     entry-full d = record {
       is = λ ms z s. let w = subst (SaysHere ms z) e s in
           full ms (w .0) (w .1, tt) (omega (arith, no-room form t (p .count) (entryOf y) a b d)) (not-put form t (p .count) (entryOf y) a b d);
     }
 
-    pub entry-kept : not q ≡ false → Keeps (partial.Next (record { phase = p .phase; line = p .line + 1; at = next; count = p .count + 1 })) t′
+    pub entry-kept : not q ≡ false → Keeps v (partial.Next (record { phase = p .phase; line = p .line + 1; at = next; count = p .count + 1 })) t′
     entry-kept d = record {
       is = λ ms z s. let w = subst (SaysHere ms z) e s in
           taken ms (w .0) (w .1, tt) (omega (arith, some-room form t (p .count) (entryOf y) a b d)) (was-put form t (p .count) (entryOf y) a b d) (p .phase) refl refl;
     }
 
-  module _ {f : FileFormat} {n : ℕ} (e : v ≡ verdict.Columns f n) {m : ℕ} (a : m ≡ room form t) where
+  module _ (f : FileFormat) (n : ℕ) {m : ℕ} (a : m ≡ room form t) where
     entries-of : {z : Answer (Stage × List Entry)} (g : Ended z (p .at) l f n) → length (columnEntries (p .at) l (g .c)) ≡ 1 + n
     entries-of g = columns-room (p .at) l (g .c) ∙ ap (1 +_) (g .count)
 
-    pub columns-full : m - p .count ≤ n → p .count ≤ room form t → Keeps (partial.Refused TableFull) t
+    pub columns-full : m - p .count ≤ n → p .count ≤ room form t → Keeps (verdict.Columns f n) (partial.Refused TableFull) t
     columns-full d bound = record {
-      is = λ ms z s. let g = subst (SaysHere ms z) e s in
+      is = λ ms z g.
           full ms (g .ends) (columns-marked h ms (p .at) l (g .c)) (omega (arith, entries-of g)) refl;
     }
 
     pub columns-kept : n < m - p .count → {t′ : List ℕ} → t′ ≡ columnsPut form l (p .at) (p .count) t
-        → Keeps (partial.Next (record { phase = phase.Done f n; line = p .line + 1; at = next; count = p .count + 1 + n })) t′
+        → Keeps (verdict.Columns f n) (partial.Next (record { phase = phase.Done f n; line = p .line + 1; at = next; count = p .count + 1 + n })) t′
     columns-kept d c = record {
-      is = λ ms z s. let g = subst (SaysHere ms z) e s in let j = entries-of g in
+      is = λ ms z g. let j = entries-of g in
           taken ms (g .ends) (columns-marked h ms (p .at) l (g .c)) (omega (arith, j)) (c ∙ columns-put form l (p .at) (g .c) (g .read) (p .count) t (omega (arith, j)))
           (phase.Done f n) refl (omega (arith, j));
     }
 
-pub ruleset keeps = (keep-refused, begin-full, begin-kept, entry-full, entry-kept, columns-full, columns-kept)
+pub ruleset begins = (begin-full, begin-kept)
+
+pub ruleset columns = (columns-full, columns-kept)
+
+pub ruleset keeps = (keep-refused, keep-by, entry-full, entry-kept)
 
 -- One line: found, judged, kept
 
@@ -286,7 +294,7 @@ module _ (form : Form) (imposed : Option Version) (plain : Bool) (h : Bytes) (en
     pub counted : p .count ≡ s₀ .count + length new
     pub began : Fit form (length h) t₀ s₀
     pub fit-here : Fit form (length h) t (spotIn p)
-    pub marked : All (Marked h ms) (pointOf form t (spotIn p) .entries)
+    pub marked : MarkedBefore h (p .at) ms (pointOf form t (spotIn p) .entries)
     pub ascii : plain ≡ true → isAscii (drop (p .at) h) ≡ true
     pub long : length ms ≡ length ms₀
     pub rest : wentOn form imposed h end t₀ s₀ ≡ goOn (limitsBy form) imposed (room form t₀) h end (pointOf form t (spotIn p)) (pieces (drop (p .at) h))
@@ -461,7 +469,14 @@ module _ (form : Form) (imposed : Option Version) (plain : Bool) (h : Bytes) (en
                 at = rw moved (line .next);
                 line = omega (arith, ln, moved, some, g .fit-here .line);
               };
-              marked = rw es (all-append (Marked h ms′) (here .entries) (k .x .1) (f .marks .all (here .entries) (g .marked)) (on-ok (λ (y : Stage × List Entry). All (Marked h ms′) (y .1)) (step .marked) (k .taken)));
+              marked = record {
+                from = g .marked .from;
+                behind = omega (arith, moved, g .marked .behind);
+                all = rw es
+                    (all-append (MarkedFrom h (g .marked .from) ms′) (here .entries) (k .x .1) (f .marks .all (g .marked .from) (here .entries) (g .marked .all))
+                    (all-map (Marked h ms′) (MarkedFrom h (g .marked .from) ms′) (k .x .1) (λ (y : Entry) m. marked-from h (g .marked .from) ms′ y m)
+                    (on-ok (λ (y : Stage × List Entry). All (Marked h ms′) (y .1)) (step .marked) (k .taken))));
+              };
               ascii = λ j. rw moved (ascii-rest h (p .at) (length piece) (g .ascii j));
               long = n ∙ g .long;
               rest = unrolled ∙ go-more (limitsBy form) imposed (room form t₀) h end here piece after before (k .taken) (room-here (k .x) (k .roomy))
@@ -479,16 +494,16 @@ pub ruleset goings = (going-start, kept-length, marks-length, kept-bounds, going
 -- From a spot on
 
 module _ (form : Form) (plain : Bool) (h t : List ℕ) (s : Spot) (b : Begins form plain h t s) where
-  -- the entries that are there are marked
-  pub begin-marked : {kept : List ℕ} → kept ≡ firstEntries form t (s .count) → (ms : Bytes) {ns : Bytes} → ns ≡ markAll h (entriesIn form kept) ms → BeginsMarked form plain h ns t s
-  begin-marked e ms f = record { begins = b; marked = rw (f, e) (all-marked h (entriesIn form (firstEntries form t (s .count))) ms) }
+  -- what lines from there on may clash with is marked
+  pub begin-marked : {kept : List ℕ} → kept ≡ firstEntries form t (s .count) → (ms : Bytes) {ns : Bytes} → ns ≡ markAhead h (s .at) (entriesIn form kept) ms → BeginsMarked form plain h ns t s
+  begin-marked e ms f = record {
+    begins = b;
+    marked = record { from = s .at; behind = omega arith; all = rw (f, e) (ahead-marked h (s .at) (entriesIn form (firstEntries form t (s .count))) ms) };
+  }
 
   -- or there are no marks
   pub begin-unmarked : {ms : Bytes} → length ms ≡ 0 → BeginsMarked form plain h ms t s
-  begin-unmarked {ms} e = record { begins = b; marked = unmarked-all h (pointOf form t s .entries) ms e }
-
-pub marked-length : (h : Bytes) (es : List Entry) (ms : Bytes) {ns : Bytes} → ns ≡ markAll h es ms → length ns ≡ length ms
-marked-length h es ms e = ap length e ∙ all-length h es ms
+  begin-unmarked {ms} e = record { begins = b; marked = record { from = s .at; behind = omega arith; all = unmarked-all h (s .at) (pointOf form t s .entries) ms e } }
 
 module _ (form : Form) (h : Bytes) (t : List ℕ) (p : Parser) {q : Bool} (a : q ≡ fits form (length h) t (spotIn p)) where
   pub on-unfit : (imposed : Option Version) (end : ℕ) → not q ≡ true → ReadsOn form imposed h end t (spotIn p) (advance.Ended p) t
@@ -555,7 +570,7 @@ on-lines {form} {imposed} {h} {end} {t} {s} {r} c {p} {x} i = elim (test (fits f
       none-not (sym (ap (λ (y : Told). y .stop) (sym (ap advanceMeans i) ∙ c .told ∙ q)))
 ]
 
-pub ruleset ons = (begin-marked, begin-unmarked, marked-length, on-out, on-unfit, on-inside, on-begins, on-length)
+pub ruleset ons = (begin-marked, begin-unmarked, ahead-long, on-out, on-unfit, on-inside, on-begins, on-length)
 
 -- A whole header
 

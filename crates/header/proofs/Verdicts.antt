@@ -58,14 +58,14 @@ use Rattle.ids.specs.declared.scan.Clash.the-variants as clashes
 use Rattle.ids.proofs.KeyKinds.{number-small}
 use Rattle.ids.proofs.Markings.{entry-length, entry-own, all-kept, clash-sure}
 use Rattle.header.specs.Steps.{Stage, opening, body, ending, freshState, heldAgainst, stepOn}
-use Rattle.header.specs.Verdicts.{imposedOf, stageOf, isDonePhase, formatEntry, Says, MarksKept, FirstSays, FirstJudged, besideEntries, IdJudged, MapJudged, recordBeside, RecordJudged, ColumnsSay, ColumnsJudged, textBeside, TextJudged, Utf8Told, LineJudged}
+use Rattle.header.specs.Verdicts.{imposedOf, stageOf, isDonePhase, formatEntry, Says, MarksKept, MarkedBefore, FirstSays, FirstJudged, besideEntries, IdJudged, MapJudged, recordBeside, RecordJudged, ColumnsSay, ColumnsJudged, textBeside, TextJudged, Utf8Told, LineJudged}
 use Rattle.header.specs.declared.file_format_option.FileFormatOption.{FileFormatOption}
 use Rattle.header.specs.declared.file_format_option.FileFormatOption.the-variants as option
 use Rattle.header.specs.declared.phase.Phase.{Phase}
 use Rattle.header.specs.declared.phase.Phase.the-variants as phase
 use Rattle.header.specs.declared.verdict.Verdict.{Verdict}
 use Rattle.header.specs.declared.verdict.Verdict.the-variants as verdict
-use Rattle.rules.specs.Claims.{All, Sized, SizedOption, keyIn}
+use Rattle.rules.specs.Claims.{Sized, SizedOption, keyIn}
 
 -- The version in force
 
@@ -121,17 +121,17 @@ pub ruleset firsts = (first-format, first-map, first-text, first-refused)
 -- A record beside those before it
 
 marks-same : (h ms : Bytes) → MarksKept h ms ms
-marks-same h ms = record { long = refl; all = λ es a. a }
+marks-same h ms = record { long = refl; all = λ from es a. a }
 
 marks-more : (h ms : Bytes) (e : Entry) {ms′ : Bytes} → ms′ ≡ markEntry h e ms → MarksKept h ms ms′
-marks-more h ms e a = rw a (record { long = entry-length h e ms; all = λ es b. all-kept h e ms es b })
+marks-more h ms e a = rw a (record { long = entry-length h e ms; all = λ from es b. all-kept h from e ms es b })
 
 judged-by : {A : Type 0} {n m : ℕ} (x : A) → m ≡ n → {k : ℕ} → m ≡ suc k → judged n x ≡ refuse (suc k)
 judged-by x e f = rw (← e, f)
 
 module _ (lim : Limits) (h : Bytes) (es : List Entry) (ms prefix : Bytes) (e : CodeEntry) {a : Clash} (ea : a ≡ clashFound h es ms prefix (entryOf e)) {ms′ : Bytes} (em : ms′ ≡ markEntry h (entryOf e) ms) where
-  found : 2 ≤ entryOf e .kind → prefix ≡ prefixOf (keyIn (lineIn h (entryOf e))) → All (Marked h ms) es → clashNumber a ≡ clashNumber (clashIn h es prefix (entryOf e))
-  found two own m = ap clashNumber (ea ∙ clash-sure h es ms prefix (entryOf e) own two m)
+  found : 2 ≤ entryOf e .kind → prefix ≡ prefixOf (keyIn (lineIn h (entryOf e))) → MarkedBefore h (entryOf e .start) ms es → clashNumber a ≡ clashNumber (clashIn h es prefix (entryOf e))
+  found two own m = ap clashNumber (ea ∙ clash-sure h (m .from) es ms prefix (entryOf e) own two (m .behind) (m .all))
 
   pub id-free : a ≡ clashes.Free → IdJudged lim h es ms prefix (entryOf e) (verdict.Entry e) ms′
   id-free f = record {
@@ -240,7 +240,7 @@ module _ (lim : Limits) (h : Bytes) (es : List Entry) (ms : Bytes) (start end : 
         (ap (λ (t : Tally). t .fields) tally));
   }
     where
-      go : All (Marked h ms) es → (v : Version) (fs : List Field) → Named (keyIn l) (m .key) → m .value ≡ valueStart l
+      go : MarkedBefore h start ms es → (v : Version) (fs : List Field) → Named (keyIn l) (m .key) → m .value ≡ valueStart l
           → readRecord v l ≡ ok (fields (keyIn l) fs) → slotted (textNamed v (keyIn l) (ascii "ID") (fieldsStart (keyIn l)) fs) ≡ slot.Filled (m .id) (m .tag)
           → m .tally .fields ≡ length fs → Says lim h ms′ (besideEntries h es (prefixOf (keyIn l)) (body v) (recordEntry (lim .counted) v start l (fields (keyIn l) fs))) start (body v) l r
       go all v fs named place read held many =
@@ -269,7 +269,7 @@ module _ (lim : Limits) (h : Bytes) (es : List Entry) (v : Version) (start : ℕ
 
 module _ (lim : Limits) (h : Bytes) (es : List Entry) (ms : Bytes) (start end : ℕ) {l : Bytes} (el : l ≡ part h start end) (v : Version) (x : RecordRead) (a : ParsesRecord v l x) where
   -- the line is the one that the code read
-  placed : (r : Verdict) {ms′ : Bytes} → (All (Marked h ms) es → Says lim h ms′ (recordBeside lim h es v start l) start (body v) l r) → MarksKept h ms ms′ → RecordJudged lim h es ms v start end r ms′
+  placed : (r : Verdict) {ms′ : Bytes} → (MarkedBefore h start ms es → Says lim h ms′ (recordBeside lim h es v start l) start (body v) l r) → MarksKept h ms ms′ → RecordJudged lim h es ms v start end r ms′
   placed r {ms′} f m = record { marks = m; is = λ all l′ el′. subst (λ (y : Bytes). Says lim h ms′ (recordBeside lim h es v start y) start (body v) y r) (el ∙ sym el′) (f all) }
 
   read-as : {y : Answer Record} → readRecord v l ≡ y → recordBeside lim h es v start l ≡ (y >>= enter (lim .counted) v [] start l >>= heldAgainst h es)
@@ -300,9 +300,10 @@ module _ (lim : Limits) (h : Bytes) (es : List Entry) (ms : Bytes) (start end : 
       let made : new ≡ recordEntry (lim .counted) v start l (text k (drop at l))
       = q ∙ ap₂ (λ (k f : ℕ). withCounts (record { keyLength = k; fieldCount = f }) (plainEntry textKind start (length l))) (ek ∙ ap (ifCounted (lim .counted)) c) (sym (none-counted (lim .counted))) in
       let two : 2 ≤ new .kind = rw q (omega arith) in
+      let before = subst (λ (y : Entry). MarkedBefore h (y .start) ms es) (sym q) all in
       subst (λ (y : Answer (Stage × List Entry)). Says lim h ms′ y start (body v) l r) (text-beside lim h es v start l k (drop at l) (m .1))
       (subst (λ (y : Entry). Says lim h ms′ (besideEntries h es (prefixOf k) (body v) y) start (body v) l r) made
-      (subst (λ (y : Bytes). Says lim h ms′ (besideEntries h es y (body v) new) start (body v) l r) w (j .is two (w ∙ ap (λ (y : Bytes). prefixOf (keyIn y)) (sym (line-here h new start end el (ap (λ (y : Entry). y .start) q) (ap (λ (y : Entry). y .length) q)))) all start (body v) l))))
+      (subst (λ (y : Bytes). Says lim h ms′ (besideEntries h es y (body v) new) start (body v) l r) w (j .is two (w ∙ ap (λ (y : Bytes). prefixOf (keyIn y)) (sym (line-here h new start end el (ap (λ (y : Entry). y .start) q) (ap (λ (y : Entry). y .length) q)))) before start (body v) l))))
       (j .marks)
 
 pub ruleset records = (record-format, record-refused, record-map, record-text)
@@ -350,7 +351,7 @@ module _ (lim : Limits) (imposed : Option Version) (h ms : Bytes) (es : List Ent
 
 module _ (lim : Limits) (h : Bytes) (es : List Entry) (ms : Bytes) (start end : ℕ) {l : Bytes} (el : l ≡ part h start end) (imposed : Option Version) (p : Phase) where
   -- the line is the one that the code read, and the phase is x
-  here : {x : Phase} → p ≡ x → (r : Verdict) {ms′ : Bytes} → (All (Marked h ms) es → Says lim h ms′ (textBeside lim imposed h es start (stageOf x) l) start (stageOf x) l r)
+  here : {x : Phase} → p ≡ x → (r : Verdict) {ms′ : Bytes} → (MarkedBefore h start ms es → Says lim h ms′ (textBeside lim imposed h es start (stageOf x) l) start (stageOf x) l r)
       → MarksKept h ms ms′ → TextJudged lim h es ms start end p imposed r ms′
   here {x} e r {ms′} f m = record {
     marks = m;
@@ -411,7 +412,7 @@ module _ (lim : Limits) (h : Bytes) (es : List Entry) (ms : Bytes) (plain : Bool
     most = ap (λ (x : Limits). x .line) g
 
     -- the line is the one that the code looked at
-    of-line : (r : Verdict) {ms′ : Bytes} → (All (Marked h ms) es → (plain ≡ true → isUtf8 l ≡ true) → Says lim h ms′ (stepOn lim imposed h es start (stageOf p) l) start (stageOf p) l r)
+    of-line : (r : Verdict) {ms′ : Bytes} → (MarkedBefore h start ms es → (plain ≡ true → isUtf8 l ≡ true) → Says lim h ms′ (stepOn lim imposed h es start (stageOf p) l) start (stageOf p) l r)
         → MarksKept h ms ms′ → Judged r ms′
     of-line r {ms′} f m = record {
       marks = m;

@@ -27,7 +27,7 @@ use Rattle.records.specs.declared.map.Slot.the-variants as slot
 use Rattle.records.specs.declared.record.MapRecord.{MapRecord}
 use Rattle.entries.specs.Values.{entryOf}
 use Rattle.ids.specs.Clashes.{clashNumber, clashIn, prefixOf}
-use Rattle.ids.specs.Marks.{Marked}
+use Rattle.ids.specs.Marks.{Marked, MarkedFrom}
 use Rattle.header.specs.Steps.{Stage, opening, body, ending, freshState, heldAgainst, stepOn}
 use Rattle.header.specs.declared.file_format_option.FileFormatOption.{FileFormatOption}
 use Rattle.header.specs.declared.file_format_option.FileFormatOption.the-variants as option
@@ -72,7 +72,13 @@ Says lim h ms a start g l (verdict.Refused x) = a ≡ refuse (number x)
 -- what was marked stays so
 pub record MarksKept (h ms ms′ : Bytes) : Type 0 where
   pub long : length ms′ ≡ length ms
-  pub all : (es : List Entry) → All (Marked h ms) es → All (Marked h ms′) es
+  pub all : (from : ℕ) (es : List Entry) → All (MarkedFrom h from ms) es → All (MarkedFrom h from ms′) es
+
+-- the entries are marked that a line which begins at `start` may clash with
+pub record MarkedBefore (h : Bytes) (start : ℕ) (ms : Bytes) (es : List Entry) : Type 0 where
+  pub from : ℕ
+  pub behind : from ≤ start
+  pub all : All (MarkedFrom h from ms) es
 
 -- The parts of a verdict
 
@@ -92,12 +98,12 @@ besideEntries h es prefix g e = judged (clashNumber (clashIn h es prefix e)) (g,
 
 pub record IdJudged (lim : Limits) (h : Bytes) (es : List Entry) (ms prefix : Bytes) (e : Entry) (r : Verdict) (ms′ : Bytes) : Type 0 where
   pub marks : MarksKept h ms ms′
-  pub is : 2 ≤ e .kind → prefix ≡ prefixOf (keyIn (lineIn h e)) → All (Marked h ms) es → (start : ℕ) (g : Stage) (l : Bytes) → Says lim h ms′ (besideEntries h es prefix g e) start g l r
+  pub is : 2 ≤ e .kind → prefix ≡ prefixOf (keyIn (lineIn h e)) → MarkedBefore h (e .start) ms es → (start : ℕ) (g : Stage) (l : Bytes) → Says lim h ms′ (besideEntries h es prefix g e) start g l r
 
 -- a map that was read
 pub record MapJudged (lim : Limits) (h : Bytes) (es : List Entry) (ms : Bytes) (start end : ℕ) (m : MapRecord) (r : Verdict) (ms′ : Bytes) : Type 0 where
   pub marks : MarksKept h ms ms′
-  pub is : All (Marked h ms) es → (l : Bytes) → l ≡ part h start end → (v : Version) (fs : List Field)
+  pub is : MarkedBefore h start ms es → (l : Bytes) → l ≡ part h start end → (v : Version) (fs : List Field)
       → Named (keyIn l) (m .key) → m .value ≡ valueStart l
       → readRecord v l ≡ ok (fields (keyIn l) fs) → idSlot v (keyIn l) (fieldsStart (keyIn l)) fs ≡ slot.Filled (m .id) (m .tag)
       → m .tally ≡ tallyOf v (keyIn l) fs
@@ -109,7 +115,7 @@ recordBeside lim h es v start l = readRecord v l >>= enter (lim .counted) v [] s
 
 pub record RecordJudged (lim : Limits) (h : Bytes) (es : List Entry) (ms : Bytes) (v : Version) (start end : ℕ) (r : Verdict) (ms′ : Bytes) : Type 0 where
   pub marks : MarksKept h ms ms′
-  pub is : All (Marked h ms) es → (l : Bytes) → l ≡ part h start end → Says lim h ms′ (recordBeside lim h es v start l) start (body v) l r
+  pub is : MarkedBefore h start ms es → (l : Bytes) → l ≡ part h start end → Says lim h ms′ (recordBeside lim h es v start l) start (body v) l r
 
 -- the column line
 abbrev pub ColumnsSay : Bytes → FileFormat → Verdict → Type 0
@@ -128,7 +134,7 @@ textBeside lim imposed h es start g l = stepText (lim .counted) imposed start (f
 pub record TextJudged (lim : Limits) (h : Bytes) (es : List Entry) (ms : Bytes) (start end : ℕ) (p : Phase) (imposed : Option Version) (r : Verdict) (ms′ : Bytes) :
     Type 0 where
   pub marks : MarksKept h ms ms′
-  pub is : All (Marked h ms) es → (l : Bytes) → l ≡ part h start end → Says lim h ms′ (textBeside lim imposed h es start (stageOf p) l) start (stageOf p) l r
+  pub is : MarkedBefore h start ms es → (l : Bytes) → l ≡ part h start end → Says lim h ms′ (textBeside lim imposed h es start (stageOf p) l) start (stageOf p) l r
 
 -- whether the line is UTF-8, where it is so in an ASCII header
 pub record Utf8Told (plain : Bool) (l : Bytes) (r : Bool) : Type 0 where
@@ -138,5 +144,5 @@ pub record Utf8Told (plain : Bool) (l : Bytes) (r : Bool) : Type 0 where
 pub record LineJudged (lim : Limits) (h : Bytes) (es : List Entry) (ms : Bytes) (plain : Bool) (start end : ℕ) (p : Phase) (imposed : Option Version)
     (r : Verdict) (ms′ : Bytes) : Type 0 where
   pub marks : MarksKept h ms ms′
-  pub is : All (Marked h ms) es → (l : Bytes) → l ≡ part h start end → (plain ≡ true → isUtf8 l ≡ true)
+  pub is : MarkedBefore h start ms es → (l : Bytes) → l ≡ part h start end → (plain ≡ true → isUtf8 l ≡ true)
       → Says lim h ms′ (stepOn lim imposed h es start (stageOf p) l) start (stageOf p) l r

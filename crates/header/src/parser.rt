@@ -17,8 +17,11 @@ use records::refusal::Refusal;
 use values::bytes;
 use values::utf8;
 ghost use mathlib.Core.Path.{_≡_};
+ghost use Prim.Native.Nat.{_≤_};
+ghost use lib.ListN.{length};
 ghost use Rattle.header.specs.Verdicts.{imposedOf};
 ghost use Rattle.header.specs.Steps.{startSpot, fits};
+ghost use Rattle.header.specs.declared.verdict.Verdict.the-variants.{Begin, Columns};
 ghost use Rattle.header.specs.Parsers.{answerMeans, endedAt, refusedAs, spotIn, Bounds, KeepsLine, Parses, Begins, BeginsMarked, ReadsOn, ReadCall};
 
 // What a header is found to be: accepted, with the version in force and the number of samples, or refused.
@@ -91,6 +94,65 @@ impl Parser {
         self.line <= self.at
     }
 
+    // As `keep`, where the line is the fileformat line.
+    fn keep_begun(
+        self,
+        h: &[u8],
+        end: usize,
+        next: usize,
+        v: FileFormat,
+        table: &mut [u64],
+        form: Form,
+    ) -> Partial
+        requires { ⌜ Bounds form (now h) (now table) self ⌝ }
+        ensures { λ r. ⌜ KeepsLine form self (now (h .entry)) end next (Begin v) (now (table .entry)) r (now (table .exit)) ⌝ }
+    {
+        let start = self.at;
+        let l = bytes::part(h, start, end);
+        let entry = Entry::keyed(kind::FILE_FORMAT, start, l.len(), form.counted(10));
+        if !table::put(table, form, self.count, entry) {
+            return Partial::Refused(Refusal::TableFull);
+        }
+        let line = self.line + 1;
+        let count = self.count + 1;
+        Partial::Next(Parser {
+            phase: Phase::Ready(v),
+            line,
+            at: next,
+            count,
+        })
+    }
+
+    // As `keep`, where the line is the column line.
+    fn keep_columns(
+        self,
+        h: &[u8],
+        end: usize,
+        next: usize,
+        v: FileFormat,
+        samples: usize,
+        table: &mut [u64],
+        form: Form,
+    ) -> Partial
+        requires { ⌜ Bounds form (now h) (now table) self ⌝ }
+        ensures { λ r. ⌜ KeepsLine form self (now (h .entry)) end next (Columns v samples) (now (table .entry)) r (now (table .exit)) ⌝ }
+    {
+        let count = self.count;
+        if table::count(table, form) - count <= samples {
+            return Partial::Refused(Refusal::TableFull);
+        }
+        header_line::write_columns(h, self.at, end, count, table, form);
+        let line = self.line + 1;
+        let columns = count + 1;
+        let all = columns + samples;
+        Partial::Next(Parser {
+            phase: Phase::Done(v, samples),
+            line,
+            at: next,
+            count: all,
+        })
+    }
+
     // The state after the line that stands from `at` to `end` and whose successor begins at `next`; its entries are stored if there is
     // room for all of them.
     fn keep(
@@ -105,64 +167,25 @@ impl Parser {
         requires { ⌜ Bounds form (now h) (now table) self ⌝ }
         ensures { λ r. ⌜ KeepsLine form self (now (h .entry)) end next verdict (now (table .entry)) r (now (table .exit)) ⌝ }
     {
-        let start = self.at;
-        let count = self.count;
-        let line = self.line + 1;
         let phase = self.phase;
+        let line = self.line + 1;
         match verdict {
             Verdict::Refused(x) => Partial::Refused(x),
-            Verdict::Begin(v) => {
-                let l = bytes::part(h, start, end);
-                if !table::put(
-                    table,
-                    form,
-                    count,
-                    Entry::keyed(kind::FILE_FORMAT, start, l.len(), form.counted(10)),
-                ) {
-                    return Partial::Refused(Refusal::TableFull);
-                }
-                let begun = count + 1;
-                Partial::Next(Parser {
-                    phase: Phase::Ready(FileFormat {
-                        major: v.major,
-                        minor: v.minor,
-                    }),
-                    line,
-                    at: next,
-                    count: begun,
-                })
-            }
+            Verdict::Begin(v) => self.keep_begun(h, end, next, v, table, form),
             Verdict::Entry(e) => {
-                if !table::put(table, form, count, e) {
+                if !table::put(table, form, self.count, e) {
                     return Partial::Refused(Refusal::TableFull);
                 }
-                let kept = count + 1;
+                let count = self.count + 1;
                 Partial::Next(Parser {
                     phase,
                     line,
                     at: next,
-                    count: kept,
+                    count,
                 })
             }
             Verdict::Columns(v, samples) => {
-                if table::count(table, form) - count <= samples {
-                    return Partial::Refused(Refusal::TableFull);
-                }
-                header_line::write_columns(h, start, end, count, table, form);
-                let columns = count + 1;
-                let all = columns + samples;
-                Partial::Next(Parser {
-                    phase: Phase::Done(
-                        FileFormat {
-                            major: v.major,
-                            minor: v.minor,
-                        },
-                        samples,
-                    ),
-                    line,
-                    at: next,
-                    count: all,
-                })
+                self.keep_columns(h, end, next, v, samples, table, form)
             }
         }
     }
@@ -265,7 +288,7 @@ fn read_lines(
     Advance::Ended(parser)
 }
 
-// The entries that are there are marked first, in `marks`, whatever stands in these.
+// What the lines may clash with is marked first, in `marks`, whatever stands in these.
 fn read_marked(
     header: &[u8],
     end: usize,
@@ -279,7 +302,8 @@ fn read_marked(
         ⌜ ReadsOn (options .form) (imposedOf (options .imposed)) (now (header .entry)) end (now (table .entry)) (spotIn from) r (now (table .exit)) ⌝ }
 {
     let form = options.form;
-    scan::mark_all(header, table::kept(table, form, from.count), form, marks);
+    let kept = table::kept(table, form, from.count);
+    scan::mark_ahead(header, from.at, kept, form, marks);
     read_lines(header, end, from, options, table, marks)
 }
 
@@ -313,11 +337,29 @@ fn read_longer(
     read_marked(header, end, from, options, table, &mut marks)
 }
 
-// The same, with marks of its own where none are lent: a short header has few entries, and clearing more marks than they need costs
+// Of how many bytes the entries may have to be marked: only where IDs ahead are escaped may they be those of any entry before.
+fn marked_size(header: &[u8], at: usize) -> usize
+    ensures { λ r. ⌜ r ≤ length (now (header .entry)) ⌝ }
+{
+    let size = header.len();
+    if at == 0 {
+        return size;
+    }
+    if size <= at {
+        return 0;
+    }
+    if bytes::has(&header[at..], b'\\') {
+        return size;
+    }
+    size - at
+}
+
+// The same, with marks of its own where none are lent: few bytes have few entries, and clearing more marks than they need costs
 // more than it spares. A function that calls itself is not made a part of its caller, nor are those with more marks of it: else all
 // marks would be on the stack of every header.
 fn read_sized(
     header: &[u8],
+    size: usize,
     end: usize,
     from: Parser,
     options: Options,
@@ -331,11 +373,11 @@ fn read_sized(
     if 0 < marks.len() {
         return read_marked(header, end, from, options, table, marks);
     }
-    if header.len() < 32768 {
+    if size < 32768 {
         let mut own = [0u64; 512];
-        return read_sized(header, end, from, options, table, &mut own);
+        return read_sized(header, size, end, from, options, table, &mut own);
     }
-    if header.len() < 0x10_0000 {
+    if size < 0x8_0000 {
         return read_long(header, end, from, options, table);
     }
     read_longer(header, end, from, options, table)
@@ -371,7 +413,8 @@ pub fn read_on(
     if header.len() - at < 256 {
         return read_lines(header, end, from, options, table, &mut none);
     }
-    read_sized(header, end, from, options, table, &mut none)
+    let size = marked_size(header, at);
+    read_sized(header, size, end, from, options, table, &mut none)
 }
 
 // Reads a header into the table, from its first entry on.

@@ -1,4 +1,5 @@
 pub mod KeyKinds
 pub mod Seen
+pub mod Aheads
 pub mod Markings
 pub mod Clashes

@@ -10,15 +10,10 @@ use borrow.Author.Tests.{eq-eqb, ne-eqb, eqb-false, lt-ltb, le-ltb}
 use Rattle.values.specs.Bytes.{Bytes, starts, same}
 use Rattle.values.specs.Value.{meaning}
 use Rattle.values.specs.Marks.{meet}
-use Rattle.values.proofs.Tests.{not-true, not-false, and-off}
+use Rattle.values.proofs.Tests.{not-true, and-off}
 use Rattle.values.proofs.Sames.{differ}
-use Rattle.values.specs.Places.{unescapedAt}
-use Rattle.values.specs.declared.cursor.Cursor.{Cursor}
-use Rattle.values.specs.declared.cursor.ByteRead.{ByteRead}
-use Rattle.values.specs.declared.cursor.ByteRead.the-variants.{Byte, End}
-use Rattle.values.proofs.Meanings.{Comparing, compare, both-end, right-longer, left-longer, differ as byte-differs, agree, told-less}
 use Rattle.rules.specs.Known.{other}
-use Rattle.rules.specs.Entry.{Entry, mapKind}
+use Rattle.rules.specs.Entry.{Entry}
 use Rattle.rules.specs.Shown.{lineIn, idIn, idMeaning}
 use Rattle.entries.specs.declared.entry.Entry.{Entry as CodeEntry}
 use Rattle.entries.specs.Values.{entryOf}
@@ -135,23 +130,16 @@ pub ruleset keys = (keys-start, keys-end, keys-other, keys-miss, keys-hit)
 
 -- The scan for an ID: no entry before number k has it
 
-pub record Ids (h prefix : Bytes) (kind : ℕ) (id : Bytes) (quoted : Bool) (form : Form) (t : List ℕ) (found : Bool) (k : ℕ) : Type 0 where
-  pub none : found ≡ false
+pub record Ids (h prefix : Bytes) (kind : ℕ) (id : Bytes) (quoted : Bool) (form : Form) (t : List ℕ) (k : ℕ) : Type 0 where
   pub still : idSeen h prefix kind (meaning quoted id) (entriesIn form t) ≡ idSeen h prefix kind (meaning quoted id) (drop k (entriesIn form t))
 
-pub ids-start : {h prefix : Bytes} {kind : ℕ} {id : Bytes} {quoted : Bool} {form : Form} {t : List ℕ} → Ids h prefix kind id quoted form t false 0
-ids-start = record { none = refl; still = refl }
+pub ids-start : {h prefix : Bytes} {kind : ℕ} {id : Bytes} {quoted : Bool} {form : Form} {t : List ℕ} → Ids h prefix kind id quoted form t 0
+ids-start = record { still = refl }
 
--- the entry's ID, in p and q, is the same before i as the new one before j; the next entry has the number k
-pub record Within (h prefix : Bytes) (kind : ℕ) (id : Bytes) (quoted : Bool) (form : Form) (t : List ℕ) (found : Bool) (k : ℕ) (p : Bytes) (q : Bool) (i j : ℕ) : Type 0 where
-  pub comparing : Comparing p q id quoted i j
-  pub other : false ≡ same (meaning q p) (meaning quoted id) → Ids h prefix kind id quoted form t found k
-  pub equal : true ≡ same (meaning q p) (meaning quoted id) → true ≡ idSeen h prefix kind (meaning quoted id) (entriesIn form t)
-
-module _ {h prefix : Bytes} {kind : ℕ} {id : Bytes} {quoted : Bool} {form : Form} {t : List ℕ} {found : Bool} {k : ℕ} (g : Ids h prefix kind id quoted form t found k) {n : ℕ} (en : n ≡ room form t) where
-  pub ids-end : n ≤ k → found ≡ idSeen h prefix kind (meaning quoted id) (entriesIn form t)
+module _ {h prefix : Bytes} {kind : ℕ} {id : Bytes} {quoted : Bool} {form : Form} {t : List ℕ} {k : ℕ} (g : Ids h prefix kind id quoted form t k) {n : ℕ} (en : n ≡ room form t) where
+  pub ids-end : n ≤ k → false ≡ idSeen h prefix kind (meaning quoted id) (entriesIn form t)
   unfolding idSeen
-  ids-end l = g .none ∙ sym (g .still ∙ rw (entries-past form t k (rw (← en) l)))
+  ids-end l = sym (g .still ∙ rw (entries-past form t k (rw (← en) l)))
 
   module _ (l : k < n) {e : CodeEntry} (ee : entryOf e ≡ entryIn form t k) where
     ids-turn : idSeen h prefix kind (meaning quoted id) (entriesIn form t)
@@ -159,45 +147,25 @@ module _ {h prefix : Bytes} {kind : ℕ} {id : Bytes} {quoted : Bool} {form : Fo
     unfolding idSeen
     ids-turn = g .still ∙ rw (entries-here form t k (rw (← en) l), ← ee)
 
-    ids-next : isOfId h prefix kind (meaning quoted id) (entryOf e) ≡ false → Ids h prefix kind id quoted form t found (k + 1)
-    ids-next f = record { none = g .none; still = ids-turn ∙ rw f }
+    ids-next : isOfId h prefix kind (meaning quoted id) (entryOf e) ≡ false → Ids h prefix kind id quoted form t (k + 1)
+    ids-next f = record { still = ids-turn ∙ rw f }
 
     module _ {last : ℕ} {q : Bool} (m : Candidate h (entryOf e) prefix kind id last quoted q) where
-      pub no-candidate : last ≡ lastOf id → not q ≡ true → Ids h prefix kind id quoted form t found (k + 1)
-      no-candidate el f = ids-next (m .failed el (not-true q f))
+      pub ids-other : last ≡ lastOf id → q ≡ false → Ids h prefix kind id quoted form t (k + 1)
+      ids-other el f = ids-next (m .failed el f)
 
-      -- the code holds the entry's ID in p
-      pub within-start : not q ≡ false → {p : Bytes} → p ≡ idIn h (entryOf e) → Within h prefix kind id quoted form t found (k + 1) p (e .quoted) 0 0
-      within-start f {p} ep =
-          let i : isOfId h prefix kind (meaning quoted id) (entryOf e) ≡ same (meaning (e .quoted) p) (meaning quoted id) = m .passed (not-false q f) ∙ rw ep in
-          record {
-            comparing = compare p (e .quoted) id quoted;
-            other = λ a. ids-next (i ∙ sym a);
-            equal = λ a. sym (ids-turn ∙ rw (i, ← a));
-          }
+      -- the code holds the entry's ID in p; same-as is what it answered of the two
+      module _ (f : q ≡ true) {p : Bytes} (ep : p ≡ idIn h (entryOf e)) {same-as : Bool} (es : same-as ≡ same (meaning (e .quoted) p) (meaning quoted id)) where
+        has-id : isOfId h prefix kind (meaning quoted id) (entryOf e) ≡ same-as
+        has-id = m .passed f ∙ rw (← ep) (sym es)
 
-module _ {h prefix : Bytes} {kind : ℕ} {id : Bytes} {quoted : Bool} {form : Form} {t : List ℕ} {found : Bool} {k : ℕ} {p : Bytes} {q : Bool} {i j : ℕ}
-    (g : Within h prefix kind id quoted form t found k p q i j) {r : ByteRead} (ea : r ≡ unescapedAt q p i) {s : ByteRead} (eb : s ≡ unescapedAt quoted id j) where
-  pub both-ended : r ≡ End → s ≡ End → true ≡ idSeen h prefix kind (meaning quoted id) (entriesIn form t)
-  both-ended er et = g .equal (both-end (g .comparing) ea eb er et)
+        pub ids-miss : same-as ≡ false → Ids h prefix kind id quoted form t (k + 1)
+        ids-miss i = ids-next (has-id ∙ i)
 
-  pub entry-ended : r ≡ End → {b : ℕ} {d : Cursor} → s ≡ Byte b d → Ids h prefix kind id quoted form t found k
-  entry-ended er et = g .other (right-longer (g .comparing) ea eb er et)
+        pub ids-hit : same-as ≡ true → true ≡ idSeen h prefix kind (meaning quoted id) (entriesIn form t)
+        ids-hit i = sym (ids-turn ∙ rw (has-id, i))
 
-  module _ {a : ℕ} {c : Cursor} (er : r ≡ Byte a c) where
-    pub new-ended : s ≡ End → Ids h prefix kind id quoted form t found k
-    new-ended et = g .other (left-longer (g .comparing) ea eb er et)
-
-    module _ {b : ℕ} {d : Cursor} (et : s ≡ Byte b d) where
-      pub bytes-differ : (a ≡ b → ⊥) → Ids h prefix kind id quoted form t found k
-      bytes-differ ne = g .other (byte-differs (g .comparing) ea eb er et ne)
-
-      pub bytes-agree : a ≡ b → Within h prefix kind id quoted form t found k p q (c .at) (d .at)
-      bytes-agree e = record { comparing = agree (g .comparing) ea eb er et e; other = g .other; equal = g .equal }
-
-pub ruleset ids = (ids-start, ids-end, no-candidate, within-start)
-
-pub ruleset bytes = (both-ended, entry-ended, new-ended, bytes-differ, bytes-agree, told-less)
+pub ruleset ids = (ids-start, ids-end, ids-other, ids-miss, ids-hit)
 
 -- What is answered of the two scans
 

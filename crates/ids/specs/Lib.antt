@@ -1,2 +1,3 @@
 pub mod Clashes
+pub mod Ahead
 pub mod Marks

@@ -1,9 +1,10 @@
 -- Marks of the entries kept so far, by which a scan of them may be left out. Assumes nothing.
 use Prim.Native.Nat.{ℕ, _≤_}
 use mathlib.Core.Path.{_≡_}
-use mathlib.Core.Bool.{Bool, true, false, _&&_}
+use mathlib.Core.Bool.{Bool, true, false, not, _||_, _&&_}
 use mathlib.Core.List.{List, [], _∷_}
 use lib.Dec.{eqb, ltb}
+use lib.ListN.{replicate}
 use Rattle.values.specs.Bytes.{Bytes}
 use Rattle.values.specs.Hash.{wideBasis, wideStep, wideFrom}
 use Rattle.values.specs.Marks.{isMet, meet}
@@ -11,6 +12,7 @@ use Rattle.rules.specs.Known.{other}
 use Rattle.rules.specs.Entry.{Entry, mapKind, textKind}
 use Rattle.rules.specs.Shown.{lineIn, idMeaning}
 use Rattle.rules.specs.Claims.{keyIn}
+use Rattle.ids.specs.Ahead.{isEnded, NewId, hasEscape, notesFrom, isAhead}
 use Rattle.ids.specs.Clashes.{keySeen, idSeen, clashBy}
 use Rattle.ids.specs.declared.scan.Clash.{Clash}
 
@@ -48,13 +50,27 @@ pub record Marked (h : Bytes) (ms : List ℕ) (e : Entry) : Type 0 where
   pub id : 2 ≤ e .kind → e .kind ≤ 7 → isMet ms (idHash (keyHash h e) (e .kind) (idMeaning h e)) ≡ true
   pub key : 7 ≤ e .kind → e .kind ≤ 8 → isMet ms (underHash (keyHash h e) (e .kind)) ≡ true
 
+-- what is marked of an entry that a line from there on may clash with
+pub record MarkedFrom (h : Bytes) (from : ℕ) (ms : List ℕ) (e : Entry) : Type 0 where
+  pub id : 2 ≤ e .kind → e .kind ≤ 7 → NewId h from (idMeaning h e) → isMet ms (idHash (keyHash h e) (e .kind) (idMeaning h e)) ≡ true
+  pub key : 7 ≤ e .kind → e .kind ≤ 8 → isMet ms (underHash (keyHash h e) (e .kind)) ≡ true
+
+-- the entries that have to be marked by the notes of what stands ahead
+unfoldable pub markNoted : Bytes → List ℕ → List Entry → List ℕ → List ℕ
+markNoted h ns [] ms = ms
+markNoted h ns (e ∷ es) ms = markNoted h ns es (elim (isAhead h ns e) [ true ↦ markEntry h e ms | false ↦ ms ])
+
+-- 512 words for the notes; all entries, where an ID ahead may be escaped
+unfoldable pub markAhead : Bytes → ℕ → List Entry → List ℕ → List ℕ
+markAhead h from es ms = elim (hasEscape h from) [ true ↦ markAll h es ms | false ↦ markNoted h (notesFrom h from (replicate 512 0)) es ms ]
+
 -- What is found of a new line: nothing is looked for where the marks tell that it isn't there
 
 unfoldable pub keyFound : Bytes → List Entry → List ℕ → Bytes → ℕ → ℕ → Bool
 keyFound h es ms prefix key kind = isMet ms (underHash key kind) && keySeen h prefix kind es
 
 unfoldable pub idFound : Bytes → List Entry → List ℕ → Bytes → ℕ → Entry → Bool
-idFound h es ms prefix key e = isMet ms (idHash key (e .kind) (idMeaning h e)) && idSeen h prefix (e .kind) (idMeaning h e) es
+idFound h es ms prefix key e = (isMet ms (idHash key (e .kind) (idMeaning h e)) || not (isEnded h e)) && idSeen h prefix (e .kind) (idMeaning h e) es
 
 abbrev pub clashUnder : Bytes → List Entry → List ℕ → Bytes → ℕ → Entry → Clash
 clashUnder h es ms prefix key e = clashBy (e .kind) (idFound h es ms prefix key e) (keyFound h es ms prefix key textKind) (keyFound h es ms prefix key (mapKind other))

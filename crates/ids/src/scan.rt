@@ -1,15 +1,16 @@
 // What a new line clashes with among the entries kept so far.
+use crate::ahead;
 use entries::entry::Entry;
 use entries::form::Form;
 use entries::kind;
 use entries::part;
 use entries::table;
 use values::bytes;
-use values::cursor::ByteRead;
-use values::cursor::Cursor;
 use values::hash;
 use values::marks;
+use values::string;
 ghost use mathlib.Core.Path.{_≡_};
+ghost use mathlib.Core.Bool.{not, _||_};
 ghost use Rattle.values.specs.Value.{meaning};
 ghost use Rattle.values.specs.Marks.{meet};
 ghost use Rattle.rules.specs.Entry.{textKind};
@@ -17,7 +18,8 @@ ghost use Rattle.rules.specs.Shown.{idMeaning};
 ghost use Rattle.entries.specs.Values.{entryOf};
 ghost use Rattle.entries.specs.Tables.{entriesIn};
 ghost use Rattle.ids.specs.Clashes.{lastOf, isOfKey, MayEqual, Candidate, keySeen, idSeen, mapClash};
-ghost use Rattle.ids.specs.Marks.{keyHash, underHash, idHash, markUnder, markEntry, markAll, keyFound, idFound, clashUnder, clashFound};
+ghost use Rattle.ids.specs.Ahead.{isEnded};
+ghost use Rattle.ids.specs.Marks.{keyHash, underHash, idHash, markUnder, markEntry, markAll, markNoted, markAhead, keyFound, idFound, clashUnder, clashFound};
 
 pub enum Clash {
     Free,
@@ -122,37 +124,18 @@ fn id_seen(
 {
     let last = last_byte(id);
     let wanted = Wanted { kind, last, quoted };
-    let mut found = false;
     let mut k = 0;
-    'entries: while k < table::count(kept, form) {
+    while k < table::count(kept, form) {
         let e = table::get(kept, form, k);
         k += 1;
-        if !is_candidate(h, e, prefix, id, wanted) {
-            continue 'entries;
-        }
-        let p = part::id_part(h, e);
-        let q = e.quoted;
-        let mut i = Cursor { at: 0 };
-        let mut j = Cursor { at: 0 };
-        'bytes: loop {
-            let ByteRead::Byte(a, m) = i.next_unescaped(p, q) else {
-                let ByteRead::End = j.next_unescaped(id, quoted) else {
-                    break 'bytes;
-                };
-                found = true;
-                break 'entries;
-            };
-            let ByteRead::Byte(b, n) = j.next_unescaped(id, quoted) else {
-                break 'bytes;
-            };
-            if a != b {
-                break 'bytes;
+        if is_candidate(h, e, prefix, id, wanted) {
+            let other = part::id_part(h, e);
+            if string::same_meaning(other, e.quoted, id, quoted) {
+                return true;
             }
-            i = m;
-            j = n;
         }
     }
-    found
+    false
 }
 
 // What the hashes of an entry begin with: that of an other record's key.
@@ -198,6 +181,16 @@ fn has_key(
     key_seen(h, kept, form, prefix, kind)
 }
 
+// Whether no entry has the new one's ID, by the marks: of an ID that stands otherwise than those that were looked for ahead they tell nothing.
+fn is_free(h: &[u8], met: bool, new: Entry) -> bool
+    ensures { λ r. ⌜ r ≡ not (met || not (isEnded (now (h .entry)) (entryOf new))) ⌝ }
+{
+    if met {
+        return false;
+    }
+    ahead::is_ended(h, new)
+}
+
 // The new entry's ID is marked by that.
 fn has_id(
     h: &[u8],
@@ -211,7 +204,8 @@ fn has_id(
     ensures found { λ r. ⌜ r ≡ idFound (now (h .entry)) (entriesIn form (now (kept .entry))) (now (marks .entry)) (now (prefix .entry)) key (entryOf new) ⌝ }
     ensures marks { λ _. ⌜ now (marks .exit) ≡ meet (now (marks .entry)) (idHash key (new .kind) (idMeaning (now (h .entry)) (entryOf new))) ⌝ }
 {
-    if !marks::meet_hash(marks, id_hash(h, key, new)) {
+    let met = marks::meet_hash(marks, id_hash(h, key, new));
+    if is_free(h, met, new) {
         return false;
     }
     id_seen(
@@ -319,7 +313,7 @@ fn mark_entry(h: &[u8], e: Entry, marks: &mut [u64])
 }
 
 // Marks all entries of a table, so that a scan of them may be left out.
-pub fn mark_all(h: &[u8], kept: &[u64], form: Form, marks: &mut [u64])
+fn mark_all(h: &[u8], kept: &[u64], form: Form, marks: &mut [u64])
     ensures { λ _. ⌜ now (marks .exit) ≡ markAll (now (h .entry)) (entriesIn form (now (kept .entry))) (now (marks .entry)) ⌝ }
 {
     let mut k = 0;
@@ -328,4 +322,35 @@ pub fn mark_all(h: &[u8], kept: &[u64], form: Form, marks: &mut [u64])
         k += 1;
         mark_entry(h, e, marks);
     }
+}
+
+// Marks the entries whose IDs may stand ahead, by the notes of what stands there.
+fn mark_noted(h: &[u8], kept: &[u64], form: Form, notes: &[u64], marks: &mut [u64])
+    ensures { λ _. ⌜ now (marks .exit) ≡ markNoted (now (h .entry)) (now (notes .entry)) (entriesIn form (now (kept .entry))) (now (marks .entry)) ⌝ }
+{
+    let mut k: usize = 0;
+    loop {
+        k = ahead::next_ahead(h, kept, form, notes, k);
+        if table::count(kept, form) <= k {
+            return;
+        }
+        let e = table::get(kept, form, k);
+        mark_entry(h, e, marks);
+        k += 1;
+    }
+}
+
+// Marks what lines from `from` on may clash with, so that a scan of the table may be left out.
+pub fn mark_ahead(h: &[u8], from: usize, kept: &[u64], form: Form, marks: &mut [u64])
+    ensures { λ _. ⌜ now (marks .exit) ≡ markAhead (now (h .entry)) from (entriesIn form (now (kept .entry))) (now (marks .entry)) ⌝ }
+{
+    if table::count(kept, form) == 0 {
+        return;
+    }
+    let mut notes = [0u64; 512];
+    if ahead::look_ahead(h, from, &mut notes) {
+        mark_noted(h, kept, form, &notes, marks);
+        return;
+    }
+    mark_all(h, kept, form, marks);
 }

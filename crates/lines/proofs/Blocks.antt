@@ -1,27 +1,15 @@
 -- Blocks without LF: a turn of each loop on plain values. Assumes nothing.
-use Prim.Native.Nat.{ℕ, _+_, _-_, _≤_, _<_}
+use Prim.Native.Nat.{ℕ, _+_, _-_, _≤_}
 use native.Mathlib.Omega.{arith}
 use mathlib.Core.Path.{_≡_, refl, sym, ap, _∙_}
-use mathlib.Core.Bool.{Bool, true, false}
+use mathlib.Core.Bool.{Bool, false}
 use mathlib.Core.List.{[], _∷_, _++_}
-use lib.ListN.{length, getD, take, drop, length-append, length-drop, length-take, take-append-drop}
+use lib.ListN.{length, take, drop, length-append, length-drop, length-take, take-append-drop}
 use lib.Seq.{drop-drop}
-use borrow.Author.Tests.{eq-eqb, ne-eqb}
 use Rattle.values.specs.Bytes.{Bytes, LF, is, any, before}
 use Rattle.values.proofs.Tests.{or-l, or-r}
 use Rattle.values.proofs.Lists.{before-miss}
 use Rattle.values.proofs.Scans.{Scanning, started, stopOf}
-use Rattle.values.proofs.Seeks.{Seeking, sought, seek-met, seek-unmet, all-seen}
-
-module _ {s : Bytes} {found : Bool} {k : ℕ} (g : Seeking (is LF) s found k) (h : k < length s) where
-  pub met : getD s k 0 ≡ LF → Seeking (is LF) s true (k + 1)
-  met e = seek-met g h (sym (eq-eqb (getD s k 0) LF e)) refl
-
-  pub unmet : (getD s k 0 ≡ LF → ⊥) → Seeking (is LF) s found (k + 1)
-  unmet ne = seek-unmet g h (sym (ne-eqb (getD s k 0) LF ne)) refl
-
--- what answers the needs of `has_lf`
-pub ruleset seeks = (sought, met, unmet, all-seen)
 
 -- bytes that pass no test stand before the first that does
 before-past : (t : ℕ → Bool) (xs ys : Bytes) → any t xs ≡ false → before t (xs ++ ys) ≡ xs ++ before t ys

@@ -3,29 +3,13 @@ use values::bytes;
 ghost use mathlib.Core.Path.{_≡_};
 ghost use Prim.Native.Nat.{_+_};
 ghost use lib.ListN.{length, drop};
-ghost use Rattle.values.specs.Bytes.{LF, is, any, before};
+ghost use Rattle.values.specs.Bytes.{LF, is, before};
 ghost use Rattle.lines.specs.Lines.{LineIs};
 
 // Where the line that was asked for ends, and where the next one stands.
 pub struct Line {
     pub end: usize,
     pub next: usize,
-}
-
-// Whether a LF is among the bytes; each is looked at, so that a compiler can take them all at once.
-pub fn has_lf(s: &[u8]) -> bool
-    ensures { λ r. ⌜ r ≡ any (is LF) (now (s .entry)) ⌝ }
-{
-    let mut found = false;
-    let mut k: usize = 0;
-    while k < s.len() {
-        let b = s[k];
-        k += 1;
-        if b == b'\n' {
-            found = true;
-        }
-    }
-    found
 }
 
 // Past blocks of 16 bytes that have no LF: the first one from there on is the first from `at` on.
@@ -39,7 +23,7 @@ fn skip_blocks(h: &[u8], at: usize) -> usize
     let mut i = at;
     while i <= last {
         let next = i + 16;
-        if has_lf(&h[i..next]) {
+        if bytes::has(&h[i..next], b'\n') {
             return i;
         }
         i = next;

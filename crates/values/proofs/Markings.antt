@@ -14,7 +14,7 @@ use lib.Seq.{getD-set-same, getD-set-other}
 use borrow.Author.Tests.{eq-eqb, ne-eqb, eqb-true, eqb-false}
 use Rattle.values.specs.Bytes.{Bytes}
 use Rattle.values.specs.Hash.{wideStep, wideOf}
-use Rattle.values.specs.Marks.{ended, markWord, markBit, markBits, hasBits, isMet, setBits, meet, isMarked, mark}
+use Rattle.values.specs.Marks.{ended, markWord, markBit, markBits, hasBits, isMet, setBits, meet, isMarked, mark, isNoted, note}
 use Rattle.values.proofs.Tests.{pass, fail, test}
 use Rattle.values.proofs.Hashes.{product-fits}
 
@@ -74,6 +74,11 @@ pub bits-are : (hash : ℕ) {a b c d : ℕ} → a ≡ markBit (hash / 2 ^ 32) �
 unfolding markBits
 bits-are hash ea eb ec ed = rw (ea, eb, ec, ed)
 
+-- where there are no words, none is set
+no-words : (ms : List ℕ) (bits : ℕ) (at : List ℕ → ℕ) → length ms ≡ 0 → ms ≡ setBits ms (at ms) bits
+no-words [] bits at e = refl
+no-words (m ∷ ms) bits at e = absurd (omega arith)
+
 module _ (ms : List ℕ) (hash : ℕ) where
   pub none-met : length ms ≡ 0 → true ≡ isMet ms hash
   unfolding isMet
@@ -81,11 +86,7 @@ module _ (ms : List ℕ) (hash : ℕ) where
 
   pub none-to-meet : length ms ≡ 0 → ms ≡ meet ms hash
   unfolding meet
-  none-to-meet e = go ms e
-    where
-      go : (ns : List ℕ) → length ns ≡ 0 → ns ≡ setBits ns (markWord (length ns) (ended hash)) (markBits (ended hash))
-      go [] e = refl
-      go (n ∷ ns) e = absurd (omega arith)
+  none-to-meet e = no-words ms (markBits (ended hash)) (λ ns. markWord (length ns) (ended hash)) e
 
   -- what the code computed
   module _ {end at : ℕ} (ee : end ≡ wideStep hash 0) (ea : at ≡ markWord (length ms) end) where
@@ -102,6 +103,31 @@ module _ (ms : List ℕ) (hash : ℕ) where
       met-is = rw (ea, eb, ee)
 
 pub ruleset looks = (none-met, none-to-meet, word-here, looked-up, met-is)
+
+-- by one bit
+module _ (ms : List ℕ) (n : ℕ) where
+  pub none-noted : length ms ≡ 0 → true ≡ isNoted ms n
+  unfolding isNoted
+  none-noted e = rw e
+
+  pub none-to-note : length ms ≡ 0 → ms ≡ note ms n
+  unfolding note
+  none-to-note e = no-words ms (markBit (n / 2 ^ 32)) (λ ns. markWord (length ns) n) e
+
+  module _ {at : ℕ} (ea : at ≡ markWord (length ms) n) where
+    pub note-here : (length ms ≡ 0 → ⊥) → at < length ms
+    note-here some = rw ea (word-inside (length ms) n (omega (arith, some)))
+
+    module _ {bit : ℕ} (eb : bit ≡ markBit (n / 2 ^ 32)) where
+      pub note-looked : (length ms ≡ 0 → ⊥) → eqb (bitAnd (getD ms at 0) bit) bit ≡ isNoted ms n
+      unfolding isNoted hasBits
+      note-looked some = rw (ea, eb, ne-eqb (length ms) 0 some)
+
+      pub noted-is : set ms at (bitOr (getD ms at 0) bit) ≡ note ms n
+      unfolding note
+      noted-is = rw (ea, eb)
+
+pub ruleset notes = (none-noted, none-to-note, note-here, note-looked, noted-is)
 
 -- by a kind and a text
 module _ (ms : List ℕ) (kind : ℕ) (text : Bytes) where
@@ -162,6 +188,31 @@ module _ (ms : List ℕ) (hash : ℕ) where
   meet-kept other a = elim (test (eqb (length ms) 0)) [
     | pass e ↦ rw (length-set ms at _, e)
     | fail e ↦ rw (length-set ms at _, e) (other-bits ms at (markBits (ended hash)) (inside e) (markWord (length ms) (ended other)) (markBits (ended other)) (rw e at a))
+  ]
+
+module _ (ms : List ℕ) (n : ℕ) where
+  abbrev place : ℕ
+  place = markWord (length ms) n
+
+  placed : eqb (length ms) 0 ≡ false → place < length ms
+  placed e = word-inside (length ms) n (omega (arith, eqb-false (length ms) 0 e))
+
+  pub note-length : length (note ms n) ≡ length ms
+  unfolding note
+  note-length = length-set ms _ _
+
+  pub note-own : isNoted (note ms n) n ≡ true
+  unfolding isNoted note
+  note-own = elim (test (eqb (length ms) 0)) [
+    | pass e ↦ rw (length-set ms place _, e)
+    | fail e ↦ rw (length-set ms place _, e) (own-bits ms place (markBit (n / 2 ^ 32)) (placed e))
+  ]
+
+  pub note-kept : (other : ℕ) → isNoted ms other ≡ true → isNoted (note ms n) other ≡ true
+  unfolding isNoted note
+  note-kept other a = elim (test (eqb (length ms) 0)) [
+    | pass e ↦ rw (length-set ms place _, e)
+    | fail e ↦ rw (length-set ms place _, e) (other-bits ms place (markBit (n / 2 ^ 32)) (placed e) (markWord (length ms) other) (markBit (other / 2 ^ 32)) (rw e at a))
   ]
 
 module _ (ms : List ℕ) (kind : ℕ) (text : Bytes) where

@@ -4,7 +4,8 @@ use native.Mathlib.Omega.{arith}
 use mathlib.Core.Path.{_≡_, refl, sym, _∙_}
 use mathlib.Core.Bool.{Bool, true, false, _||_}
 use lib.ListN.{length, getD, drop, drop-of-length-le}
-use Rattle.values.specs.Bytes.{Bytes, any}
+use borrow.Author.Tests.{eq-eqb, ne-eqb}
+use Rattle.values.specs.Bytes.{Bytes, is, any}
 use Rattle.values.proofs.Tests.{or-on}
 use Rattle.values.proofs.Lists.{here}
 
@@ -38,3 +39,13 @@ all-seen {t} {s} {found} g h = sym (g .same ∙ rw (drop-of-length-le s h) (whol
 
 -- what answers the needs of such a loop
 pub ruleset seeks = (sought, seek-met, seek-unmet, all-seen)
+
+-- the same for one byte
+module _ {x : ℕ} {s : Bytes} {found : Bool} {k : ℕ} (g : Seeking (is x) s found k) (h : k < length s) where
+  pub byte-met : getD s k 0 ≡ x → Seeking (is x) s true (k + 1)
+  byte-met e = seek-met g h (sym (eq-eqb (getD s k 0) x e)) refl
+
+  pub byte-unmet : (getD s k 0 ≡ x → ⊥) → Seeking (is x) s found (k + 1)
+  byte-unmet ne = seek-unmet g h (sym (ne-eqb (getD s k 0) x ne)) refl
+
+pub ruleset seeks-byte = (sought, byte-met, byte-unmet, all-seen)

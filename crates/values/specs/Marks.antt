@@ -44,3 +44,11 @@ isMarked ms kind text = isMet ms (wideOf kind text)
 
 unfoldable pub mark : List ℕ → ℕ → Bytes → List ℕ
 mark ms kind text = meet ms (wideOf kind text)
+
+-- a number that is noted by one bit
+
+unfoldable pub isNoted : List ℕ → ℕ → Bool
+isNoted ms n = eqb (length ms) 0 || hasBits (getD ms (markWord (length ms) n) 0) (markBit (n / 2 ^ 32))
+
+unfoldable pub note : List ℕ → ℕ → List ℕ
+note ms n = setBits ms (markWord (length ms) n) (markBit (n / 2 ^ 32))

@@ -2,7 +2,7 @@
 ghost use mathlib.Core.Path.{_≡_};
 ghost use Prim.Native.Nat.{_+_, _-_};
 ghost use lib.ListN.{length, drop, take};
-ghost use Rattle.values.specs.Bytes.{is, before, starts, same};
+ghost use Rattle.values.specs.Bytes.{is, any, before, starts, same};
 
 // The place of the first x from `start` on, or the end.
 pub fn find(s: &[u8], start: usize, x: u8) -> usize
@@ -16,6 +16,22 @@ pub fn find(s: &[u8], start: usize, x: u8) -> usize
         i += 1;
     }
     i
+}
+
+// Whether x is among the bytes; each is looked at, so that a compiler can take them all at once.
+pub fn has(s: &[u8], x: u8) -> bool
+    ensures { λ r. ⌜ r ≡ any (is x) (now (s .entry)) ⌝ }
+{
+    let mut found = false;
+    let mut k: usize = 0;
+    while k < s.len() {
+        let b = s[k];
+        k += 1;
+        if b == x {
+            found = true;
+        }
+    }
+    found
 }
 
 pub fn starts_with(s: &[u8], p: &[u8]) -> bool

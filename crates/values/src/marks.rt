@@ -2,7 +2,7 @@
 use crate::hash;
 ghost use mathlib.Core.Path.{_≡_};
 ghost use Rattle.values.specs.Value.{meaning};
-ghost use Rattle.values.specs.Marks.{markWord, markBit, markBits, isMet, meet, isMarked, mark};
+ghost use Rattle.values.specs.Marks.{markWord, markBit, markBits, isMet, meet, isMarked, mark, isNoted, note};
 ghost use Rattle.values.specs.Hash.{wideOf};
 
 // The word for a hash, by its lower half: a product, where a remainder would take a division.
@@ -86,4 +86,28 @@ pub fn meet(marks: &mut [u64], kind: u8, text: &[u8], quoted: bool) -> bool
         return true;
     }
     meet_hash(marks, hash_of(kind, text, quoted))
+}
+
+// Whether a number may have been noted: one bit is cheaper to look at than four, where few numbers are noted.
+pub fn is_noted(marks: &[u64], n: u64) -> bool
+    ensures { λ r. ⌜ r ≡ isNoted (now (marks .entry)) n ⌝ }
+{
+    if marks.len() == 0 {
+        return true;
+    }
+    let at = word_of(marks.len(), n);
+    let bit = bit_of(n / 0x1_0000_0000);
+    marks[at] & bit == bit
+}
+
+pub fn note(marks: &mut [u64], n: u64)
+    ensures { λ _. ⌜ now (marks .exit) ≡ note (now (marks .entry)) n ⌝ }
+{
+    if marks.len() == 0 {
+        return;
+    }
+    let at = word_of(marks.len(), n);
+    let bit = bit_of(n / 0x1_0000_0000);
+    let word = marks[at];
+    marks[at] = word | bit;
 }

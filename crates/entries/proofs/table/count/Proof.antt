@@ -1,22 +1,19 @@
-use Rattle.entries.proofs.Tables.{counted}
 use borrow.Author.Needs.{needs}
 use Rattle.entries.proofs.table.count.Statement.{statement}
 use Rattle.entries.proofs.table.count.Tie as tie
-use Rattle.entries.proofs.table.count.Reads as reads
-use Rattle.entries.proofs.table.count.Lts as lts
-use Rattle.entries.proofs.form.Form.words.Reads as words-reads
+use Rattle.entries.proofs.Tables.{counted}
 
--- src/table.rt:14:19
-words-requires : tie.Need-words-requires
-words-requires c κs = search needs
+enum-told : tie.Need-enum-told
+enum-told c = search needs
 
--- src/table.rt:14:5
-div-result : tie.Need-div-result
-div-result c = search (counted, needs)
+enum-told-2 : tie.Need-enum-told-2
+enum-told-2 c = search needs
 
--- src/table.rt:11:1
 returns : tie.Need-returns
 returns c = search (counted, needs)
 
+returns-2 : tie.Need-returns-2
+returns-2 c = search (counted, needs)
+
 pub count-spec : {M : Type 1} → statement M
-count-spec = tie.close (tie.spec words-requires div-result returns)
+count-spec = tie.close (tie.spec enum-told enum-told-2 returns returns-2)

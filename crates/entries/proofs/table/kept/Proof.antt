@@ -5,10 +5,6 @@ use Rattle.entries.proofs.Tables.{counts, kept-inside}
 use borrow.Author.Needs.{needs}
 use Rattle.entries.proofs.table.kept.Statement.{statement}
 use Rattle.entries.proofs.table.kept.Tie as tie
-use Rattle.entries.proofs.table.kept.Reads as reads
-use Rattle.entries.proofs.table.kept.Lts as lts
-use Rattle.entries.proofs.form.Form.words.Reads as words-reads
-use Rattle.entries.proofs.table.count.Reads as count-reads
 
 -- src/table.rt:21:8
 count-requires : tie.Need-count-requires

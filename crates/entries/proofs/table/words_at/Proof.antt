@@ -3,10 +3,6 @@ use Rattle.entries.proofs.Tables.{counts, words-inside}
 use borrow.Author.Needs.{needs}
 use Rattle.entries.proofs.table.words_at.Statement.{statement}
 use Rattle.entries.proofs.table.words_at.Tie as tie
-use Rattle.entries.proofs.table.words_at.Reads as reads
-use Rattle.entries.proofs.table.words_at.Lts as lts
-use Rattle.entries.proofs.form.Form.words.Reads as words-reads
-use Rattle.entries.proofs.table.count.Reads as count-reads
 
 -- src/table.rt:31:8
 count-requires : tie.Need-count-requires

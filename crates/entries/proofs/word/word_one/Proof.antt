@@ -3,8 +3,6 @@ use Rattle.entries.specs.Words.{wordOne}
 use borrow.Author.Needs.{needs}
 use Rattle.entries.proofs.word.word_one.Statement.{statement}
 use Rattle.entries.proofs.word.word_one.Tie as tie
-use Rattle.entries.proofs.word.word_one.Reads as reads
-use Rattle.entries.proofs.word.word_one.Lts as lts
 
 -- src/word.rt:12:17
 cast-kind : tie.Need-cast-kind

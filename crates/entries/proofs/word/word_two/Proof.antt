@@ -3,9 +3,6 @@ use Rattle.entries.specs.Words.{wordTwo}
 use borrow.Author.Needs.{needs}
 use Rattle.entries.proofs.word.word_two.Statement.{statement}
 use Rattle.entries.proofs.word.word_two.Tie as tie
-use Rattle.entries.proofs.word.word_two.Reads as reads
-use Rattle.entries.proofs.word.word_two.Lts as lts
-use Rattle.entries.proofs.word.bit_of.Reads as bit-of-reads
 
 -- src/word.rt:33:9
 bit-of-requires : tie.Need-bit-of-requires

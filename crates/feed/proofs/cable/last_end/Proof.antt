@@ -13,17 +13,17 @@ abbrev μ-loop : tie.MeasureT-loop
 returns : tie.Need-returns Inv-loop μ-loop
 returns c = search (seeks, needs)
 
-sub-has-lf : tie.Need-sub-has-lf Inv-loop μ-loop
-sub-has-lf c = search (seeks, needs)
+sub-has : tie.Need-sub-has Inv-loop μ-loop
+sub-has c = search (seeks, needs)
 
-part-has-lf-start : tie.Need-part-has-lf-start Inv-loop μ-loop
-part-has-lf-start c = search (seeks, needs)
+part-has-start : tie.Need-part-has-start Inv-loop μ-loop
+part-has-start c = search (seeks, needs)
 
-part-has-lf-end : tie.Need-part-has-lf-end Inv-loop μ-loop
-part-has-lf-end c = search (seeks, needs)
+part-has-end : tie.Need-part-has-end Inv-loop μ-loop
+part-has-end c = search (seeks, needs)
 
-has-lf-requires : tie.Need-has-lf-requires Inv-loop μ-loop
-has-lf-requires c κs = search (seeks, needs)
+has-requires : tie.Need-has-requires Inv-loop μ-loop
+has-requires c κs = search (seeks, needs)
 
 returns-2 : tie.Need-returns-2 Inv-loop μ-loop
 returns-2 c = search (seeks, needs)
@@ -56,10 +56,10 @@ last-end-spec =
     Inv-loop
     μ-loop
     returns
-    sub-has-lf
-    part-has-lf-start
-    part-has-lf-end
-    has-lf-requires
+    sub-has
+    part-has-start
+    part-has-end
+    has-requires
     returns-2
     loop-holds
     sub-last

@@ -13,7 +13,7 @@ use Rattle.header.proofs.parser.+read_sized.{statement}
 use Rattle.header.proofs.parser.+read_sized.Tie.{close}
 
 abbrev μ-read-sized : Measures 3 read-sized-kinds.ps ℕ
-μ-read-sized κs a = 1 - length (a .1 .1 .1 .1 .1 .0 .now)
+μ-read-sized κs a = 1 - length (a .1 .1 .1 .1 .1 .1 .0 .now)
 
 abbrev read-sized-at : ℕ → In 3 read-sized-kinds.ps
 read-sized-at t =

@@ -2,8 +2,6 @@ use Rattle.header.proofs.Fields.{all-fields}
 use borrow.Author.Needs.{needs}
 use Rattle.header.proofs.shown.field.Statement.{statement}
 use Rattle.header.proofs.shown.field.Tie as tie
-use Rattle.header.proofs.shown.field.Reads as reads
-use Rattle.header.proofs.shown.field.Lts as lts
 
 entry-at-requires : tie.Need-entry-at-requires
 entry-at-requires c κs = search (all-fields, needs)

@@ -2,8 +2,6 @@ use Rattle.header.proofs.Fields.{parts}
 use borrow.Author.Needs.{needs}
 use Rattle.header.proofs.shown.field_at.Statement.{statement}
 use Rattle.header.proofs.shown.field_at.Tie as tie
-use Rattle.header.proofs.shown.field_at.Reads as reads
-use Rattle.header.proofs.shown.field_at.Lts as lts
 
 line-field-requires : tie.Need-line-field-requires
 line-field-requires c κs = search (parts, needs)

@@ -2,8 +2,6 @@ use Rattle.header.proofs.Fields.{line-fields}
 use borrow.Author.Needs.{needs}
 use Rattle.header.proofs.shown.line_field.Statement.{statement}
 use Rattle.header.proofs.shown.line_field.Tie as tie
-use Rattle.header.proofs.shown.line_field.Reads as reads
-use Rattle.header.proofs.shown.line_field.Lts as lts
 
 read-entry-requires : tie.Need-read-entry-requires
 read-entry-requires c κs = search (line-fields, needs)

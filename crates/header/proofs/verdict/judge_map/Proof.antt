@@ -2,8 +2,6 @@ use Rattle.header.proofs.Verdicts.{map-judged}
 use borrow.Author.Needs.{needs}
 use Rattle.header.proofs.verdict.judge_map.Statement.{statement}
 use Rattle.header.proofs.verdict.judge_map.Tie as tie
-use Rattle.header.proofs.verdict.judge_map.Reads as reads
-use Rattle.header.proofs.verdict.judge_map.Lts as lts
 
 part-requires : tie.Need-part-requires
 part-requires c κs = search (map-judged, needs)

@@ -2,8 +2,6 @@ use Rattle.header.proofs.Verdicts.{records}
 use borrow.Author.Needs.{needs}
 use Rattle.header.proofs.verdict.judge_record.Statement.{statement}
 use Rattle.header.proofs.verdict.judge_record.Tie as tie
-use Rattle.header.proofs.verdict.judge_record.Reads as reads
-use Rattle.header.proofs.verdict.judge_record.Lts as lts
 
 part-requires : tie.Need-part-requires
 part-requires c κs = search (records, needs)

@@ -25,17 +25,17 @@ loop-holds c = search (skips, needs)
 add-next : tie.Need-add-next Inv-loop μ-loop
 add-next c = search (skips, needs)
 
-sub-has-lf : tie.Need-sub-has-lf Inv-loop μ-loop
-sub-has-lf c = search (skips, needs)
+sub-has : tie.Need-sub-has Inv-loop μ-loop
+sub-has c = search (skips, needs)
 
-part-has-lf-start : tie.Need-part-has-lf-start Inv-loop μ-loop
-part-has-lf-start c = search (skips, needs)
+part-has-start : tie.Need-part-has-start Inv-loop μ-loop
+part-has-start c = search (skips, needs)
 
-part-has-lf-end : tie.Need-part-has-lf-end Inv-loop μ-loop
-part-has-lf-end c = search (skips, needs)
+part-has-end : tie.Need-part-has-end Inv-loop μ-loop
+part-has-end c = search (skips, needs)
 
-has-lf-requires : tie.Need-has-lf-requires Inv-loop μ-loop
-has-lf-requires c κs = search (skips, needs)
+has-requires : tie.Need-has-requires Inv-loop μ-loop
+has-requires c κs = search (skips, needs)
 
 returns-2 : tie.Need-returns-2 Inv-loop μ-loop
 returns-2 c = search (skips, needs)
@@ -59,10 +59,10 @@ skip-blocks-spec =
     sub-last
     loop-holds
     add-next
-    sub-has-lf
-    part-has-lf-start
-    part-has-lf-end
-    has-lf-requires
+    sub-has
+    part-has-start
+    part-has-end
+    has-requires
     returns-2
     loop-less
     loop-again

@@ -1,8 +1,6 @@
 use borrow.Author.Needs.{needs}
 use Rattle.entries.proofs.form.Form.limits.Statement.{statement}
 use Rattle.entries.proofs.form.Form.limits.Tie as tie
-use Rattle.entries.proofs.form.Form.limits.Reads as reads
-use Rattle.entries.proofs.form.Form.limits.Lts as lts
 
 -- src/form.rt:18:28
 enum-told : tie.Need-enum-told

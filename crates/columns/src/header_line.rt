@@ -85,7 +85,7 @@ fn count_long(s: &[u8]) -> ColumnsRead
 fn count_longer(s: &[u8]) -> ColumnsRead
     ensures { λ r. ⌜ r ≡ samplesRead (distinct (split (drop 46 (now (s .entry))))) (length (split (drop 46 (now (s .entry))))) ⌝ }
 {
-    let mut marks = [0u64; 32768];
+    let mut marks = [0u64; 45056];
     count_samples(s, &mut marks)
 }
 

@@ -2,34 +2,33 @@
 use Prim.Native.Nat.{ℕ, _+_, _-_, _≤_, _<_}
 use native.Mathlib.Omega.{arith}
 use mathlib.Core.Path.{_≡_, refl, sym, ap, subst, _∙_}
-use mathlib.Core.Bool.{Bool, true, false, not, _||_}
+use mathlib.Core.Bool.{Bool, true, false, not}
 use mathlib.Core.List.{List, [], _∷_, _++_, append-assoc, append-nil}
-use lib.Dec.{ltb}
-use lib.ListN.{length, take, drop}
+use lib.Dec.{eqb, ltb}
+use lib.ListN.{length, getD, take, drop, take-append-drop}
 use lib.Seq.{take-all, take-add}
-use borrow.Author.Tests.{lt-ltb, le-ltb}
-use Rattle.values.specs.Bytes.{Bytes, is, before}
+use borrow.Author.Tests.{lt-ltb, le-ltb, eqb-true, eqb-false, ltb-true, ltb-false}
+use Rattle.values.specs.Bytes.{Bytes, is, before, starts}
 use Rattle.values.specs.Written.{last}
-use Rattle.values.specs.Hash.{wideOf}
-use Rattle.values.specs.Marks.{isMarked}
-use Rattle.values.proofs.Markings.{none-met}
-use Rattle.values.proofs.Tests.{and-off, not-true, not-false}
+use Rattle.values.proofs.Tests.{pass, fail, test, and-l, and-off, not-true, not-false}
 use Rattle.rules.specs.Version.{Version}
+use Rattle.rules.specs.Known.{isTyped}
 use Rattle.rules.specs.Entry.{Entry}
 use Rattle.rules.specs.Shown.{lineIn}
 use Rattle.entries.specs.declared.entry.Entry.{Entry as CodeEntry}
-use Rattle.entries.specs.Values.{entryOf}
-use Rattle.entries.specs.Tables.{room, firstEntries, entriesIn, entryIn}
-use Rattle.entries.proofs.Stored.{entries-here, entries-past, first-entries}
-use Rattle.house.specs.declared.progress.Progress.{Progress}
-use Rattle.forms.specs.Lines.{houseLine}
-use Rattle.house.specs.Writes.{WroteLines, PutsEntry}
-use Rattle.ids.specs.Clashes.{prefixOf}
-use Rattle.house.specs.Keys.{isUnder, picked, AllListed, isOtherRecord, PutsKey, prefixIn, seenUnder, isFirst, linesIf, otherLines, Marked, MarksTwice, isAlone, PutsOthersBy, PutsOthers}
-use Rattle.house.proofs.Writes.{wrote-no-lines, then-lines}
-use Rattle.house.proofs.Picks.{listed-on}
-use Rattle.house.proofs.Doubles.{alone}
 use Rattle.entries.specs.declared.form.Form.{Form}
+use Rattle.entries.specs.Values.{entryOf}
+use Rattle.entries.specs.Tables.{room, entriesIn, entryIn}
+use Rattle.entries.proofs.Stored.{entries-here, entries-past}
+use Rattle.forms.specs.Lines.{houseLine}
+use Rattle.house.specs.declared.progress.Progress.{Progress}
+use Rattle.house.specs.Writes.{WroteLines, PutsEntry}
+use Rattle.house.specs.Keys.{isRecord, isUnder, picked, Listed, AllListed, isOtherRecord, prefixIn, seenUnder, isFirst, linesIf, otherLines, PutsOthers}
+use Rattle.house.specs.Links.{slotOf, slotIn, Links, NextIs, PassesOther, Linked, SeesKey, PutsLinked, PutsFirst, PutsOthersBy}
+use Rattle.house.proofs.Writes.{wrote-no-lines, then-lines}
+use Rattle.house.proofs.Picks.{listed-on, picked-yes, picked-no}
+use Rattle.house.proofs.Looks.{listed-at, other-record}
+use Rattle.house.proofs.Linkings.{listed-in, own-is, before-head, passed-over, picked-skip, unseen-picked, seen-none, seen-some}
 
 -- what answers the needs of `prefix_part`
 module _ (h : Bytes) (e : CodeEntry) {line : Bytes} (el : line ≡ lineIn h (entryOf e)) {end : ℕ} (f : end ≡ 0 + length (before (is 61) (drop 0 line))) where
@@ -46,38 +45,7 @@ module _ (h : Bytes) (e : CodeEntry) {line : Bytes} (el : line ≡ lineIn h (ent
 
 pub ruleset prefixes = (prefix-whole, prefix-cut)
 
--- The scan for a key: no entry before number k is under it
-
-pub record Seens (form : Form) (h prefix : Bytes) (t : List ℕ) (k : ℕ) : Type 0 where
-  pub still : seenUnder h prefix (entriesIn form t) ≡ seenUnder h prefix (drop k (entriesIn form t))
-
-pub seen-start : {form : Form} {h prefix : Bytes} {t : List ℕ} → Seens form h prefix t 0
-seen-start = record { still = refl }
-
-module _ {form : Form} {h prefix : Bytes} {t : List ℕ} {k : ℕ} (g : Seens form h prefix t k) {n : ℕ} (en : n ≡ room form t) where
-  pub seen-end : n ≤ k → false ≡ seenUnder h prefix (entriesIn form t)
-  unfolding seenUnder
-  seen-end l = sym (g .still ∙ rw (entries-past form t k (rw (← en) l)))
-
-  module _ (l : k < n) {e : CodeEntry} (ee : entryOf e ≡ entryIn form t k) {q : Bool} (u : q ≡ isUnder h prefix (entryOf e)) where
-    seen-turn : seenUnder h prefix (entriesIn form t) ≡ (q || seenUnder h prefix (drop (k + 1) (entriesIn form t)))
-    unfolding seenUnder
-    seen-turn = g .still ∙ rw (entries-here form t k (rw (← en) l), ← ee, ← u)
-
-    pub seen-here : q ≡ true → true ≡ seenUnder h prefix (entriesIn form t)
-    seen-here f = sym (seen-turn ∙ rw f)
-
-    pub seen-not : q ≡ false → Seens form h prefix t (k + 1)
-    seen-not f = record { still = seen-turn ∙ rw f }
-
-pub ruleset seens = (seen-start, seen-end, seen-here, seen-not)
-
--- where there are no marks, any key may have been met
-no-marks : (ms p : List ℕ) → length ms ≡ 0 → isMarked ms 0 p ≡ true
-unfolding isMarked
-no-marks ms p z = sym (none-met ms (wideOf 0 p) z)
-
--- what answers the needs of `is_other`, `is_first` and `is_alone`
+-- what answers the needs of `is_other`
 module _ (e : CodeEntry) where
   pub other-low : e .kind < 7 → false ≡ isOtherRecord (entryOf e)
   other-low l = rw (le-ltb 6 (e .kind) (omega arith))
@@ -88,30 +56,157 @@ module _ (e : CodeEntry) where
   pub other-is : 7 ≤ e .kind → e .kind ≤ 8 → true ≡ isOtherRecord (entryOf e)
   other-is a b = rw (lt-ltb 6 (e .kind) (omega arith), lt-ltb (e .kind) 9 (omega arith))
 
-  -- where there are no marks, any key may be one of several entries
-  pub alone-unmarked : (h twice : Bytes) → length twice ≡ 0 → false ≡ isAlone h twice (entryOf e)
-  unfolding isAlone
-  alone-unmarked h twice z = rw (no-marks twice (prefixIn h (entryOf e)) z) (sym (and-off (isOtherRecord (entryOf e)) refl))
+pub ruleset kinds = (other-low, other-high, other-is)
 
-  module _ (h : Bytes) {q : Bool} (a : q ≡ isOtherRecord (entryOf e)) where
-    pub first-not : not q ≡ true → (ahead : List Entry) → false ≡ isFirst h ahead (entryOf e)
-    unfolding isFirst
-    first-not n ahead = rw (← a, not-true q n)
+-- The scan for a key: no entry before number k is under it
 
-    pub alone-not : not q ≡ true → (twice : Bytes) → false ≡ isAlone h twice (entryOf e)
-    unfolding isAlone
-    alone-not n twice = rw (← a, not-true q n)
+pub record Seeing (form : Form) (h t prefix : Bytes) (slot : ℕ) (heads links : List ℕ) (k : ℕ) : Type 0 where
+  pub is : (f : Bool) (v : Version) → Linked form v f h t prefix slot heads links → (m : ℕ) → m < k → m < room form t → isUnder h prefix (entryIn form t m) ≡ false
 
-    module _ (n : not q ≡ false) {p : Bytes} (i : p ≡ prefixIn h (entryOf e)) where
-      pub first-seen : (ahead : List Entry) {r : Bool} → r ≡ seenUnder h p ahead → not r ≡ isFirst h ahead (entryOf e)
+pub see-start : {form : Form} {h t prefix : Bytes} {slot : ℕ} {heads links : List ℕ} {k : ℕ} → k ≡ getD heads slot 0 → Seeing form h t prefix slot heads links k
+see-start e = record { is = λ f v g m a b. before-head g m (rw (← e) a) b }
+
+module _ {form : Form} {h t prefix : Bytes} {slot : ℕ} {heads links : List ℕ} {k : ℕ} (g : Seeing form h t prefix slot heads links k) where
+  pub see-end : {end : ℕ} → end ≤ k → SeesKey form h t prefix slot heads links end false
+  see-end {end} l = record { is = λ f v x b. sym (seen-none form h t prefix end b (λ m a. g .is f v x m (omega arith) (omega arith))) }
+
+  module _ {e : CodeEntry} (ee : entryOf e ≡ entryIn form t k) {q : Bool} (u : q ≡ isUnder h prefix (entryOf e)) where
+    pub see-here : {end : ℕ} → k < end → q ≡ true → SeesKey form h t prefix slot heads links end true
+    see-here {end} l o = record { is = λ f v x b. sym (seen-some form h t prefix end k l b (ap (isUnder h prefix) (sym ee) ∙ sym u ∙ o)) }
+
+    pub see-more : q ≡ false → {r : ℕ} → PassesOther h (entryOf e) slot heads links (k + 1) r → Seeing form h t prefix slot heads links r
+    see-more o {r} p = record {
+      is = λ f v x m a b. elim (test (ltb m k)) [
+        | pass y ↦ g .is f v x m (ltb-true m k y) b
+        | fail y ↦ elim (test (eqb m k)) [
+          | pass z ↦ rw (eqb-true m k z, ← ee) (sym u ∙ o)
+          | fail z ↦ let w = eqb-false m k z in let d = ltb-false m k y in passed-over x k r (rw (← ee) (p .is)) m (omega (arith, w)) a b
+        ]
+      ];
+    }
+
+pub see-less : {h : Bytes} {e : Entry} {slot : ℕ} {heads links : List ℕ} {k r end : ℕ} → k < end → PassesOther h e slot heads links (k + 1) r → end - r < end - k
+see-less l p = let b = p .back in omega arith
+
+pub next-less : {links : List ℕ} {k r end : ℕ} → k < end → NextIs links (k + 1) r → end - r < end - k
+next-less l p = let b = p .back in omega arith
+
+pub ruleset sees = (see-start, see-end, see-here, see-more, see-less)
+
+-- The loop over the entries of a key: the lines of those before number k are written
+
+pub record Putting (form : Form) (v : Version) (h t prefix : Bytes) (slot : ℕ) (heads links : List ℕ) (first : ℕ) (given old : Bytes) (s₀ : Progress) (new : Bytes) (s : Progress) (k : ℕ) : Type 0 where
+  pub size : length new ≡ length old
+  pub is : Linked form v (s₀ .formed) h t prefix slot heads links → (ls : List Bytes) × ((picked v h prefix (drop first (entriesIn form t)) ≡ ls ++ picked v h prefix (drop k (entriesIn form t))) × WroteLines given old s₀ ls s new)
+
+pub put-start : (form : Form) (v : Version) (h t prefix : Bytes) (slot : ℕ) (heads links : List ℕ) (first : ℕ) (given old : Bytes) (s : Progress) → s .next .at ≤ last → s .lines ≤ last → length old ≤ last
+    → Putting form v h t prefix slot heads links first given old s old s first
+put-start form v h t prefix slot heads links first given old s a b d = record { size = refl; is = λ g. ([], (refl, wrote-no-lines given old s a b d)) }
+
+module _ {form : Form} {v : Version} {h t prefix : Bytes} {slot : ℕ} {heads links : List ℕ} {first : ℕ} {given old : Bytes} {s₀ : Progress} {new : Bytes} {s : Progress} {k : ℕ}
+    (g : Putting form v h t prefix slot heads links first given old s₀ new s k) {n : ℕ} (en : n ≡ room form t) where
+  module _ (l : k < n) {e : CodeEntry} (ee : entryOf e ≡ entryIn form t k) {q : Bool} (u : q ≡ isUnder h prefix (entryOf e)) where
+    inside : k < room form t
+    inside = rw (← en) l
+
+    -- the entries that are passed over
+    skipped : Linked form v (s₀ .formed) h t prefix slot heads links → (r : ℕ) → k + 1 ≤ r
+        → ((m : ℕ) → k + 1 ≤ m → (slotIn h (length heads) (entryIn form t k) ≡ slot → getD links (k + 1) 0 ≤ m) → r ≤ m)
+        → picked v h prefix (drop (k + 1) (entriesIn form t)) ≡ picked v h prefix (drop r (entriesIn form t))
+    skipped x r b p =
+        let z : k + 1 + (r - (k + 1)) ≡ r = omega arith in
+        picked-skip form h t prefix v (r - (k + 1)) (k + 1) (λ m a c d. passed-over x k r p m (omega arith) (rw z at c) d) ∙ ap (λ (i : ℕ). picked v h prefix (drop i (entriesIn form t))) z
+
+    pub put-more : q ≡ true → {p : Progress} {o : Bytes} → PutsEntry v (lineIn h (entryOf e)) given new s p o → length o ≡ length new → {r : ℕ} → NextIs links (k + 1) r
+        → Putting form v h t prefix slot heads links first given old s₀ o p r
+    unfolding isUnder
+    put-more f {p} {o} a m {r} b = record {
+      size = m ∙ g .size;
+      is = λ x.
+          let d = g .is x in
+          let w : isUnder h prefix (entryIn form t k) ≡ true = ap (isUnder h prefix) (sym ee) ∙ sym u ∙ f in
+          let line = houseLine v (lineIn h (entryOf e)) in
+          let y = listed-in x k inside (and-l (isRecord (entryIn form t k)) (starts prefix (lineIn h (entryIn form t k))) w) in
+          let z : Listed (s₀ .formed) v h (entryOf e) = rw ee y in
+          let j : picked v h prefix (drop k (entriesIn form t)) ≡ line ∷ picked v h prefix (drop r (entriesIn form t))
+          = ap (picked v h prefix) (entries-here form t k inside) ∙ picked-yes v h prefix (entryIn form t k) (drop (k + 1) (entriesIn form t)) w
+          ∙ rw (← ee) (ap (line ∷_) (skipped x r (b .back) (λ i c d. b .is i c (d (own-is x k inside w .1))))) in (
+            d .0 ++ line ∷ [],
+            (
+              d .1 .0 ∙ ap (d .0 ++_) j ∙ sym (append-assoc (d .0) (line ∷ []) (picked v h prefix (drop r (entriesIn form t)))),
+              then-lines (d .1 .1) (a .is (z .readable) (λ c. z .copied (sym (d .1 .1 .formed) ∙ c))),
+            ),
+          );
+    }
+
+    pub put-other : q ≡ false → {r : ℕ} → PassesOther h (entryOf e) slot heads links (k + 1) r → Putting form v h t prefix slot heads links first given old s₀ new s r
+    put-other f {r} b = record {
+      size = g .size;
+      is = λ x.
+          let d = g .is x in
+          let w : isUnder h prefix (entryIn form t k) ≡ false = ap (isUnder h prefix) (sym ee) ∙ sym u ∙ f in (
+            d .0,
+            (
+              d .1 .0 ∙ ap (d .0 ++_) (ap (picked v h prefix) (entries-here form t k inside) ∙ picked-no v h prefix (entryIn form t k) (drop (k + 1) (entriesIn form t)) w ∙ skipped x r (b .back) (rw (← ee) (b .is))),
+              d .1 .1,
+            ),
+          );
+    }
+
+  pub put-end : n ≤ k → PutsLinked form v h t prefix slot heads links first given old s₀ s new
+  unfolding picked
+  put-end l = record {
+    is = λ x.
+        let d = g .is x in
+        subst (λ (ls : List Bytes). WroteLines given old s₀ ls s new) (sym (d .1 .0 ∙ ap (d .0 ++_) (rw (entries-past form t k (rw (← en) l))) ∙ append-nil (d .0))) (d .1 .1);
+  }
+
+pub ruleset puttings = (put-more, put-other, put-end, see-less, next-less)
+
+-- what answers the needs of `put_if_first`
+module _ {form : Form} (v : Version) {h : Bytes} {t heads links : List ℕ} {k : ℕ} {e : CodeEntry} (ee : entryOf e ≡ entryIn form t k) {q : Bool} (o : q ≡ isOtherRecord (entryOf e)) where
+  pub first-typed : not q ≡ true → (given old : Bytes) (s : Progress) → PutsFirst form v h t heads links k given old s s old
+  unfolding isFirst
+  first-typed n given old s = record { is = λ x y l out b ls w. rw (← ee, ← o, not-true q n, append-nil ls) w }
+
+  module _ (n : not q ≡ false) {p : Bytes} (i : p ≡ prefixIn h (entryOf e)) {slot : ℕ} (z : slot ≡ slotOf (length heads) p) where
+    linked-here : (f : Bool) → AllListed f v h (entriesIn form t) → Links form h t heads links 0 → k < room form t → Linked form v f h t p slot heads links
+    linked-here f x y l =
+        let other : isOtherRecord (entryOf e) ≡ true = sym o ∙ not-false q n in
+        let g : Listed f v h (entryIn form t k) = listed-at f v h (take k (entriesIn form t)) (entryIn form t k) (drop (k + 1) (entriesIn form t))
+        (subst (AllListed f v h) (sym (take-append-drop k (entriesIn form t)) ∙ ap (take k (entriesIn form t) ++_) (entries-here form t k l)) x)
+        (other-record (entryIn form t k) (ap isOtherRecord (sym ee) ∙ other)) in
+        record {
+          listed = x;
+          chain = y;
+          key = record {
+            key = g .key;
+            plain = g .plain;
+            untyped = not-true (isTyped (g .key)) (sym (g .other) ∙ ap isOtherRecord (sym ee) ∙ other);
+            is = i ∙ ap (prefixIn h) ee ∙ g .prefix;
+          };
+          place = z;
+        }
+
+    module _ {r : Bool} (w : SeesKey form h t p slot heads links k r) where
+      first-is : (f : Bool) → AllListed f v h (entriesIn form t) → Links form h t heads links 0 → k < room form t → isFirst h (take k (entriesIn form t)) (entryIn form t k) ≡ not r
       unfolding isFirst
-      first-seen ahead f = rw (← a, not-false q n, ← i, ← f)
+      first-is f x y l = rw (← ee, ← o, not-false q n, ← i, ← w .is f v (linked-here f x y l) (omega arith))
 
-      pub alone-met : (twice : Bytes) {r : Bool} → r ≡ isMarked twice 0 p → not r ≡ isAlone h twice (entryOf e)
-      unfolding isAlone
-      alone-met twice f = rw (← a, not-false q n, ← i, ← f)
+      pub first-seen : r ≡ true → (given old : Bytes) (s : Progress) → PutsFirst form v h t heads links k given old s s old
+      first-seen c given old s = record { is = λ x y l out b ls u. rw (first-is (s .formed) x y l, c, append-nil ls) u }
 
-pub ruleset firsts = (other-low, other-high, other-is, first-not, first-seen, alone-unmarked, alone-not, alone-met)
+      pub first-put : r ≡ false → {given old : Bytes} {s u : Progress} {new : Bytes} → PutsLinked form v h t p slot heads links k given old s u new → PutsFirst form v h t heads links k given old s u new
+      first-put c {given} {old} {s} {u} {new} a = record {
+        is = λ x y l out b ls d.
+            let j = linked-here (s .formed) x y l in
+            let none : seenUnder h p (take k (entriesIn form t)) ≡ false = sym (w .is (s .formed) v j (omega arith)) ∙ c in
+            let all : picked v h p (entriesIn form t) ≡ picked v h p (drop k (entriesIn form t))
+            = ap (picked v h p) (sym (take-append-drop k (entriesIn form t))) ∙ unseen-picked v h p (take k (entriesIn form t)) (drop k (entriesIn form t)) none in
+            rw (first-is (s .formed) x y l, c, ← ee, ← i, all) (then-lines d (a .is j));
+      }
+
+pub ruleset firsts = (first-typed, first-seen, first-put)
 
 other-turn : (v : Version) (h : Bytes) (es : List Entry) (k : ℕ) (e : Entry) → drop k es ≡ e ∷ drop (k + 1) es → {q : Bool} → q ≡ isFirst h (take k es) e
     → otherLines v h es (take k es) (drop k es) ≡ linesIf q (picked v h (prefixIn h e) es) ++ otherLines v h es (take (k + 1) es) (drop (k + 1) es)
@@ -120,90 +215,45 @@ other-turn v h es k e here first = let more : take (k + 1) es ≡ take k es ++ e
 
 -- The loop over the keys: the lines of those that appear before number k are written
 
-pub record Others (form : Form) (v : Version) (h : Bytes) (t : List ℕ) (given old : Bytes) (s₀ : Progress) (new : Bytes) (s : Progress) (k : ℕ) : Type 0 where
-  pub lines : List Bytes
-  pub whole : otherLines v h (entriesIn form t) [] (entriesIn form t) ≡ lines ++ otherLines v h (entriesIn form t) (take k (entriesIn form t)) (drop k (entriesIn form t))
-  pub wrote : WroteLines given old s₀ lines s new
-
-pub record Othering (form : Form) (v : Version) (h : Bytes) (t : List ℕ) (twice given old : Bytes) (s₀ : Progress) (new : Bytes) (s : Progress) (k : ℕ) : Type 0 where
+pub record Othering (form : Form) (v : Version) (h : Bytes) (t heads links : List ℕ) (given old : Bytes) (s₀ : Progress) (new : Bytes) (s : Progress) (k : ℕ) : Type 0 where
   pub size : length new ≡ length old
-  pub is : AllListed (s₀ .formed) v h (entriesIn form t) → Marked h (entriesIn form t) 2 twice → Others form v h t given old s₀ new s k
+  pub is : AllListed (s₀ .formed) v h (entriesIn form t) → Links form h t heads links 0
+      → (ls : List Bytes) × ((otherLines v h (entriesIn form t) [] (entriesIn form t) ≡ ls ++ otherLines v h (entriesIn form t) (take k (entriesIn form t)) (drop k (entriesIn form t))) × WroteLines given old s₀ ls s new)
 
-pub other-start : (form : Form) (v : Version) (h : Bytes) (t : List ℕ) (twice given old : Bytes) (s : Progress) → s .next .at ≤ last → s .lines ≤ last → length old ≤ last
-    → Othering form v h t twice given old s old s 0
-other-start form v h t twice given old s a b d = record {
-  size = refl;
-  is = λ g j. record { lines = []; whole = refl; wrote = wrote-no-lines given old s a b d };
-}
+pub other-start : (form : Form) (v : Version) (h : Bytes) (t heads links : List ℕ) (given old : Bytes) (s : Progress) → s .next .at ≤ last → s .lines ≤ last → length old ≤ last
+    → Othering form v h t heads links given old s old s 0
+other-start form v h t heads links given old s a b d = record { size = refl; is = λ g j. ([], (refl, wrote-no-lines given old s a b d)) }
 
-module _ {form : Form} {v : Version} {h : Bytes} {t : List ℕ} {twice given old : Bytes} {s₀ : Progress} {new : Bytes} {s : Progress} {k : ℕ} (g : Othering form v h t twice given old s₀ new s k) {n : ℕ} (en : n ≡ room form t) where
+module _ {form : Form} {v : Version} {h : Bytes} {t heads links : List ℕ} {given old : Bytes} {s₀ : Progress} {new : Bytes} {s : Progress} {k : ℕ} (g : Othering form v h t heads links given old s₀ new s k) {n : ℕ} (en : n ≡ room form t) where
   abbrev es : List Entry
   es = entriesIn form t
 
-  module _ (l : k < n) {e : CodeEntry} (ee : entryOf e ≡ entryIn form t k) {ahead : List ℕ} (ea : ahead ≡ firstEntries form t k) {q : Bool} (u : q ≡ isFirst h (entriesIn form ahead) (entryOf e)) where
-    here : drop k es ≡ entryOf e ∷ drop (k + 1) es
-    here = entries-here form t k (rw (← en) l) ∙ ap (_∷ drop (k + 1) es) (sym ee)
+  pub other-more : k < n → {r : Progress} {o : Bytes} → PutsFirst form v h t heads links k given new s r o → length o ≡ length new → Othering form v h t heads links given old s₀ o r (k + 1)
+  other-more l {r} {o} a m = record {
+    size = m ∙ g .size;
+    is = λ x j.
+        let d = g .is x j in
+        let e = entryIn form t k in
+        let ls = linesIf (isFirst h (take k es) e) (picked v h (prefixIn h e) es) in (
+          d .0 ++ ls,
+          (
+            d .1 .0 ∙ ap (d .0 ++_) (other-turn v h es k e (entries-here form t k (rw (← en) l)) refl) ∙ sym (append-assoc (d .0) ls (otherLines v h es (take (k + 1) es) (drop (k + 1) es))),
+            a .is (listed-on (d .1 .1) v h es x) j (rw (← en) l) old s₀ (d .0) (d .1 .1),
+          ),
+        );
+  }
 
-    first : q ≡ isFirst h (take k es) (entryOf e)
-    first = u ∙ rw (ea, first-entries form t k)
-
-    turn : otherLines v h es (take k es) (drop k es) ≡ linesIf q (picked v h (prefixIn h (entryOf e)) es) ++ otherLines v h es (take (k + 1) es) (drop (k + 1) es)
-    turn = other-turn v h es k (entryOf e) here first
-
-    pub other-first : q ≡ true → {p : Bytes} → p ≡ prefixIn h (entryOf e) → {r : Progress} {o : Bytes} → PutsKey v h es p given new s r o → length o ≡ length new → Othering form v h t twice given old s₀ o r (k + 1)
-    other-first f {p} i {r} {o} a m = record {
-      size = m ∙ g .size;
-      is = λ x j.
-          let d = g .is x j in
-          let ls = picked v h (prefixIn h (entryOf e)) es in
-          record {
-            lines = d .lines ++ ls;
-            whole = d .whole ∙ ap (d .lines ++_) (turn ∙ rw f) ∙ sym (append-assoc (d .lines) ls (otherLines v h es (take (k + 1) es) (drop (k + 1) es)));
-            wrote = then-lines (d .wrote) (rw i at (a .is (listed-on (d .wrote) v h es x)));
-          };
-    }
-
-    pub other-later : q ≡ false → Othering form v h t twice given old s₀ new s (k + 1)
-    other-later f = record {
-      size = g .size;
-      is = λ x j. let d = g .is x j in record { lines = d .lines; whole = d .whole ∙ ap (d .lines ++_) (turn ∙ rw f); wrote = d .wrote };
-    }
-
-  module _ (l : k < n) {e : CodeEntry} (ee : entryOf e ≡ entryIn form t k) {q : Bool} (u : q ≡ isAlone h twice (entryOf e)) where
-    here-alone : drop k es ≡ entryOf e ∷ drop (k + 1) es
-    here-alone = entries-here form t k (rw (← en) l) ∙ ap (_∷ drop (k + 1) es) (sym ee)
-
-    pub other-alone : q ≡ true → {r : Progress} {o : Bytes} → PutsEntry v (lineIn h (entryOf e)) given new s r o → length o ≡ length new → Othering form v h t twice given old s₀ o r (k + 1)
-    other-alone f {r} {o} a m = record {
-      size = m ∙ g .size;
-      is = λ x j.
-          let d = g .is x j in
-          let w = alone (s₀ .formed) v h es twice x j k (entryOf e) here-alone (sym u ∙ f) in
-          let ls = houseLine v (lineIn h (entryOf e)) ∷ [] in
-          record {
-            lines = d .lines ++ ls;
-            whole = d .whole ∙ ap (d .lines ++_) (other-turn v h es k (entryOf e) here-alone (sym (w .first)) ∙ ap (_++ otherLines v h es (take (k + 1) es) (drop (k + 1) es)) (w .only))
-                ∙ sym (append-assoc (d .lines) ls (otherLines v h es (take (k + 1) es) (drop (k + 1) es)));
-            wrote = then-lines (d .wrote) (a .is (w .readable) (λ q. w .copied (sym (d .wrote .formed) ∙ q)));
-          };
-    }
-
-  pub other-end : n ≤ k → PutsOthersBy v h es twice given old s₀ s new
+  pub other-end : n ≤ k → PutsOthersBy form v h t heads links given old s₀ s new
   unfolding otherLines
   other-end l = record {
     is = λ x j.
         let d = g .is x j in
-        subst (λ (ls : List Bytes). WroteLines given old s₀ ls s new) (sym (d .whole ∙ ap (d .lines ++_) (rw (entries-past form t k (rw (← en) l))) ∙ append-nil (d .lines))) (d .wrote);
+        subst (λ (ls : List Bytes). WroteLines given old s₀ ls s new) (sym (d .1 .0 ∙ ap (d .0 ++_) (rw (entries-past form t k (rw (← en) l))) ∙ append-nil (d .0))) (d .1 .1);
   }
 
-pub ruleset others = (other-first, other-later, other-alone, other-end)
+pub ruleset others = (other-more, other-end)
 
--- what answers the needs of `put_others_marked` and `put_others`
-module _ {v : Version} {h : Bytes} {es : List Entry} {twice given old : Bytes} {s r : Progress} {new : Bytes} where
-  pub others-marked : MarksTwice h es twice → PutsOthersBy v h es twice given old s r new → PutsOthers v h es given old s r new
-  others-marked m p = record { is = λ a. p .is a (m .is (s .formed) v a) }
-
-  pub others-unmarked : length twice ≡ 0 → PutsOthersBy v h es twice given old s r new → PutsOthers v h es given old s r new
-  others-unmarked z p = record { is = λ a. p .is a (record { is = λ k q t n. no-marks twice (prefixOf k) z }) }
-
-pub ruleset markings = (others-marked, others-unmarked)
+-- what answers the needs of `put_others_linked`
+pub others-linked : {form : Form} {v : Version} {h : Bytes} {t heads links : List ℕ} {given old : Bytes} {s r : Progress} {new : Bytes} → Links form h t heads links 0
+    → PutsOthersBy form v h t heads links given old s r new → PutsOthers v h (entriesIn form t) given old s r new
+others-linked m p = record { is = λ a. p .is a m }

@@ -21,7 +21,7 @@ use Rattle.entries.proofs.Stored.{entries-here, entries-past}
 use Rattle.ids.specs.Clashes.{prefixOf}
 use Rattle.house.specs.declared.progress.Progress.{Progress}
 use Rattle.forms.specs.Lines.{houseLine}
-use Rattle.house.specs.Writes.{WroteLines, Readable, PutsEntry}
+use Rattle.house.specs.Writes.{WroteLines, PutsEntry}
 use Rattle.house.specs.Keys.{isRecord, isUnder, picked, Listed, AllListed, PutsKey, linesUnder, laterKeys, PutsKeys}
 use Rattle.house.proofs.Writes.{wrote-no-lines, then-lines}
 use Rattle.entries.specs.declared.form.Form.{Form}

@@ -1,12 +1,11 @@
 -- The form's lines, as a header's bytes and its entries tell them. Assumes nothing.
-use Prim.Native.Nat.{ℕ, suc, _+_, _≤_}
+use Prim.Native.Nat.{_+_}
 use mathlib.Core.Path.{_≡_}
 use mathlib.Core.Bool.{Bool, true, false, not, _||_, _&&_}
 use mathlib.Core.List.{List, [], _∷_, _++_}
 use lib.Dec.{ltb}
 use lib.ListN.{length, take}
 use Rattle.values.specs.Bytes.{Bytes, ascii, is, any, before, same, starts}
-use Rattle.values.specs.Marks.{isMarked}
 use Rattle.rules.specs.Version.{Version}
 use Rattle.rules.specs.Known.{isTyped}
 use Rattle.rules.specs.Entry.{Entry}
@@ -101,31 +100,6 @@ linesIf false ls = []
 unfoldable pub otherLines : Version → Bytes → List Entry → List Entry → List Entry → List Bytes
 otherLines v h all ahead [] = []
 otherLines v h all ahead (e ∷ es) = linesIf (isFirst h ahead e) (picked v h (prefixIn h e) all) ++ otherLines v h all (ahead ++ e ∷ []) es
-
--- how many entries are under the prefix
-unfoldable pub countUnder : Bytes → Bytes → List Entry → ℕ
-countUnder h prefix [] = 0
-countUnder h prefix (e ∷ es) = elim (isUnder h prefix e) [ true ↦ suc (countUnder h prefix es) | false ↦ countUnder h prefix es ]
-
--- a prefix is marked as one of a key
-abbrev pub isMet : Bytes → Bytes → Bool
-isMet marks prefix = isMarked marks 0 prefix
-
--- a key that is not typed is marked where so many entries have it
-pub record Marked (h : Bytes) (es : List Entry) (n : ℕ) (marks : Bytes) : Type 0 where
-  pub is : (k : Bytes) → any (is 61) k ≡ false → isTyped k ≡ false → n ≤ countUnder h (prefixOf k) es → isMet marks (prefixOf k) ≡ true
-
--- the keys of several entries are marked
-pub record MarksTwice (h : Bytes) (es : List Entry) (left : Bytes) : Type 0 where
-  pub is : (f : Bool) (v : Version) → AllListed f v h es → Marked h es 2 left
-
--- no other entry has the key of this one, whose key is not typed
-unfoldable pub isAlone : Bytes → Bytes → Entry → Bool
-isAlone h twice e = isOtherRecord e && not (isMet twice (prefixIn h e))
-
--- these lines were written, where the keys of several entries are marked
-pub record PutsOthersBy (v : Version) (h : Bytes) (es : List Entry) (twice given old : Bytes) (s r : Progress) (new : Bytes) : Type 0 where
-  pub is : AllListed (s .formed) v h es → Marked h es 2 twice → WroteLines given old s (otherLines v h es [] es) r new
 
 pub record PutsOthers (v : Version) (h : Bytes) (es : List Entry) (given old : Bytes) (s r : Progress) (new : Bytes) : Type 0 where
   pub is : AllListed (s .formed) v h es → WroteLines given old s (otherLines v h es [] es) r new

@@ -1,4 +1,5 @@
 // The entries of a key, as they follow one another in the header.
+use crate::links;
 use crate::progress;
 use crate::progress::Progress;
 use entries::entry::Entry;
@@ -9,13 +10,13 @@ use entries::table;
 use forms::formed;
 use records::file_format::FileFormat;
 use values::bytes;
-use values::marks;
 ghost use mathlib.Core.Path.{_≡_};
 ghost use Rattle.records.specs.Formats.{versionOf};
 ghost use Rattle.rules.specs.Known.{typedKeys};
 ghost use Rattle.entries.specs.Values.{entryOf};
 ghost use Rattle.entries.specs.Tables.{entriesIn};
-ghost use Rattle.house.specs.Keys.{isRecord, isUnder, PutsKey, AreFormed, PutsKeys, laterKeys, isTypedRecord, anyTyped, prefixIn, seenUnder, isOtherRecord, isFirst, MarksTwice, isAlone, PutsOthersBy, PutsOthers};
+ghost use Rattle.house.specs.Keys.{isRecord, isUnder, PutsKey, AreFormed, PutsKeys, laterKeys, isTypedRecord, anyTyped, prefixIn, isOtherRecord, PutsOthers};
+ghost use Rattle.house.specs.Links.{SeesKey, PutsLinked, PutsFirst, PutsOthersBy};
 
 // Whether an entry is a map or a text.
 fn is_record(e: Entry) -> bool
@@ -147,7 +148,7 @@ pub fn put_typed(
 }
 
 // The line through its first `=`.
-fn prefix_part(h: &[u8], e: Entry) -> &[u8]
+pub fn prefix_part(h: &[u8], e: Entry) -> &[u8]
     ensures { λ r. ⌜ now r ≡ prefixIn (now (h .entry)) (entryOf e) ⌝ }
 {
     let line = part::line_part(h, e);
@@ -158,22 +159,8 @@ fn prefix_part(h: &[u8], e: Entry) -> &[u8]
     bytes::part(line, 0, end + 1)
 }
 
-fn is_seen(h: &[u8], kept: &[u64], form: Form, prefix: &[u8]) -> bool
-    ensures { λ r. ⌜ r ≡ seenUnder (now (h .entry)) (now (prefix .entry)) (entriesIn form (now (kept .entry))) ⌝ }
-{
-    let mut k = 0;
-    while k < table::count(kept, form) {
-        let e = table::get(kept, form, k);
-        k += 1;
-        if is_under(h, e, prefix) {
-            return true;
-        }
-    }
-    false
-}
-
 // Whether an entry's key is not typed.
-fn is_other(e: Entry) -> bool
+pub fn is_other(e: Entry) -> bool
     ensures { λ r. ⌜ r ≡ isOtherRecord (entryOf e) ⌝ }
 {
     if e.kind < kind::OTHER_MAP {
@@ -185,98 +172,239 @@ fn is_other(e: Entry) -> bool
     true
 }
 
-// Whether an entry is the first one of a key that is not typed; `ahead` are the entries before it.
-fn is_first(h: &[u8], ahead: &[u64], form: Form, e: Entry) -> bool
-    ensures { λ r. ⌜ r ≡ isFirst (now (h .entry)) (entriesIn form (now (ahead .entry))) (entryOf e) ⌝ }
-{
-    if !is_other(e) {
-        return false;
-    }
-    let prefix = prefix_part(h, e);
-    !is_seen(h, ahead, form, prefix)
-}
-
-// The keys of several entries are marked in `twice`; `met` are marks for those of one.
-fn mark_keys(h: &[u8], kept: &[u64], form: Form, met: &mut [u64], twice: &mut [u64])
-    ensures { λ _. ⌜ MarksTwice (now (h .entry)) (entriesIn form (now (kept .entry))) (now (twice .exit)) ⌝ }
-{
-    let mut k = 0;
-    while k < table::count(kept, form) {
-        let e = table::get(kept, form, k);
-        k += 1;
-        if is_other(e) {
-            let prefix = prefix_part(h, e);
-            if marks::meet(met, 0, prefix, false) {
-                marks::meet(twice, 0, prefix, false);
-            }
-        }
-    }
-}
-
-// Whether no other entry has the key of this one, which is not typed; the keys of several entries are marked in `twice`.
-fn is_alone(h: &[u8], twice: &[u64], e: Entry) -> bool
-    ensures { λ r. ⌜ r ≡ isAlone (now (h .entry)) (now (twice .entry)) (entryOf e) ⌝ }
-{
-    if twice.len() == 0 {
-        return false;
-    }
-    if !is_other(e) {
-        return false;
-    }
-    let prefix = prefix_part(h, e);
-    !marks::is_marked(twice, 0, prefix, false)
-}
-
-// The other keys, by first appearance; those of several entries are marked in `twice`.
-fn put_others_by(
+// Whether a record before number `end` is under the key, whose slot is given.
+fn is_seen(
     h: &[u8],
     kept: &[u64],
     form: Form,
+    prefix: &[u8],
+    slot: usize,
+    heads: &[u32],
+    links: &[u32],
+    end: usize,
+) -> bool
+    ensures { λ r. ⌜ SeesKey form (now (h .entry)) (now (kept .entry)) (now (prefix .entry)) slot (now (heads .entry)) (now (links .entry)) end r ⌝ }
+{
+    let mut k = links::number_at(heads, slot);
+    while k < end {
+        let e = table::get(kept, form, k);
+        k += 1;
+        if is_under(h, e, prefix) {
+            return true;
+        }
+        k = links::pass_other(h, e, slot, heads, links, k);
+    }
+    false
+}
+
+// The lines of the entries under a key that is not typed, from number `first` on.
+fn put_linked(
+    h: &[u8],
+    kept: &[u64],
+    form: Form,
+    prefix: &[u8],
+    slot: usize,
+    heads: &[u32],
+    links: &[u32],
+    first: usize,
     version: FileFormat,
-    twice: &[u64],
     out: &mut [u8],
     given: &[u8],
     s: Progress,
 ) -> Progress
-    ensures { λ r. ⌜ PutsOthersBy (versionOf version) (now (h .entry)) (entriesIn form (now (kept .entry))) (now (twice .entry)) (now (given .entry)) (now (out .entry)) s r (now (out .exit)) ⌝ }
+    ensures { λ r. ⌜ PutsLinked form (versionOf version) (now (h .entry)) (now (kept .entry)) (now (prefix .entry)) slot (now (heads .entry)) (now (links .entry)) first (now (given .entry))
+        (now (out .entry)) s r (now (out .exit)) ⌝ }
 {
     let mut progress = s;
-    let mut k = 0;
+    let mut k = first;
     while k < table::count(kept, form) {
         let e = table::get(kept, form, k);
-        let ahead = table::kept(kept, form, k);
         k += 1;
-        if is_alone(h, twice, e) {
+        if is_under(h, e, prefix) {
             progress = progress::put_entry(h, e, version, out, given, progress);
+            k = links::next_of(links, k);
         } else {
-            if is_first(h, ahead, form, e) {
-                let prefix = prefix_part(h, e);
-                progress = put_key(h, kept, form, prefix, version, out, given, progress);
-            }
+            k = links::pass_other(h, e, slot, heads, links, k);
         }
     }
     progress
 }
 
-// The same, where `met` and `twice` are for marks.
-fn put_others_marked(
+// The lines of the key of entry number k, if that is not typed and no entry before is under it.
+fn put_if_first(
+    h: &[u8],
+    kept: &[u64],
+    form: Form,
+    heads: &[u32],
+    links: &[u32],
+    k: usize,
+    version: FileFormat,
+    out: &mut [u8],
+    given: &[u8],
+    s: Progress,
+) -> Progress
+    ensures { λ r. ⌜ PutsFirst form (versionOf version) (now (h .entry)) (now (kept .entry)) (now (heads .entry)) (now (links .entry)) k (now (given .entry)) (now (out .entry)) s r
+        (now (out .exit)) ⌝ }
+{
+    let e = table::get(kept, form, k);
+    if !is_other(e) {
+        return s;
+    }
+    let prefix = prefix_part(h, e);
+    let slot = links::slot_of(heads, prefix);
+    if is_seen(h, kept, form, prefix, slot, heads, links, k) {
+        return s;
+    }
+    put_linked(
+        h,
+        kept,
+        form,
+        prefix,
+        slot,
+        heads,
+        links,
+        k,
+        version,
+        out,
+        given,
+        s,
+    )
+}
+
+// The other keys, by first appearance, where the entries are linked.
+fn put_others_by(
     h: &[u8],
     kept: &[u64],
     form: Form,
     version: FileFormat,
-    met: &mut [u64],
-    twice: &mut [u64],
+    heads: &[u32],
+    links: &[u32],
+    out: &mut [u8],
+    given: &[u8],
+    s: Progress,
+) -> Progress
+    ensures { λ r. ⌜ PutsOthersBy form (versionOf version) (now (h .entry)) (now (kept .entry)) (now (heads .entry)) (now (links .entry)) (now (given .entry)) (now (out .entry)) s r (now (out .exit)) ⌝ }
+{
+    let mut progress = s;
+    let mut k = 0;
+    while k < table::count(kept, form) {
+        progress = put_if_first(
+            h,
+            kept,
+            form,
+            heads,
+            links,
+            k,
+            version,
+            out,
+            given,
+            progress,
+        );
+        k += 1;
+    }
+    progress
+}
+
+// The same, where `heads` and `links` are to be filled.
+fn put_others_linked(
+    h: &[u8],
+    kept: &[u64],
+    form: Form,
+    version: FileFormat,
+    heads: &mut [u32],
+    links: &mut [u32],
     out: &mut [u8],
     given: &[u8],
     s: Progress,
 ) -> Progress
     ensures { λ r. ⌜ PutsOthers (versionOf version) (now (h .entry)) (entriesIn form (now (kept .entry))) (now (given .entry)) (now (out .entry)) s r (now (out .exit)) ⌝ }
 {
-    mark_keys(h, kept, form, met, twice);
-    put_others_by(h, kept, form, version, twice, out, given, s)
+    links::link_all(h, kept, form, heads, links);
+    put_others_by(h, kept, form, version, heads, links, out, given, s)
 }
 
-// The other keys, by first appearance. Where there are few entries, clearing marks costs more than it spares.
+fn put_others_many(
+    h: &[u8],
+    kept: &[u64],
+    form: Form,
+    version: FileFormat,
+    out: &mut [u8],
+    given: &[u8],
+    s: Progress,
+) -> Progress
+    ensures { λ r. ⌜ PutsOthers (versionOf version) (now (h .entry)) (entriesIn form (now (kept .entry))) (now (given .entry)) (now (out .entry)) s r (now (out .exit)) ⌝ }
+{
+    let mut heads = [0xFFFF_FFFFu32; 16384];
+    let mut links = [0u32; 16384];
+    put_others_linked(
+        h,
+        kept,
+        form,
+        version,
+        &mut heads,
+        &mut links,
+        out,
+        given,
+        s,
+    )
+}
+
+fn put_others_most(
+    h: &[u8],
+    kept: &[u64],
+    form: Form,
+    version: FileFormat,
+    out: &mut [u8],
+    given: &[u8],
+    s: Progress,
+) -> Progress
+    ensures { λ r. ⌜ PutsOthers (versionOf version) (now (h .entry)) (entriesIn form (now (kept .entry))) (now (given .entry)) (now (out .entry)) s r (now (out .exit)) ⌝ }
+{
+    let mut heads = [0xFFFF_FFFFu32; 131072];
+    let mut links = [0u32; 98304];
+    put_others_linked(
+        h,
+        kept,
+        form,
+        version,
+        &mut heads,
+        &mut links,
+        out,
+        given,
+        s,
+    )
+}
+
+// The same, with heads and links of its own where none are lent, as many as there are entries. A function that calls itself is not made a
+// part of its caller, nor are those with more links of it: else all links would be on the stack of every header.
+fn put_others_sized(
+    h: &[u8],
+    kept: &[u64],
+    form: Form,
+    version: FileFormat,
+    heads: &mut [u32],
+    links: &mut [u32],
+    out: &mut [u8],
+    given: &[u8],
+    s: Progress,
+) -> Progress
+    ensures { λ r. ⌜ PutsOthers (versionOf version) (now (h .entry)) (entriesIn form (now (kept .entry))) (now (given .entry)) (now (out .entry)) s r (now (out .exit)) ⌝ }
+{
+    if 0 < links.len() {
+        return put_others_linked(h, kept, form, version, heads, links, out, given, s);
+    }
+    if kept.len() < 2048 {
+        let mut one = [0xFFFF_FFFFu32; 1024];
+        let mut two = [0u32; 1024];
+        return put_others_sized(h, kept, form, version, &mut one, &mut two, out, given, s);
+    }
+    if kept.len() < 32768 {
+        return put_others_many(h, kept, form, version, out, given, s);
+    }
+    put_others_most(h, kept, form, version, out, given, s)
+}
+
+// The other keys, by first appearance. Few entries are looked through in less time than it takes to link them.
 pub fn put_others(
     h: &[u8],
     kept: &[u64],
@@ -288,16 +416,30 @@ pub fn put_others(
 ) -> Progress
     ensures { λ r. ⌜ PutsOthers (versionOf version) (now (h .entry)) (entriesIn form (now (kept .entry))) (now (given .entry)) (now (out .entry)) s r (now (out .exit)) ⌝ }
 {
+    let mut heads = [0u32; 0];
+    let mut links = [0u32; 0];
     if kept.len() <= 128 {
-        let none = [0u64; 0];
-        return put_others_by(h, kept, form, version, &none, out, given, s);
+        return put_others_linked(
+            h,
+            kept,
+            form,
+            version,
+            &mut heads,
+            &mut links,
+            out,
+            given,
+            s,
+        );
     }
-    if h.len() < 65536 {
-        let mut met = [0u64; 512];
-        let mut twice = [0u64; 512];
-        return put_others_marked(h, kept, form, version, &mut met, &mut twice, out, given, s);
-    }
-    let mut met = [0u64; 32768];
-    let mut twice = [0u64; 32768];
-    put_others_marked(h, kept, form, version, &mut met, &mut twice, out, given, s)
+    put_others_sized(
+        h,
+        kept,
+        form,
+        version,
+        &mut heads,
+        &mut links,
+        out,
+        given,
+        s,
+    )
 }

@@ -3,20 +3,20 @@ use Prim.Native.Nat.{ℕ, zero, suc, _+_, _-_, _≤_, _<_}
 use native.Mathlib.Omega.{arith}
 use mathlib.Core.Path.{_≡_, refl, sym, ap, _∙_}
 use mathlib.Core.Bool.{Bool, true, false, not, _||_, _&&_, false≢true}
-use mathlib.Core.List.{List, [], _∷_, _++_}
+use mathlib.Core.List.{List, [], _∷_}
 use mathlib.Core.Option.{Option, none, some}
-use lib.Dec.{eqb, ltb}
+use lib.Dec.{eqb}
 use lib.ListN.{length, getD, drop, take, length-drop}
 use lib.Seq.{getD-drop, drop-drop}
-use borrow.Author.Tests.{eq-eqb, ne-eqb, eqb-true, lt-ltb, le-ltb}
+use borrow.Author.Tests.{eq-eqb, ne-eqb, lt-ltb, le-ltb}
 use Rattle.values.specs.Bytes.{Bytes, any, same}
 use Rattle.values.specs.Value.{isEscapable, meaning}
-use Rattle.values.proofs.Tests.{pass, fail, test, and-l, and-r, or-l, or-r, not-true}
+use Rattle.values.proofs.Tests.{pass, fail, test, and-l, and-r, not-true}
 use Rattle.values.proofs.Sames.{same-sound, same-sym}
 use Rattle.values.proofs.Plains.{same-raw}
 use Rattle.rules.specs.Known.{Number as Asked}
 use Rattle.rules.specs.Reserved.{ReservedRow, lookRow}
-use Rattle.records.specs.Definitions.{asked, definitionMeans, outline, numberCoded, typeCoded, rowCoded, rowsIn}
+use Rattle.records.specs.Definitions.{asked, outline, numberCoded, typeCoded, rowCoded, rowsIn}
 use Rattle.records.specs.Numbers.{typeName}
 use Rattle.records.specs.declared.number.Number.{Number}
 use Rattle.records.specs.declared.number.Number.the-variants.{Count, Letter}

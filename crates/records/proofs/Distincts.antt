@@ -9,7 +9,7 @@ use lib.Dec.{leb}
 use lib.ListN.{length, drop, take}
 use lib.Seq.{drop-drop}
 use borrow.Author.Tests.{leb-true, leb-false}
-use Rattle.values.specs.Bytes.{Bytes, begins, same, part}
+use Rattle.values.specs.Bytes.{Bytes, begins}
 use Rattle.values.specs.Field.{Field, writtenField, readField}
 use Rattle.values.specs.Marks.{isMarked, mark}
 use Rattle.values.specs.Places.{fieldAt, separatorAt}
@@ -19,7 +19,7 @@ use Rattle.values.specs.declared.field.FieldRead.{FieldRead}
 use Rattle.values.specs.declared.field.FieldRead.the-variants as read
 use Rattle.values.specs.declared.field.Separator.{Separator}
 use Rattle.values.specs.declared.field.Separator.the-variants as separator
-use Rattle.values.proofs.Tests.{pass, fail, test, not-true, not-false, both}
+use Rattle.values.proofs.Tests.{pass, fail, test, not-true, both}
 use Rattle.values.proofs.Sames.{differ}
 use Rattle.values.proofs.Places.{FieldHere, field-here}
 use Rattle.values.proofs.Fields.{placed-comma, tail-is}
@@ -27,7 +27,7 @@ use Rattle.values.proofs.Markings.{mark-length, mark-own, mark-kept}
 use Rattle.rules.specs.Known.{isIn}
 use Rattle.rules.specs.Claims.{All}
 use Rattle.rules.proofs.Alls.{all-append}
-use Rattle.records.specs.Maps.{FieldThen, FieldsFrom, keysOf, HasKey, NameKnown, Distinct}
+use Rattle.records.specs.Maps.{FieldsFrom, keysOf, HasKey, NameKnown, Distinct}
 use Rattle.records.specs.declared.key.MapContext.{MapContext}
 use Rattle.records.proofs.Walks.{few-fields, fields-snoc}
 

@@ -10,7 +10,7 @@ use borrow.Author.Tests.{eqb-true}
 use mir.Syntax.{w64}
 use mir.Val.{Fits}
 use Rattle.values.specs.Bytes.{Bytes, is, empty, begins}
-use Rattle.values.specs.Field.{Field, writtenField}
+use Rattle.values.specs.Field.{Field}
 use Rattle.values.specs.declared.cursor.Cursor.{Cursor}
 use Rattle.values.proofs.Tests.{and-r, not-true, not-false}
 use Rattle.values.proofs.Lists.{here}
@@ -22,7 +22,7 @@ use Rattle.rules.specs.Entry.{textNamed}
 use Rattle.records.specs.Formats.{versionOf}
 use Rattle.records.specs.Keys.{caseBytes, contextOf, versionIn, keyBytes}
 use Rattle.rules.specs.Spelling.{hasOdd}
-use Rattle.records.specs.Maps.{FieldsFrom, get, noSlots, closesAsMap, closesAt, bareAt, Distinct, Held, Walk, tallied, scannedFrom, StepIs, StepMoves, ReadsField, WalksFields, fieldsAfter, ReadsFields}
+use Rattle.records.specs.Maps.{slotsOf, filledAs, fieldsOf, get, putSlot, noSlots, closesAsMap, closesAt, bareAt, Distinct, Held, Walk, tallied, scannedFrom, StepIs, StepMoves, ReadsField, WalksFields, fieldsAfter, ReadsFields}
 use Rattle.records.specs.declared.file_format.FileFormat.{FileFormat}
 use Rattle.records.specs.declared.key.MapKey.{MapKey}
 use Rattle.records.specs.declared.key.MapContext.{MapContext}
@@ -30,6 +30,7 @@ use Rattle.records.specs.declared.refusal.Refusal.{Refusal}
 use Rattle.records.specs.declared.refusal.Refusal.the-variants.{InvalidMap}
 use Rattle.records.specs.declared.tag.Tag.{Tag}
 use Rattle.records.specs.declared.tag.Tag.the-variants.{Id, Number, ValueType, Description, Length, Md5, Url, Idx, Other}
+use Rattle.records.specs.declared.map.Slot.{Slot}
 use Rattle.records.specs.declared.map.Slot.the-variants as slot
 use Rattle.records.specs.declared.map.Slots.{Slots}
 use Rattle.records.specs.declared.map.FieldStep.{FieldStep}
@@ -61,29 +62,14 @@ pub record Walking (x : MapContext) (s : Bytes) (at : ℕ) (slots : Slots) (fiel
   pub walk : Walk x s before at slots
   pub count : fields ≡ length before + 1
 
-pub walk-start : (x : MapContext) (s : Bytes) {slots : Slots} → slots ≡ noSlots → Walking x s (x .start) slots 1 0
+pub walk-start : (x : MapContext) (s : Bytes) → Walking x s (x .start) noSlots 1 0
 unfolding checkFields
-walk-start x s e = record { known = none-distinct x s; before = []; walk = record { fields = refl; fine = refl; held = rw e (none-held (versionIn x) (keyBytes x) (x .start)) }; count = refl }
+walk-start x s = record { known = none-distinct x s; before = []; walk = record { fields = refl; fine = refl; held = none-held (versionIn x) (keyBytes x) (x .start) }; count = refl }
 
-module _ {x : MapContext} {s : Bytes} {at : ℕ} {slots : Slots} {n d : ℕ} (g : Walking x s at slots n d) {r : FieldStep} (a : ReadsField x s at slots r) where
-  stepped : {y : FieldStep} → r ≡ y → StepIs x s (g .before) at y
-  stepped e = subst (StepIs x s (g .before) at) e (a .is (g .before) (g .walk))
-
-  -- the names before another place were found to differ
-  pub walk-found : {c : Cursor} {kept : Slots} → r ≡ step.Next c kept → {i : ℕ} → Distinct x s i → Walking x s (c .at) kept (n + 1) i
-  walk-found e k = let y = stepped e in record { known = k; before = g .before ++ y .0 ∷ []; walk = y .1; count = ap (_+ 1) (g .count ∙ sym (length-append (g .before) (y .0 ∷ []))) }
-
-  pub walk-next : {c : Cursor} {kept : Slots} → r ≡ step.Next c kept → Walking x s (c .at) kept (n + 1) d
-  walk-next e = walk-found e (g .known)
-
-  pub walk-counts : length s * 1 < 2 ^ 63 → {d : Cursor} {kept : Slots} → r ≡ step.Next d kept → Fits w64 (n + 1)
-  walk-counts few e =
-      let y = subst (StepMoves s at) e (a .moves) in
-      let b = few-fields (x .brackets) s (x .start) (g .before) at (g .walk .fields) in
-      omega (arith, y, b, g .count)
-
-  pub walk-less : {d : Cursor} {kept : Slots} → r ≡ step.Next d kept → length s - d .at < length s - at
-  walk-less e = let y = subst (StepMoves s at) e (a .moves) in omega arith
+module _ {x : MapContext} {s : Bytes} {at : ℕ} {id number kind description : Slot} {plain odd : Bool} {n d : ℕ} (g : Walking x s at (slotsOf id number kind description plain odd) n d)
+    {slots : Slots} (w : slots ≡ slotsOf id number kind description plain odd) {r : FieldStep} (a : ReadsField x s at slots r) where
+  stepped : {y : FieldStep} → r ≡ y → StepIs x s (g .before) at slots y
+  stepped e = subst (StepIs x s (g .before) at slots) e (a .is (g .before) (rw w (g .walk)))
 
   scanned : (j : ℕ) × (length (drop at s) ≤ j) × (scan (length (drop (x .start) s)) (x .brackets) (drop (x .start) s) ≡ scannedFrom (x .brackets) s (g .before) at j)
   scanned = walk-scan (x .brackets) s (x .start) (g .before) at (length (drop (x .start) s)) (g .walk .fields) (omega arith)
@@ -91,21 +77,66 @@ module _ {x : MapContext} {s : Bytes} {at : ℕ} {slots : Slots} {n d : ℕ} (g 
   pub walk-refused : {y : Refusal} → r ≡ step.Refused y → WalksFields x s (fields.Refused y)
   walk-refused e = record { is = let z = scanned in rw (z .2) (stepped e (z .0) (z .1)) }
 
-  pub walk-last : {kept : Slots} → r ≡ step.Last kept → WalksFields x s (fields.Fields kept (tallied (kept .odd) n))
+  pub walk-last : {kept : Slots} → r ≡ step.Last kept → {y : FieldsRead} → y ≡ fieldsOf kept n → WalksFields x s y
   unfolding first
-  walk-last e = record {
+  walk-last e i = rw i (record {
     is =
         let z = scanned in
         let y = stepped e in
         let w = y .3 (z .0) (z .1) in
         let c : n ≡ length (g .before ++ y .0 ∷ []) = g .count ∙ sym (length-append (g .before) (y .0 ∷ [])) in
         rw (z .2, w) (rw (y .2), y .1, ap₂ tallied (y .1 .spelling) c);
-  }
+  })
+
+  -- one field more, of tag t
+  module _ {c : Cursor} {t : Tag} {b e : ℕ} {q : Bool} {m : ℕ} {o : Bool} (u : r ≡ step.Next c t b e q m o) where
+    pub walk-counts : length s * 1 < 2 ^ 63 → Fits w64 (n + 1)
+    walk-counts few =
+        let y = subst (StepMoves s at) u (a .moves) in
+        let b = few-fields (x .brackets) s (x .start) (g .before) at (g .walk .fields) in
+        omega (arith, y, b, g .count)
+
+    pub walk-less : length s - c .at < length s - at
+    walk-less = let y = subst (StepMoves s at) u (a .moves) in omega arith
+
+    module _ {i : ℕ} (k : Distinct x s i) where
+      walk-on : (t′ : Tag) → t ≡ t′ → Walking x s (c .at) (putSlot t′ (filledAs b e q m) o (slotsOf id number kind description plain odd)) (n + 1) i
+      walk-on t′ f =
+          let y = stepped u in
+          record { known = k; before = g .before ++ y .0 ∷ []; walk = rw (← f, ← w) (y .1); count = ap (_+ 1) (g .count ∙ sym (length-append (g .before) (y .0 ∷ []))) }
+
+      module _ {z : Slot} (v : z ≡ filledAs b e q m) where
+        pub walk-id : t ≡ Id → Walking x s (c .at) (slotsOf z number kind description plain o) (n + 1) i
+        walk-id f = rw v (walk-on Id f)
+
+        pub walk-number : t ≡ Number → Walking x s (c .at) (slotsOf id z kind description plain o) (n + 1) i
+        walk-number f = rw v (walk-on Number f)
+
+        pub walk-type : t ≡ ValueType → Walking x s (c .at) (slotsOf id number z description plain o) (n + 1) i
+        walk-type f = rw v (walk-on ValueType f)
+
+        pub walk-description : t ≡ Description → Walking x s (c .at) (slotsOf id number kind z plain o) (n + 1) i
+        walk-description f = rw v (walk-on Description f)
+
+      pub walk-length : t ≡ Length → Walking x s (c .at) (slotsOf id number kind description false o) (n + 1) i
+      walk-length f = walk-on Length f
+
+      pub walk-md5 : t ≡ Md5 → Walking x s (c .at) (slotsOf id number kind description false o) (n + 1) i
+      walk-md5 f = walk-on Md5 f
+
+      pub walk-url : t ≡ Url → Walking x s (c .at) (slotsOf id number kind description false o) (n + 1) i
+      walk-url f = walk-on Url f
+
+      pub walk-idx : t ≡ Idx → Walking x s (c .at) (slotsOf id number kind description false o) (n + 1) i
+      walk-idx f = walk-on Idx f
+
+      pub walk-other : t ≡ Other → Walking x s (c .at) (slotsOf id number kind description false o) (n + 1) i
+      walk-other f = walk-on Other f
 
 pub walk-known : {x : MapContext} {s : Bytes} {at : ℕ} {slots : Slots} {n d : ℕ} → Walking x s at slots n d → Distinct x s d
 walk-known g = g .known
 
-pub ruleset walks = (walk-start, walk-known, walk-next, walk-found, walk-counts, walk-less, walk-refused, walk-last)
+pub ruleset walks = (walk-start, walk-known, walk-counts, walk-less, walk-refused, walk-last)
 
 -- No field at all
 

@@ -14,7 +14,7 @@ use Rattle.values.specs.declared.field.Separator.the-variants as separator
 use Rattle.values.specs.declared.cursor.Cursor.{Cursor}
 use Rattle.values.proofs.Lists.{here, rest, Stands, there, past, stands}
 use Rattle.values.proofs.Fields.{placed-comma, placed-other}
-use Rattle.rules.specs.Version.{Version, v4-3, v4-5, earlier, since}
+use Rattle.rules.specs.Version.{Version, v4-3, earlier}
 use Rattle.rules.specs.Map.{done, wrong, after}
 use Rattle.rules.specs.Record.{looksMap}
 use Rattle.records.specs.Maps.{opensAt, closesAsMap, closesAt, afterPlaced, afterAt, Checked, rawRefusal, putSlot}
@@ -24,7 +24,7 @@ use Rattle.values.specs.declared.integer.IntegerRead.{IntegerRead}
 use Rattle.values.specs.declared.integer.IntegerRead.the-variants as integer
 use Rattle.rules.specs.Spelling.{isOdd, oddValue}
 use Rattle.rules.specs.Answer.{unless}
-use Rattle.rules.specs.Known.{Kind, isInfo, isFormat, isIn, letters, types}
+use Rattle.rules.specs.Known.{Kind, isInfo, isIn, letters, types}
 use Rattle.records.specs.Refusals.{number}
 use Rattle.records.specs.Tags.{tagRow}
 use Rattle.records.specs.Numbers.{isCount, lettersOf, typesOf}

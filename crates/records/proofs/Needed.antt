@@ -22,7 +22,7 @@ use Rattle.rules.proofs.Shows.{Both, named-text, value-means}
 use Rattle.records.specs.Keys.{caseBytes}
 use Rattle.records.specs.Tags.{tagName}
 use Rattle.records.specs.Fields.{textIn, meaningIn}
-use Rattle.records.specs.Maps.{get, slotted, OpenIs, OpensMap, Full, ParsesTyped, Identified, Described}
+use Rattle.records.specs.Maps.{typedOf, get, slotted, OpenIs, OpensMap, Full, ParsesTyped, Identified, Described}
 use Rattle.records.specs.declared.map.Tally.{Tally}
 use Rattle.records.specs.declared.key.MapKey.{MapKey}
 use Rattle.records.specs.declared.key.MapKey.the-variants as key
@@ -34,6 +34,7 @@ use Rattle.records.specs.declared.map.Slot.the-variants as slot
 use Rattle.records.specs.declared.map.Slots.{Slots}
 use Rattle.records.specs.declared.map.FieldsRead.{FieldsRead}
 use Rattle.records.specs.declared.map.FieldsRead.the-variants as fields
+use Rattle.records.specs.declared.map.TypedRead.{TypedRead}
 use Rattle.records.specs.declared.map.TypedRead.the-variants as typed
 use Rattle.records.proofs.Determined.{filled-one}
 use Rattle.records.proofs.Required.{RawField, asks, asked-first, asked-later, Fielded, fielded, Keeps, keeps-id, holds, has, lacks, whole, asks-of}
@@ -104,9 +105,9 @@ module _ (v : Version) (key : MapKey) (s : Bytes) (c : Cursor) {r : FieldsRead} 
           pub no-description : slots .description ≡ slot.Empty → Full key → ParsesTyped v key s (c .at) (typed.Refused MissingDescription)
           no-description d full = record { is = lacks f (past-type full ∙ asked-first (isSome (fieldNamed v (caseBytes key) (ascii "Description") (f .fs))) 16 _ (has f Description (refl, full .described) d)) }
 
-          pub all-given : {de : Text} {l : ℕ} → slots .description ≡ slot.Filled de l → Full key → ParsesTyped v key s (c .at) (typed.Typed id g nr ty tally)
+          pub all-given : {de : Text} {l : ℕ} → slots .description ≡ slot.Filled de l → {r : TypedRead} → r ≡ typedOf id g nr ty tally → Full key → ParsesTyped v key s (c .at) r
           unfolding first
-          all-given d full = record {
+          all-given d e full = rw e (record {
             is = record {
               fs = f .fs;
               read = whole f (past-type full ∙ asked-later (isSome (fieldNamed v (caseBytes key) (ascii "Description") (f .fs))) 17 [] (has f Description (refl, full .described) d));
@@ -117,7 +118,7 @@ module _ (v : Version) (key : MapKey) (s : Bytes) (c : Cursor) {r : FieldsRead} 
               raw = value-raw f Number (refl, full .numbered) n;
               tallied = f .tallied;
             };
-          }
+          })
 
 pub ruleset all-typed = (typed-refused, no-id, no-number, no-type, no-description, all-given)
 

@@ -9,7 +9,7 @@ use lib.ListN.{length, drop, take, length-drop}
 use lib.Seq.{drop-drop}
 use Rattle.values.specs.Bytes.{Bytes, ascii, same, part}
 use Rattle.values.specs.Value.{Value, isQuoted, textOf, meaningOf}
-use Rattle.values.specs.Field.{Field, writtenField, readField}
+use Rattle.values.specs.Field.{Field, readField}
 use Rattle.values.specs.Places.{cursorAt, textAt, fieldAt}
 use Rattle.values.specs.declared.cursor.Cursor.{Cursor}
 use Rattle.values.specs.declared.string.Text.{Text}
@@ -32,7 +32,7 @@ use Rattle.rules.proofs.Scans.{after-more, scan-none, scan-wrong, scan-done, sc
 use Rattle.records.specs.Refusals.{number}
 use Rattle.records.specs.Keys.{kindBy, versionIn, keyBytes}
 use Rattle.records.specs.Tags.{tagRow, tagName, isRequired, isKept}
-use Rattle.records.specs.Maps.{rawRefusal, checkNumber, OddIs, Checked, get, putSlot, slotted, FieldThen, FieldsFrom, keysOf, namesOf, HasKey, Distinct, Held, allKept, Walk, Repeats, scanRefusal, scannedFrom, RefusedFrom, Taken, TakenIs, TakenMoves, TakesField, ReadsField, afterAt}
+use Rattle.records.specs.Maps.{rawRefusal, checkNumber, OddIs, Checked, filledAs, get, putSlot, slotted, FieldsFrom, keysOf, namesOf, HasKey, Distinct, Held, allKept, Walk, Repeats, scanRefusal, scannedFrom, RefusedFrom, Taken, TakenIs, TakenMoves, TakesField, ReadsField, afterAt}
 use Rattle.records.specs.declared.key.MapContext.{MapContext}
 use Rattle.records.specs.declared.refusal.Refusal.{Refusal}
 use Rattle.records.specs.declared.refusal.Refusal.the-variants.{InvalidField, DuplicateTag, InvalidMap}
@@ -291,7 +291,7 @@ module _ (x : MapContext) (s : Bytes) (at : ℕ) (slots : Slots) {r : FieldRead}
       pub field-repeated : q ≡ true → TakesField x s at slots (taken.Refused DuplicateTag)
       field-repeated h = record { moves = tt; is = λ before l. refused-at before (name-refused (versionIn x) (keyBytes x) before (l .fine) f passes (sym (repeated before l) ∙ h)) }
 
-      pub field-taken : q ≡ false → {tag : ℕ} → tag ≡ tagOf p → {o : Bool} → o ≡ (slots .odd || odd) → TakesField x s at slots (taken.Field g (slot.Filled t tag) o n)
+      pub field-taken : q ≡ false → {tag : ℕ} → tag ≡ tagOf p → {o : Bool} → o ≡ (slots .odd || odd) → TakesField x s at slots (taken.Field g (t .start) (t .end) (t .quoted) tag o n)
       field-taken h {tag} tg {o} od =
           let b′ = told .begun in
           let o′ = told .ordered in
@@ -320,19 +320,16 @@ module _ (x : MapContext) (s : Bytes) (at : ℕ) (slots : Slots) (r : FieldTaken
   pub step-refused : {y : Refusal} → r ≡ taken.Refused y → ReadsField x s at slots (step.Refused y)
   step-refused e = record { moves = tt; is = λ before l. subst (TakenIs x s before at slots) e (a .is before l) }
 
-  module _ {g : Tag} {t : Slot} {o : Bool} {n : Cursor} (e : r ≡ taken.Field g t o n) {left : Slots} (pt : left ≡ putSlot g t o slots) {z : AfterRead} (af : z ≡ afterAt s (n .at)) where
-    took : (before : List Field) → Walk x s before at slots → Taken x s before at slots g t o (n .at)
+  module _ {g : Tag} {b d : ℕ} {q : Bool} {m : ℕ} {o : Bool} {n : Cursor} (e : r ≡ taken.Field g b d q m o n) {z : AfterRead} (af : z ≡ afterAt s (n .at)) where
+    took : (before : List Field) → Walk x s before at slots → Taken x s before at slots g (filledAs b d q m) o (n .at)
     took before l = subst (TakenIs x s before at slots) e (a .is before l)
 
-    kept : (before : List Field) (l : Walk x s before at slots) → Held (versionIn x) (keyBytes x) (x .start) (before ++ took before l .field ∷ []) left
-    kept before l = subst (Held (versionIn x) (keyBytes x) (x .start) (before ++ took before l .field ∷ [])) (sym pt) (took before l .held)
-
-    pub step-next : {y : Cursor} → z ≡ afters.More y → ReadsField x s at slots (step.Next y left)
-    step-next {y} o = go (see-after (after (drop (n .at) s)))
+    pub step-next : {y : Cursor} → z ≡ afters.More y → ReadsField x s at slots (step.Next y g b d q m o)
+    step-next {y} c = go (see-after (after (drop (n .at) s)))
       where
-        go : SeenAfter (after (drop (n .at) s)) → ReadsField x s at slots (step.Next y left)
+        go : SeenAfter (after (drop (n .at) s)) → ReadsField x s at slots (step.Next y g b d q m o)
         go (was-more rest w) =
-            let u : cursorAt (n .at + 1) ≡ y = more-is (sym (rw w at af) ∙ o) in
+            let u : cursorAt (n .at + 1) ≡ y = more-is (sym (rw w at af) ∙ c) in
             let comma = comma-here s (n .at) rest w in
             let moved = subst (TakenMoves s at) e (a .moves) in
             let size = sym (length-drop (n .at) s) ∙ ap length comma in
@@ -345,27 +342,27 @@ module _ (x : MapContext) (s : Bytes) (at : ℕ) (slots : Slots) (r : FieldTaken
                     record {
                       fields = subst (FieldsFrom (x .brackets) s (x .start) (before ++ f .field ∷ [])) (ap (λ (i : ℕ). i + 1) (sym (f .size))) (fields-snoc (x .brackets) s (x .start) before at (f .field) (l .fields) then);
                       fine = f .fine;
-                      held = kept before l;
+                      held = f .held;
                     },
                   );
             })
-        go (was-done w) = let q′ = sym (rw w at af) ∙ o in never cc
-        go (was-wrong w) = let q′ = sym (rw w at af) ∙ o in never cc
+        go (was-done w) = let q′ = sym (rw w at af) ∙ c in never cc
+        go (was-wrong w) = let q′ = sym (rw w at af) ∙ c in never cc
 
-    pub step-last : z ≡ afters.Closed → ReadsField x s at slots (step.Last left)
-    step-last o = record {
+    pub step-last : z ≡ afters.Closed → {k : Slot} → k ≡ filledAs b d q m → {left : Slots} → left ≡ putSlot g k o slots → ReadsField x s at slots (step.Last left)
+    step-last c {k} w {left} p = record {
       moves = tt;
-      is = λ before l. let f = took before l in (f .field, kept before l, f .fine, λ fuel h. scan-done (x .brackets) (drop at s) (f .read) fuel h (go (see-after (after (drop (n .at) s)))));
+      is = λ before l. let f = took before l in (f .field, rw (p, w) (f .held), f .fine, λ fuel h. scan-done (x .brackets) (drop at s) (f .read) fuel h (go (see-after (after (drop (n .at) s)))));
     }
       where
         go : SeenAfter (after (drop (n .at) s)) → after (drop (n .at) s) ≡ done
         go (was-done w) = w
-        go (was-more q w) = let q′ = sym (rw w at af) ∙ o in never cc
-        go (was-wrong w) = let q′ = sym (rw w at af) ∙ o in never cc
+        go (was-more q w) = let q′ = sym (rw w at af) ∙ c in never cc
+        go (was-wrong w) = let q′ = sym (rw w at af) ∙ c in never cc
 
     pub step-wrong : z ≡ afters.Other → ReadsField x s at slots (step.Refused InvalidMap)
     unfolding first
-    step-wrong o = record {
+    step-wrong c = record {
       moves = tt;
       is = λ before l fuel h.
           let f = took before l in
@@ -374,7 +371,7 @@ module _ (x : MapContext) (s : Bytes) (at : ℕ) (slots : Slots) (r : FieldTaken
       where
         go : SeenAfter (after (drop (n .at) s)) → after (drop (n .at) s) ≡ wrong
         go (was-wrong w) = w
-        go (was-more q w) = let q′ = sym (rw w at af) ∙ o in never cc
-        go (was-done w) = let q′ = sym (rw w at af) ∙ o in never cc
+        go (was-more q w) = let q′ = sym (rw w at af) ∙ c in never cc
+        go (was-done w) = let q′ = sym (rw w at af) ∙ c in never cc
 
 pub ruleset steps = (step-refused, step-next, step-last, step-wrong)

@@ -1,5 +1,4 @@
 -- The code's texts of reserved rows, one for each table and each length of an ID, are the rules' tables: computed by the checker. Assumes nothing.
-use Prim.Native.Nat.{ℕ}
 use mathlib.Core.Path.{_≡_, refl}
 use mathlib.Core.List.{[], _∷_, _++_}
 use mathlib.Core.Option.{Option, none}

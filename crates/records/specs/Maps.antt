@@ -103,6 +103,12 @@ pub record Checked (r : Check) (n : ℕ) (odd : Bool) : Type 0 where
 abbrev pub noSlots : Slots
 noSlots = record { id = slot.Empty; number = slot.Empty; kind = slot.Empty; description = slot.Empty; plain = true; odd = false }
 
+abbrev pub slotsOf : Slot → Slot → Slot → Slot → Bool → Bool → Slots
+slotsOf id number kind description plain odd = record { id = id; number = number; kind = kind; description = description; plain = plain; odd = odd }
+
+abbrev pub filledAs : ℕ → ℕ → Bool → ℕ → Slot
+filledAs start end quoted name = slot.Filled (record { start = start; end = end; quoted = quoted }) name
+
 abbrev pub get : Tag → Slots → Slot
 get Id x = x .id
 get Number x = x .number
@@ -211,11 +217,11 @@ pub record Taken (x : MapContext) (s : Bytes) (before : List Field) (at : ℕ) (
   pub held : Held (versionIn x) (keyBytes x) (x .start) (before ++ field ∷ []) (putSlot g t odd slots)
 
 abbrev pub TakenIs : MapContext → Bytes → List Field → ℕ → Slots → FieldTaken → Type 0
-TakenIs x s before at slots (taken.Field g t odd next) = Taken x s before at slots g t odd (next .at)
+TakenIs x s before at slots (taken.Field g start end quoted name odd next) = Taken x s before at slots g (filledAs start end quoted name) odd (next .at)
 TakenIs x s before at slots (taken.Refused y) = RefusedFrom x s before at (number y)
 
 abbrev pub TakenMoves : Bytes → ℕ → FieldTaken → Type 0
-TakenMoves s at (taken.Field g t odd next) = (at < next .at) × (next .at ≤ length s)
+TakenMoves s at (taken.Field g start end quoted name odd next) = (at < next .at) × (next .at ≤ length s)
 TakenMoves s at (taken.Refused x) = Unit {0}
 
 -- the field at a place was taken, or refused, whatever fields were read before it
@@ -223,26 +229,30 @@ pub record TakesField (x : MapContext) (s : Bytes) (at : ℕ) (slots : Slots) (r
   pub moves : TakenMoves s at r
   pub is : (before : List Field) → Walk x s before at slots → TakenIs x s before at slots r
 
-abbrev pub StepIs : MapContext → Bytes → List Field → ℕ → FieldStep → Type 0
-StepIs x s before at (step.Next d slots) = (f : Field) × Walk x s (before ++ f ∷ []) (d .at) slots
-StepIs x s before at (step.Last slots) =
-    (f : Field) × Held (versionIn x) (keyBytes x) (x .start) (before ++ f ∷ []) slots
+abbrev pub StepIs : MapContext → Bytes → List Field → ℕ → Slots → FieldStep → Type 0
+StepIs x s before at slots (step.Next d g start end quoted name odd) =
+    (f : Field) × Walk x s (before ++ f ∷ []) (d .at) (putSlot g (filledAs start end quoted name) odd slots)
+StepIs x s before at slots (step.Last kept) =
+    (f : Field) × Held (versionIn x) (keyBytes x) (x .start) (before ++ f ∷ []) kept
     × (checkFields (versionIn x) (keyBytes x) [] (before ++ f ∷ []) ≡ 0)
     × ((fuel : ℕ) → length (drop at s) ≤ fuel → scan fuel (x .brackets) (drop at s) ≡ (f ∷ [], 0))
-StepIs x s before at (step.Refused y) = RefusedFrom x s before at (number y)
+StepIs x s before at slots (step.Refused y) = RefusedFrom x s before at (number y)
 
 abbrev pub StepMoves : Bytes → ℕ → FieldStep → Type 0
-StepMoves s at (step.Next d slots) = (at < d .at) × (d .at ≤ length s)
-StepMoves s at (step.Last slots) = Unit {0}
+StepMoves s at (step.Next d g start end quoted name odd) = (at < d .at) × (d .at ≤ length s)
+StepMoves s at (step.Last kept) = Unit {0}
 StepMoves s at (step.Refused x) = Unit {0}
 
 -- the field at a place was read with what follows it
 pub record ReadsField (x : MapContext) (s : Bytes) (at : ℕ) (slots : Slots) (r : FieldStep) : Type 0 where
   pub moves : StepMoves s at r
-  pub is : (before : List Field) → Walk x s before at slots → StepIs x s before at r
+  pub is : (before : List Field) → Walk x s before at slots → StepIs x s before at slots r
 
 abbrev pub tallied : Bool → ℕ → Tally
 tallied odd n = record { odd = odd; fields = n }
+
+abbrev pub fieldsOf : Slots → ℕ → FieldsRead
+fieldsOf slots n = fields.Fields slots (tallied (slots .odd) n)
 
 -- what the fields of a map tell together
 abbrev pub tallyOf : Version → Bytes → List Field → Tally
@@ -315,6 +325,9 @@ pub record Typed (v : Version) (k s : Bytes) (at : ℕ) (id : Text) (tag : ℕ) 
 abbrev pub TypedIs : Version → Bytes → Bytes → ℕ → TypedRead → Type 0
 TypedIs v k s at (typed.Typed id tag number kind tally) = Typed v k s at id tag number kind tally
 TypedIs v k s at (typed.Refused x) = readMap v k (drop at s) ≡ refuse (number x)
+
+abbrev pub typedOf : Text → ℕ → Text → Text → Tally → TypedRead
+typedOf id name number kind tally = typed.Typed id name number kind tally
 
 -- an INFO or FORMAT map was parsed
 pub record ParsesTyped (v : Version) (key : MapKey) (s : Bytes) (at : ℕ) (r : TypedRead) : Type 0 where

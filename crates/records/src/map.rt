@@ -32,7 +32,7 @@ ghost use Rattle.records.specs.Refusals.{number};
 ghost use Rattle.records.specs.Keys.{caseBytes, kindBy};
 ghost use Rattle.records.specs.Numbers.{isCount, lettersOf};
 ghost use Rattle.records.specs.Tags.{tagRow};
-ghost use Rattle.records.specs.Maps.{opensAt, closesAt, afterAt, Checked, rawRefusal, noSlots, get, putSlot, mixed, HasKey, NameKnown, Distinct, Repeats, TakesField, ReadsField, WalksFields, bareAt, ReadsFields, OpensMap, Identified, Described, ParsesMap};
+ghost use Rattle.records.specs.Maps.{opensAt, closesAt, afterAt, Checked, rawRefusal, noSlots, slotsOf, filledAs, fieldsOf, get, putSlot, HasKey, NameKnown, Distinct, Repeats, TakesField, ReadsField, WalksFields, bareAt, ReadsFields, OpensMap, Identified, Described, ParsesMap};
 
 // A text that was read, and which name stood for the ID.
 pub enum Slot {
@@ -69,14 +69,16 @@ pub enum After {
     Other,
 }
 
+// A field: its tag, where its text starts and ends, whether it is quoted, which name stood for the ID, whether a number up to it was not
+// plainly spelled, and past it. A text that is handed on whole is copied, and the processor waits for the copy where it is read.
 pub enum FieldTaken {
-    Field(Tag, Slot, bool, Cursor),
+    Field(Tag, usize, usize, bool, u8, bool, Cursor),
     Refused(Refusal),
 }
 
-// Past a field: where the next one stands, and what is kept.
+// The same after where the next field stands; after the last field, what is kept of all.
 pub enum FieldStep {
-    Next(Cursor, Slots),
+    Next(Cursor, Tag, usize, usize, bool, u8, bool),
     Last(Slots),
     Refused(Refusal),
 }
@@ -228,6 +230,19 @@ impl MapKey {
     }
 }
 
+fn slots_of(id: Slot, number: Slot, kind: Slot, description: Slot, plain: bool, odd: bool) -> Slots
+    ensures { λ r. ⌜ r ≡ slotsOf id number kind description plain odd ⌝ }
+{
+    Slots {
+        id,
+        number,
+        kind,
+        description,
+        plain,
+        odd,
+    }
+}
+
 impl Slots {
     pub fn empty() -> Slots
         ensures { λ r. ⌜ r ≡ noSlots ⌝ }
@@ -258,24 +273,6 @@ impl Slots {
         }
     }
 
-    // A field that is not kept stood too.
-    fn mixed(self, odd: bool) -> Slots
-        ensures { λ r. ⌜ r ≡ mixed odd self ⌝ }
-    {
-        let id = self.id;
-        let number = self.number;
-        let kind = self.kind;
-        let description = self.description;
-        Slots {
-            id,
-            number,
-            kind,
-            description,
-            plain: false,
-            odd,
-        }
-    }
-
     fn put(self, tag: Tag, slot: Slot, odd: bool) -> Slots
         ensures { λ r. ⌜ r ≡ putSlot tag slot odd self ⌝ }
     {
@@ -285,43 +282,15 @@ impl Slots {
         let description = self.description;
         let plain = self.plain;
         match tag {
-            Tag::Id => Slots {
-                id: slot,
-                number,
-                kind,
-                description,
-                plain,
-                odd,
-            },
-            Tag::Number => Slots {
-                id,
-                number: slot,
-                kind,
-                description,
-                plain,
-                odd,
-            },
-            Tag::ValueType => Slots {
-                id,
-                number,
-                kind: slot,
-                description,
-                plain,
-                odd,
-            },
-            Tag::Description => Slots {
-                id,
-                number,
-                kind,
-                description: slot,
-                plain,
-                odd,
-            },
-            Tag::Length => self.mixed(odd),
-            Tag::Md5 => self.mixed(odd),
-            Tag::Url => self.mixed(odd),
-            Tag::Idx => self.mixed(odd),
-            Tag::Other => self.mixed(odd),
+            Tag::Id => slots_of(slot, number, kind, description, plain, odd),
+            Tag::Number => slots_of(id, slot, kind, description, plain, odd),
+            Tag::ValueType => slots_of(id, number, slot, description, plain, odd),
+            Tag::Description => slots_of(id, number, kind, slot, plain, odd),
+            Tag::Length => slots_of(id, number, kind, description, false, odd),
+            Tag::Md5 => slots_of(id, number, kind, description, false, odd),
+            Tag::Url => slots_of(id, number, kind, description, false, odd),
+            Tag::Idx => slots_of(id, number, kind, description, false, odd),
+            Tag::Other => slots_of(id, number, kind, description, false, odd),
         }
     }
 }
@@ -370,7 +339,7 @@ fn mark_fields(s: &[u8], map: MapContext, marks: &mut [u64]) -> usize
 fn mark_long(s: &[u8], map: MapContext) -> usize
     ensures { λ r. ⌜ Distinct map (now (s .entry)) r ⌝ }
 {
-    let mut marks = [0u64; 32768];
+    let mut marks = [0u64; 45056];
     mark_fields(s, map, &mut marks)
 }
 
@@ -425,7 +394,7 @@ fn either(a: bool, b: bool) -> bool
     a || b
 }
 
-// The field at the cursor: its tag, what is to be kept of it, whether a number up to it was not plainly spelled, and past it.
+// The field at the cursor.
 fn take_field(s: &[u8], map: MapContext, c: Cursor, slots: Slots, distinct: usize) -> FieldTaken
     requires { ⌜ Distinct map (now s) distinct ⌝ }
     ensures { λ r. ⌜ TakesField map (now (s .entry)) (c .at) slots r ⌝ }
@@ -445,15 +414,9 @@ fn take_field(s: &[u8], map: MapContext, c: Cursor, slots: Slots, distinct: usiz
             if is_repeated(s, map, at, field, tag, slots, distinct) {
                 return FieldTaken::Refused(Refusal::DuplicateTag);
             }
-            let kept = Slot::Filled(
-                Text {
-                    start: text.start,
-                    end: text.end,
-                    quoted: text.quoted,
-                },
-                tag::id_tag(field),
-            );
-            FieldTaken::Field(tag, kept, either(slots.odd, odd), next)
+            let name = tag::id_tag(field);
+            let strange = either(slots.odd, odd);
+            FieldTaken::Field(tag, text.start, text.end, text.quoted, name, strange, next)
         }
     }
 }
@@ -465,42 +428,75 @@ fn read_field(s: &[u8], map: MapContext, c: Cursor, slots: Slots, distinct: usiz
 {
     match take_field(s, map, c, slots, distinct) {
         FieldTaken::Refused(x) => FieldStep::Refused(x),
-        FieldTaken::Field(tag, slot, odd, next) => {
-            let kept = slots.put(tag, slot, odd);
-            match after_field(s, next) {
-                After::More(d) => FieldStep::Next(d, kept),
-                After::Closed => FieldStep::Last(kept),
-                After::Other => FieldStep::Refused(Refusal::InvalidMap),
-            }
-        }
+        FieldTaken::Field(tag, start, end, quoted, name, odd, next) => match after_field(s, next) {
+            After::More(d) => FieldStep::Next(d, tag, start, end, quoted, name, odd),
+            After::Closed => FieldStep::Last(slots.put(tag, filled(start, end, quoted, name), odd)),
+            After::Other => FieldStep::Refused(Refusal::InvalidMap),
+        },
     }
 }
 
-// One field or more, from the first on.
+fn filled(start: usize, end: usize, quoted: bool, name: u8) -> Slot
+    ensures { λ r. ⌜ r ≡ filledAs start end quoted name ⌝ }
+{
+    Slot::Filled(Text { start, end, quoted }, name)
+}
+
+// A place before which no two fields have the same name, where the field of this number is read next: few fields are held against all
+// before them in less time than it takes to clear marks.
+fn distinct_at(s: &[u8], map: MapContext, fields: usize, distinct: usize) -> usize
+    requires { ⌜ Distinct map (now s) distinct ⌝ }
+    ensures { λ r. ⌜ Distinct map (now (s .entry)) r ⌝ }
+{
+    if fields == 16 {
+        let mut none = [0u64; 0];
+        return find_distinct(s, map, &mut none);
+    }
+    distinct
+}
+
+fn fields_of(slots: Slots, fields: usize) -> FieldsRead
+    ensures { λ r. ⌜ r ≡ fieldsOf slots fields ⌝ }
+{
+    let odd = slots.odd;
+    FieldsRead::Fields(slots, Tally { odd, fields })
+}
+
+// One field or more, from the first on. The slots are apart, so that a field writes its own and no other is copied.
 fn walk_fields(s: &[u8], map: MapContext) -> FieldsRead
     ensures { λ r. ⌜ WalksFields map (now (s .entry)) r ⌝ }
 {
     let mut c = Cursor { at: map.start };
-    let mut slots = Slots::empty();
+    let mut id = Slot::Empty;
+    let mut number = Slot::Empty;
+    let mut kind = Slot::Empty;
+    let mut description = Slot::Empty;
+    let mut plain = true;
+    let mut odd = false;
     let mut fields: usize = 1;
     let mut distinct: usize = 0;
     loop {
+        let slots = slots_of(id, number, kind, description, plain, odd);
         match read_field(s, map, c, slots, distinct) {
-            FieldStep::Next(d, kept) => {
-                c = d;
-                slots = kept;
+            FieldStep::Refused(x) => return FieldsRead::Refused(x),
+            FieldStep::Last(kept) => return fields_of(kept, fields),
+            FieldStep::Next(next, tag, start, end, quoted, name, strange) => {
+                c = next;
+                odd = strange;
                 fields += 1;
-                // Few fields are held against all before them in less time than it takes to clear marks.
-                if fields == 16 {
-                    let mut none = [0u64; 0];
-                    distinct = find_distinct(s, map, &mut none);
+                distinct = distinct_at(s, map, fields, distinct);
+                match tag {
+                    Tag::Id => id = filled(start, end, quoted, name),
+                    Tag::Number => number = filled(start, end, quoted, name),
+                    Tag::ValueType => kind = filled(start, end, quoted, name),
+                    Tag::Description => description = filled(start, end, quoted, name),
+                    Tag::Length => plain = false,
+                    Tag::Md5 => plain = false,
+                    Tag::Url => plain = false,
+                    Tag::Idx => plain = false,
+                    Tag::Other => plain = false,
                 }
             }
-            FieldStep::Last(kept) => {
-                let odd = kept.odd;
-                return FieldsRead::Fields(kept, Tally { odd, fields });
-            }
-            FieldStep::Refused(x) => return FieldsRead::Refused(x),
         }
     }
 }

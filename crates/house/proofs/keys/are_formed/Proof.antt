@@ -2,7 +2,7 @@ use borrow.Author.Needs.{needs}
 use Prim.Native.Nat.{_-_}
 use Rattle.records.specs.Formats.{versionOf}
 use Rattle.entries.specs.Tables.{room}
-use Rattle.house.proofs.Doubles.{Forming, formings}
+use Rattle.house.proofs.Looks.{Forming, formings}
 use Rattle.house.proofs.keys.are_formed.Statement.{statement}
 use Rattle.house.proofs.keys.are_formed.Tie as tie
 

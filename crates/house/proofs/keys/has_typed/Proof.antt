@@ -1,7 +1,7 @@
 use borrow.Author.Needs.{needs}
 use Prim.Native.Nat.{_-_}
 use Rattle.entries.specs.Tables.{room}
-use Rattle.house.proofs.Doubles.{Untyped, untypeds}
+use Rattle.house.proofs.Looks.{Untyped, untypeds}
 use Rattle.house.proofs.keys.has_typed.Statement.{statement}
 use Rattle.house.proofs.keys.has_typed.Tie as tie
 

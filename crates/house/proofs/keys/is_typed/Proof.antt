@@ -1,5 +1,5 @@
 use borrow.Author.Needs.{needs}
-use Rattle.house.proofs.Doubles.{untypeds}
+use Rattle.house.proofs.Looks.{untypeds}
 use Rattle.house.proofs.keys.is_typed.Statement.{statement}
 use Rattle.house.proofs.keys.is_typed.Tie as tie
 

@@ -1,5 +1,5 @@
 use Rattle.house.proofs.Picks.{typed-keys}
-use Rattle.house.proofs.Doubles.{typed-none}
+use Rattle.house.proofs.Looks.{typed-none}
 use borrow.Author.Needs.{needs}
 use Rattle.house.proofs.keys.put_typed.Statement.{statement}
 use Rattle.house.proofs.keys.put_typed.Tie as tie

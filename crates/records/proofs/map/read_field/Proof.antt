@@ -1,31 +1,34 @@
-use Rattle.records.proofs.Steps.{steps}
 use borrow.Author.Needs.{needs}
 use Rattle.records.proofs.map.read_field.Statement.{statement}
 use Rattle.records.proofs.map.read_field.Tie as tie
+use Rattle.records.proofs.Steps.{steps}
 
 take-field-requires : tie.Need-take-field-requires
-take-field-requires c κs = search (steps, needs)
+take-field-requires c κs = search needs
 
 enum-known-x : tie.Need-enum-known-x
-enum-known-x c = search (steps, needs)
+enum-known-x c = search needs
 
 enum-known-tag : tie.Need-enum-known-tag
-enum-known-tag c = search (steps, needs)
-
-put-requires : tie.Need-put-requires
-put-requires c κs = search (steps, needs)
+enum-known-tag c = search needs
 
 after-field-requires : tie.Need-after-field-requires
-after-field-requires c κs = search (steps, needs)
+after-field-requires c κs = search needs
 
 enum-known-d : tie.Need-enum-known-d
-enum-known-d c = search (steps, needs)
+enum-known-d c = search needs
 
 enum-told : tie.Need-enum-told
-enum-told c = search (steps, needs)
+enum-told c = search needs
+
+filled-requires : tie.Need-filled-requires
+filled-requires c κs = search needs
+
+put-requires : tie.Need-put-requires
+put-requires c κs = search needs
 
 enum-told-2 : tie.Need-enum-told-2
-enum-told-2 c = search (steps, needs)
+enum-told-2 c = search needs
 
 returns : tie.Need-returns
 returns c = search (steps, needs)
@@ -46,10 +49,11 @@ read-field-spec =
     take-field-requires
     enum-known-x
     enum-known-tag
-    put-requires
     after-field-requires
     enum-known-d
     enum-told
+    filled-requires
+    put-requires
     enum-told-2
     returns
     returns-2

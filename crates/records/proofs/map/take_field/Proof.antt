@@ -1,7 +1,7 @@
-use Rattle.records.proofs.Steps.{takes}
 use borrow.Author.Needs.{needs}
 use Rattle.records.proofs.map.take_field.Statement.{statement}
 use Rattle.records.proofs.map.take_field.Tie as tie
+use Rattle.records.proofs.Steps.{takes}
 
 split-field-requires : tie.Need-split-field-requires
 split-field-requires c κs = search needs

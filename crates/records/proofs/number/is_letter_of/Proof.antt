@@ -2,9 +2,6 @@ use Rattle.records.proofs.Numbers.{letters}
 use borrow.Author.Needs.{needs}
 use Rattle.records.proofs.number.is_letter_of.Statement.{statement}
 use Rattle.records.proofs.number.is_letter_of.Tie as tie
-use Rattle.records.proofs.number.is_letter_of.Reads as reads
-use Rattle.records.proofs.number.is_letter_of.Lts as lts
-use Rattle.records.proofs.list.is_listed.Reads as is-listed-reads
 
 -- src/number.rt:37:44
 enum-told : tie.Need-enum-told

@@ -33,7 +33,7 @@ use Rattle.lookup.specs.declared.field.FieldShown.the-variants as field
 use Rattle.lookup.specs.declared.meaning.Written.{Written}
 use Rattle.lookup.specs.declared.meaning.Written.the-variants as written
 use Rattle.capi.specs.Answers.{flag}
-use Rattle.capi.specs.Lookups.{isSet, describedAs, fieldAs, valueAs, TextOrdered, entryAs, meaningAs, meant, textAnswer, textWritten}
+use Rattle.capi.specs.Lookups.{isSet, described, undescribed, describedAs, fieldAs, valueAs, TextOrdered, entryAs, meaningAs, meant, textAnswer, textWritten}
 use Rattle.capi.specs.declared.lookups.VcfhDescribed.{VcfhDescribed}
 use Rattle.capi.specs.declared.lookups.VcfhField.{VcfhField}
 use Rattle.capi.specs.declared.lookups.VcfhValue.{VcfhValue}
@@ -43,34 +43,10 @@ use Rattle.capi.specs.declared.lookups.VcfhMeaning.{VcfhMeaning}
 -- Answers as numbers
 
 module _ (d : Description) where
-  pub is-described : (e : Described) → d ≡ description.Entry e → {i q : ℕ} → i ≡ flag (e .«has_id») → q ≡ flag (e .quoted) → record {
-    number = 0;
-    kind = e .kind;
-    start = e .start;
-    length = e .length;
-    «key_start» = e .«key_start»;
-    «key_length» = e .«key_length»;
-    «has_id» = i;
-    «id_start» = e .«id_start»;
-    «id_length» = e .«id_length»;
-    quoted = q;
-  }
-      ≡ describedAs d
+  pub is-described : (e : Described) → d ≡ description.Entry e → {i q : ℕ} → i ≡ flag (e .«has_id») → q ≡ flag (e .quoted) → described e i q ≡ describedAs d
   is-described e a b c = rw (a, b, c)
 
-  pub not-described : d ≡ description.Refused → {n : ℕ} → n ≡ number refusal.InvalidEntry → record {
-    number = n;
-    kind = 0;
-    start = 0;
-    length = 0;
-    «key_start» = 0;
-    «key_length» = 0;
-    «has_id» = 0;
-    «id_start» = 0;
-    «id_length» = 0;
-    quoted = 0;
-  }
-      ≡ describedAs d
+  pub not-described : d ≡ description.Refused → {n : ℕ} → n ≡ number refusal.InvalidEntry → undescribed n ≡ describedAs d
   not-described a b = rw (a, b)
 
 module _ (s : FieldShown) where

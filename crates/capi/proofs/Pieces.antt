@@ -3,17 +3,14 @@ use Prim.Native.Nat.{ℕ}
 use mathlib.Core.Path.{_≡_, refl, sym, ap, ap₂, subst, subst₂, _∙_}
 use mathlib.Core.Bool.{Bool, true, false, not}
 use mathlib.Core.List.{List}
-use mathlib.Core.Option.{Option, none, some}
-use lib.Dec.{eqb}
+use mathlib.Core.Option.{Option, some}
 use borrow.Author.Tests.{eq-eqb, ne-eqb}
-use Rattle.values.specs.Bytes.{Bytes}
 use Rattle.values.proofs.Tests.{not-true, not-false}
-use Rattle.values.proofs.Lists.{some-is, none-not}
-use Rattle.rules.specs.Version.{Version, version}
+use Rattle.rules.specs.Version.{Version}
 use Rattle.records.specs.Formats.{versionOf}
 use Rattle.records.specs.declared.file_format.FileFormat.{FileFormat}
 use Rattle.entries.specs.declared.form.Form.{Form}
-use Rattle.header.specs.Steps.{Stage, body, ending}
+use Rattle.header.specs.Steps.{body, ending}
 use Rattle.header.specs.Verdicts.{imposedOf, stageOf}
 use Rattle.header.specs.Parsers.{outcomeNumber}
 use Rattle.header.specs.declared.file_format_option.FileFormatOption.{FileFormatOption}
@@ -22,12 +19,12 @@ use Rattle.header.specs.declared.phase.Phase.{Phase}
 use Rattle.header.specs.declared.phase.Phase.the-variants as phases
 use Rattle.header.specs.declared.parser.ReadAnswer.{ReadAnswer}
 use Rattle.feed.specs.Feeding.{Feeding, Fed, startOf, isSound, feedOf, closeOf}
-use Rattle.feed.specs.Calls.{feedNumber, endedMeans, stateMeans, Answered, told, feedMeans, Leaves, Closes}
+use Rattle.feed.specs.Calls.{feedNumber, endedMeans, stateMeans, feedMeans, Leaves, Closes}
 use Rattle.feed.specs.declared.cable.Ended.{Ended}
 use Rattle.feed.specs.declared.cable.Ended.the-variants as ended
 use Rattle.feed.specs.declared.cable.FeedState.{FeedState}
 use Rattle.feed.specs.declared.cable.FeedAnswer.{FeedAnswer}
-use Rattle.capi.specs.Answers.{imposedBy, formBy}
+use Rattle.capi.specs.Answers.{imposedBy}
 use Rattle.capi.specs.Feeds.{stageBy, phaseMeant, openBy, imposedIn, phaseIn, endIn, feedAs, fedAs, brokenIn, overIn, FedInC, fedBy, inPhase, stageIn, feedInC, closeInC, LeavesInC, ClosesInC}
 use Rattle.capi.specs.declared.feeds.PhaseRead.{PhaseRead}
 use Rattle.capi.specs.declared.feeds.PhaseRead.the-variants as phase

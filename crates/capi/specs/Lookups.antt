@@ -12,6 +12,7 @@ use Rattle.records.specs.declared.field.FieldFound.the-variants as value
 use Rattle.index.specs.declared.find.Found.{Found}
 use Rattle.index.specs.declared.find.Found.the-variants as found
 use Rattle.lookup.specs.Meanings.{fitting, writtenAs}
+use Rattle.lookup.specs.declared.entry.Described.{Described}
 use Rattle.lookup.specs.declared.entry.Description.{Description}
 use Rattle.lookup.specs.declared.entry.Description.the-variants as description
 use Rattle.lookup.specs.declared.field.FieldShown.{FieldShown}
@@ -29,22 +30,24 @@ use Rattle.capi.specs.declared.lookups.VcfhMeaning.{VcfhMeaning}
 abbrev pub isSet : ℕ → Bool
 isSet n = not (eqb n 0)
 
--- nothing to show is refusal 29
-abbrev pub describedAs : Description → VcfhDescribed
-describedAs (description.Entry e) = record {
+-- i: whether there is an ID; q: whether that stands between quotes
+abbrev pub described : Described → ℕ → ℕ → VcfhDescribed
+described e i q = record {
   number = 0;
   kind = e .kind;
   start = e .start;
   length = e .length;
   «key_start» = e .«key_start»;
   «key_length» = e .«key_length»;
-  «has_id» = flag (e .«has_id»);
+  «has_id» = i;
   «id_start» = e .«id_start»;
   «id_length» = e .«id_length»;
-  quoted = flag (e .quoted);
+  quoted = q;
 }
-describedAs description.Refused = record {
-  number = 29;
+
+abbrev pub undescribed : ℕ → VcfhDescribed
+undescribed n = record {
+  number = n;
   kind = 0;
   start = 0;
   length = 0;
@@ -55,6 +58,11 @@ describedAs description.Refused = record {
   «id_length» = 0;
   quoted = 0;
 }
+
+-- nothing to show is refusal 29
+abbrev pub describedAs : Description → VcfhDescribed
+describedAs (description.Entry e) = described e (flag (e .«has_id»)) (flag (e .quoted))
+describedAs description.Refused = undescribed 29
 
 abbrev pub fieldAs : FieldShown → VcfhField
 fieldAs (field.Field f) = record { number = 0; «key_start» = f .«key_start»; «key_length» = f .«key_length»; start = f .start; length = f .length; quoted = flag (f .quoted) }

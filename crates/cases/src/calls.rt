@@ -22,6 +22,13 @@ fn empty_table() -> [u64; 64]
     [0; 64]
 }
 
+// The form of the table, the version under which fields are read, and the field that is asked for.
+struct Shows {
+    form: Form,
+    version: FileFormat,
+    field: IntegerRead,
+}
+
 fn put_shown(out: &mut [u8], at: usize, shown: Shown) -> usize {
     match shown {
         Shown::Part { start, end } => {
@@ -98,20 +105,18 @@ fn put_entry(
     at: usize,
     header: &[u8],
     table: &[u64],
-    form: Form,
     n: usize,
-    version: FileFormat,
-    field: IntegerRead,
+    shows: Shows,
 ) -> usize {
+    let form = shows.form;
+    let version = shows.version;
+    let field = shows.field;
     let placed = put_places(out, at, header, table, form, n);
     match field {
         IntegerRead::Value(i, _) => {
             let next = output::put_bytes(out, placed, b" fields: ");
-            put_shown(
-                out,
-                next,
-                shown::field(header, table, form, n, version, i as usize),
-            )
+            let shown = shown::field(header, table, form, n, version, i as usize);
+            put_shown(out, next, shown)
         }
         IntegerRead::Refused => {
             let next = output::put_bytes(out, placed, b" fields:");
@@ -126,33 +131,25 @@ fn put_line(
     at: usize,
     header: &[u8],
     table: &[u64],
-    form: Form,
     n: usize,
-    version: FileFormat,
-    field: IntegerRead,
+    shows: Shows,
 ) -> usize {
     let next = output::put_byte(out, at, b'\n');
-    put_entry(out, next, header, table, form, n, version, field)
+    put_entry(out, next, header, table, n, shows)
 }
 
 // How many entries a view steps over, then each entry, and one past the last.
-fn put_entries(
-    out: &mut [u8],
-    header: &[u8],
-    table: &[u64],
-    form: Form,
-    version: FileFormat,
-    field: IntegerRead,
-) -> usize {
+fn put_entries(out: &mut [u8], header: &[u8], table: &[u64], shows: Shows) -> usize {
+    let form = shows.form;
     let steps = view::count_from(header, table, form, 0);
     let mut next = text::put_number(out, 0, b"steps=", steps as u64);
     let entries = table::count(table, form);
     let mut n = 0;
     while n < entries {
-        next = put_line(out, next, header, table, form, n, version, field);
+        next = put_line(out, next, header, table, n, shows);
         n += 1;
     }
-    put_line(out, next, header, table, form, entries, version, field)
+    put_line(out, next, header, table, entries, shows)
 }
 
 fn forge_word(table: &mut [u64], k: usize, word: IntegerRead) {
@@ -178,20 +175,14 @@ fn put_calls(out: &mut [u8], header: &[u8], asked: &[u8], table: &mut [u64]) -> 
     let form = words::form(asked);
     parser::read(header, FileFormatOption::None, form, table);
     forge(table, asked);
-    let version = words::version(asked, 1);
-    let field = words::number(asked, 4);
+    let shows = Shows {
+        form,
+        version: words::version(asked, 1),
+        field: words::number(asked, 4),
+    };
     match words::number(asked, 3) {
-        IntegerRead::Value(n, _) => put_entry(
-            out,
-            0,
-            header,
-            table,
-            form,
-            n as usize,
-            version,
-            field,
-        ),
-        IntegerRead::Refused => put_entries(out, header, table, form, version, field),
+        IntegerRead::Value(n, _) => put_entry(out, 0, header, table, n as usize, shows),
+        IntegerRead::Refused => put_entries(out, header, table, shows),
     }
 }
 

@@ -186,33 +186,43 @@ module _ (d : Dictionary) (form : Form) (h : Bytes) (t : List ℕ) (k : ℕ) whe
         let c : 0 + length (take k (entriesIn form t)) ≡ k = omega (arith, taken (rw (← en) (omega arith))) in
         ap (entryLines d h 0) more ∙ lines-append d h 0 (take k (entriesIn form t)) (entryOf e ∷ []) ∙ rw (c, eq)
 
--- what answers the needs of `number_line`
-module _ (c : Count) (out : List ℕ) (entry : ℕ) {p r : Placed} (er : r ≡ p) where
-  pub turn-given : {x : ℕ} → r ≡ Given x → turn.Next (record { pairs = c .pairs + 1; next = c .next }) ≡ turnOf c p
-  turn-given i = rw (← er, i)
+-- what answers the needs of `take_place`
+module _ (c : Count) (out : List ℕ) (entry : ℕ) (p : Placed) where
+  pub turn-given : {x : ℕ} → p ≡ Given x → turn.Next (record { pairs = c .pairs + 1; next = c .next }) ≡ turnOf c p
+  turn-given i = rw i
 
-  pub turn-due : r ≡ Due → turn.Next (record { pairs = c .pairs + 1; next = c .next + 1 }) ≡ turnOf c p
-  turn-due i = rw (← er, i)
+  pub turn-due : p ≡ Due → turn.Next (record { pairs = c .pairs + 1; next = c .next + 1 }) ≡ turnOf c p
+  turn-due i = rw i
 
-  pub turn-again : r ≡ Again → turn.Next (record { pairs = c .pairs; next = c .next }) ≡ turnOf c p
-  turn-again i = rw (← er, i)
+  pub turn-again : p ≡ Again → turn.Next (record { pairs = c .pairs; next = c .next }) ≡ turnOf c p
+  turn-again i = rw i
 
-  pub turn-clash : r ≡ Clash → turn.Clash ≡ turnOf c p
-  turn-clash i = rw (← er, i)
+  pub turn-clash : p ≡ Clash → turn.Clash ≡ turnOf c p
+  turn-clash i = rw i
 
-  pub out-given : {x : ℕ} → r ≡ Given x → {o : List ℕ} → o ≡ putPair out (c .pairs) entry x → o ≡ turnOut out entry c p
-  out-given i eo = eo ∙ rw (← er, i)
+  pub out-given : {x : ℕ} → p ≡ Given x → {o : List ℕ} → o ≡ putPair out (c .pairs) entry x → o ≡ turnOut out entry c p
+  out-given i eo = eo ∙ rw i
 
-  pub out-due : r ≡ Due → {o : List ℕ} → o ≡ putPair out (c .pairs) entry (c .next) → o ≡ turnOut out entry c p
-  out-due i eo = eo ∙ rw (← er, i)
+  pub out-due : p ≡ Due → {o : List ℕ} → o ≡ putPair out (c .pairs) entry (c .next) → o ≡ turnOut out entry c p
+  out-due i eo = eo ∙ rw i
 
-  pub out-again : r ≡ Again → out ≡ turnOut out entry c p
-  out-again i = rw (← er, i)
+  pub out-again : p ≡ Again → out ≡ turnOut out entry c p
+  out-again i = rw i
 
-  pub out-clash : r ≡ Clash → out ≡ turnOut out entry c p
-  out-clash i = rw (← er, i)
+  pub out-clash : p ≡ Clash → out ≡ turnOut out entry c p
+  out-clash i = rw i
 
 pub ruleset turns = (turn-given, turn-due, turn-again, turn-clash, out-given, out-due, out-again, out-clash)
+
+-- and of `number_line`: p is the line's place, as the code found it
+module _ (c : Count) {p r : Placed} (er : r ≡ p) where
+  pub placed-turn : {x : Turn} → x ≡ turnOf c r → x ≡ turnOf c p
+  placed-turn e = e ∙ ap (turnOf c) er
+
+  pub placed-out : (out : List ℕ) (entry : ℕ) {o : List ℕ} → o ≡ turnOut out entry c r → o ≡ turnOut out entry c p
+  placed-out out entry e = e ∙ ap (turnOut out entry c) er
+
+pub ruleset placings = (placed-turn, placed-out)
 
 -- The loop: the lines before entry k are numbered
 

@@ -18,6 +18,13 @@ pub struct Carried {
     pub missing: bool,
 }
 
+// The form of the entries, the dictionary whose lines are numbered, and whether these carry IDX.
+struct Asked {
+    form: Form,
+    dictionary: Dictionary,
+    indexed: bool,
+}
+
 // How many pairs there are so far, and the number that the next ID is due.
 pub struct Count {
     pub pairs: usize,
@@ -76,13 +83,39 @@ fn first_number(dictionary: Dictionary) -> u64
     }
 }
 
-// The line of an entry, numbered beside those before it; its pair is written if it is the first of its ID.
+// What the place of an entry's line does to the counts; its pair is written if it is the first of its ID.
+fn take_place(count: Count, placed: Placed, entry: u64, out: &mut [u64]) -> Turn
+    requires { ⌜ Counts count ⌝ }
+    ensures turn { λ r. ⌜ r ≡ turnOf count placed ⌝ }
+    ensures out { λ _. ⌜ now (out .exit) ≡ turnOut (now (out .entry)) entry count placed ⌝ }
+{
+    let pairs = count.pairs;
+    let next = count.next;
+    match placed {
+        Placed::Numbered(n) => {
+            put_pair(out, pairs, entry, n);
+            let more = pairs + 1;
+            Turn::Next(Count { pairs: more, next })
+        }
+        Placed::Due => {
+            put_pair(out, pairs, entry, next);
+            let more = pairs + 1;
+            let following = next + 1;
+            Turn::Next(Count {
+                pairs: more,
+                next: following,
+            })
+        }
+        Placed::Again => Turn::Next(Count { pairs, next }),
+        Placed::Clash => Turn::Clash,
+    }
+}
+
+// The line of an entry, numbered beside those before it.
 fn number_line(
     h: &[u8],
     ahead: &[u64],
-    form: Form,
-    dictionary: Dictionary,
-    indexed: bool,
+    asked: Asked,
     e: Entry,
     count: Count,
     entry: u64,
@@ -92,48 +125,35 @@ fn number_line(
 ) -> Turn
     requires { ⌜ Counts count ⌝ }
     ensures turn { λ r.
-        ⌜ r ≡ turnOf count (placeAt indexed dictionary form (now (h .entry)) (now (ahead .entry)) (now (marks .entry)) (now (numbers .entry)) e) ⌝ }
+        ⌜ r ≡ turnOf count (placeAt (asked .indexed) (asked .dictionary) (asked .form) (now (h .entry)) (now (ahead .entry)) (now (marks .entry)) (now (numbers .entry)) e) ⌝ }
     ensures out { λ _.
         ⌜ now (out .exit) ≡ turnOut (now (out .entry)) entry count
-        (placeAt indexed dictionary form (now (h .entry)) (now (ahead .entry)) (now (marks .entry)) (now (numbers .entry)) e) ⌝ }
+        (placeAt (asked .indexed) (asked .dictionary) (asked .form) (now (h .entry)) (now (ahead .entry)) (now (marks .entry)) (now (numbers .entry)) e) ⌝ }
     ensures marks { λ _. ⌜ now (marks .exit) ≡ markTwice (now (marks .entry)) (idAt (now (h .entry)) e) ⌝ }
-    ensures numbers { λ _. ⌜ now (numbers .exit) ≡ metBy indexed (now (numbers .entry)) (idxAt (now (h .entry)) e) ⌝ }
+    ensures numbers { λ _. ⌜ now (numbers .exit) ≡ metBy (asked .indexed) (now (numbers .entry)) (idxAt (now (h .entry)) e) ⌝ }
 {
-    let pairs = count.pairs;
-    let next = count.next;
-    match place::place_line(h, ahead, form, dictionary, indexed, e, marks, numbers) {
-        Placed::Numbered(n) => {
-            put_pair(out, pairs, entry, n);
-            Turn::Next(Count {
-                pairs: pairs + 1,
-                next,
-            })
-        }
-        Placed::Due => {
-            put_pair(out, pairs, entry, next);
-            Turn::Next(Count {
-                pairs: pairs + 1,
-                next: next + 1,
-            })
-        }
-        Placed::Again => Turn::Next(Count { pairs, next }),
-        Placed::Clash => Turn::Clash,
-    }
+    let form = asked.form;
+    let dictionary = asked.dictionary;
+    let indexed = asked.indexed;
+    let placed = place::place_line(h, ahead, form, dictionary, indexed, e, marks, numbers);
+    take_place(count, placed, entry, out)
 }
 
-// `indexed`: the lines carry IDX. What stands in the marks before is no matter.
+// What stands in the marks before is no matter.
 fn number_lines(
     h: &[u8],
     kept: &[u64],
-    form: Form,
-    dictionary: Dictionary,
-    indexed: bool,
+    asked: Asked,
     out: &mut [u64],
     marks: &mut [u64],
     numbers: &mut [u8],
 ) -> Numbering
-    ensures { λ r. ⌜ NumbersLines dictionary indexed (tableLines dictionary form (now (h .entry)) (now (kept .entry))) (now (out .entry)) r (now (out .exit)) ⌝ }
+    ensures { λ r.
+        ⌜ NumbersLines (asked .dictionary) (asked .indexed) (tableLines (asked .dictionary) (asked .form) (now (h .entry)) (now (kept .entry))) (now (out .entry)) r
+        (now (out .exit)) ⌝ }
 {
+    let form = asked.form;
+    let dictionary = asked.dictionary;
     let mut count = Count {
         pairs: 0,
         next: first_number(dictionary),
@@ -145,19 +165,7 @@ fn number_lines(
         let entry = k as u64;
         k += 1;
         if line::has_kind(dictionary, e.kind) {
-            match number_line(
-                h,
-                ahead,
-                form,
-                dictionary,
-                indexed,
-                e,
-                count,
-                entry,
-                out,
-                marks,
-                numbers,
-            ) {
+            match number_line(h, ahead, asked, e, count, entry, out, marks, numbers) {
                 Turn::Next(c) => count = c,
                 Turn::Clash => return Numbering::Clash,
             }
@@ -176,31 +184,18 @@ pub fn number_dictionary(
 ) -> Numbering
     ensures { λ r. ⌜ NumbersLines dictionary indexed (tableLines dictionary form (now (h .entry)) (now (kept .entry))) (now (out .entry)) r (now (out .exit)) ⌝ }
 {
+    let asked = Asked {
+        form,
+        dictionary,
+        indexed,
+    };
     // A short header has few lines, and clearing more marks than they need costs more than it spares.
     if h.len() < 65536 {
         let mut marks = [0u64; 512];
         let mut numbers = [0u8; 4096];
-        return number_lines(
-            h,
-            kept,
-            form,
-            dictionary,
-            indexed,
-            out,
-            &mut marks,
-            &mut numbers,
-        );
+        return number_lines(h, kept, asked, out, &mut marks, &mut numbers);
     }
     let mut marks = [0u64; 8192];
     let mut numbers = [0u8; 65536];
-    number_lines(
-        h,
-        kept,
-        form,
-        dictionary,
-        indexed,
-        out,
-        &mut marks,
-        &mut numbers,
-    )
+    number_lines(h, kept, asked, out, &mut marks, &mut numbers)
 }

@@ -4,7 +4,6 @@ use native.Mathlib.Omega.{arith}
 use mathlib.Core.Path.{_≡_, refl, sym, ap, ap₂, subst, _∙_}
 use mathlib.Core.Bool.{Bool, true, false}
 use mathlib.Core.List.{List, [], _∷_, _++_, append-assoc}
-use mathlib.Core.Option.{some}
 use lib.ListN.{length, getD, take, drop, length-append}
 use lib.Seq.{getD-at}
 use Rattle.values.specs.Bytes.{Bytes, ascii, is, same}
@@ -35,10 +34,10 @@ use Rattle.records.specs.declared.key.MapKey.{MapKey}
 use Rattle.records.specs.declared.key.MapContext.{MapContext}
 use Rattle.records.proofs.Keys.{named}
 use Rattle.forms.specs.Forms.{fieldBy, listedFields, othersText}
-use Rattle.forms.specs.Lines.{recordLine, IsEntry, houseLine}
+use Rattle.forms.specs.Lines.{IsEntry, houseLine}
 use Rattle.forms.specs.Formed.{IdFirst, FormedMap, FormedLine}
 use Rattle.forms.proofs.Forms.{fields-as}
-use Rattle.forms.proofs.Lines.{map-opened, line-is, meta-is, fields-are, entry-is}
+use Rattle.forms.proofs.Lines.{line-is, meta-is, fields-are, entry-is}
 use Rattle.forms.proofs.Stands.{known-rows, all-stand}
 
 pub formed-not : (v : Version) (s : Bytes) → FormedLine v s false

@@ -2,24 +2,23 @@
 use Prim.Native.Nat.{ℕ, suc, _+_, _-_, _*_, _/_, _%_, _^_, _≤_}
 use native.Mathlib.Nat.{pow-suc}
 use native.Mathlib.Omega.{arith}
-use mathlib.Core.Path.{_≡_, refl, sym, ap, subst, _∙_}
+use mathlib.Core.Path.{_≡_, refl, sym, ap, _∙_}
 use mathlib.Core.Bool.{Bool, true, false, not, _||_, _&&_}
 use mathlib.Core.List.{[], _∷_, _++_, tail, append-assoc, append-nil}
 use mathlib.Core.Option.{Option, none, some}
 use lib.Dec.{eqb, leb}
 use lib.ListN.{length}
 use borrow.Author.Tests.{eqb-true, eqb-false, leb-true}
-use Rattle.values.specs.Bytes.{Bytes, ascii, is, empty, begins, any, before, from, same}
+use Rattle.values.specs.Bytes.{Bytes, ascii, is, empty, begins, any, before, same}
 use Rattle.values.specs.Integer.{isDigit, isNoDigit, isPlain, numberOf, spells, valueIf, unsignedRead, withoutSign, u64Read, decimal}
-use Rattle.values.specs.Value.{Value, quoted, bare, isQuoted, textOf, isEscapable, unescaped, meaning, meaningOf, prepend, quotedText, inQuotes, isStop, readValue, escape, valueOf}
+use Rattle.values.specs.Value.{Value, quoted, isQuoted, textOf, isEscapable, unescaped, meaning, prepend, quotedText, inQuotes, isStop, readValue, escape}
 use Rattle.values.specs.Field.{Field, withValue, withKey, readKey, readField}
 use Rattle.values.specs.declared.integer.IntegerRead.{IntegerRead}
 use Rattle.values.specs.declared.integer.IntegerRead.the-variants as integer
-use Rattle.values.proofs.Tests.{pass, fail, test, or-l, or-r, and-l, and-r, not-true, not-false, both, never}
-use Rattle.values.proofs.Lists.{OnSome, on-some, some-is, none-not, before-hit, before-miss, before-none}
+use Rattle.values.proofs.Tests.{pass, fail, test, or-l, or-r, and-l, and-r, not-true, not-false, never}
+use Rattle.values.proofs.Lists.{OnSome, on-some, before-hit, before-miss, before-none}
 use Rattle.values.proofs.Decimals.{decimal-small, decimal-large}
 use Rattle.values.proofs.Escapes.{escape-slash, escape-plain, unescaped-slash, unescaped-plain, unescaped-escaped}
-use Rattle.rules.specs.House.{needsQuotes}
 use Rattle.forms.specs.Forms.{quotes, shownValue}
 use Rattle.forms.specs.Formed.{valueBy, Clean, formValue, Spells}
 

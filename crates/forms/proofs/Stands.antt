@@ -1,13 +1,13 @@
 -- Fields that stand as the form writes them: one after the other, and all of a map. Assumes nothing.
-use Prim.Native.Nat.{ℕ, zero, suc, _+_, _-_, _≤_, _<_}
+use Prim.Native.Nat.{ℕ, zero, suc, _+_, _-_, _<_}
 use native.Mathlib.Omega.{arith}
 use mathlib.Core.Path.{_≡_, refl, sym, ap, ap₂, subst, _∙_}
-use mathlib.Core.Bool.{Bool, true, false, not, _||_, _&&_}
+use mathlib.Core.Bool.{Bool, true, false, not}
 use mathlib.Core.List.{List, [], _∷_, _++_, tail, append-assoc}
-use mathlib.Core.Option.{Option, none, some}
+use mathlib.Core.Option.{Option, some}
 use lib.ListN.{length, take, drop}
 use Rattle.values.specs.Bytes.{Bytes, ascii, same}
-use Rattle.values.specs.Value.{Value, quoted, bare, isQuoted, textOf, meaning, meaningOf}
+use Rattle.values.specs.Value.{Value, quoted, isQuoted, textOf, meaningOf}
 use Rattle.values.specs.Field.{Field, writtenField}
 use Rattle.values.specs.Places.{fieldAt, separatorAt}
 use Rattle.values.specs.declared.cursor.Cursor.{Cursor}

@@ -32,7 +32,7 @@ use Rattle.rules.proofs.Refusals.{Among, second-refused}
 use Rattle.register.specs.Cells.{wellOf, Cell, constantOf, cells, firstOf, wells}
 use Rattle.register.specs.Register.{RegisterReading, absent, faulty, constants, counted, registerAccepted, inState, byNumber, registered, registerOf}
 use Rattle.register.proofs.Spelling.{well-one}
-use Rattle.register.proofs.Taken.{Reads, Lines, header-lines, header-apart}
+use Rattle.register.proofs.Taken.{Reads, header-lines, header-apart}
 use Rattle.register.proofs.Listed.{there, gone, see, Set, each-set, constants-count, CellAt, Found, first-found}
 use Rattle.rules.specs.Claims.{All, Accepted, nth}
 

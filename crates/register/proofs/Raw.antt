@@ -1,15 +1,15 @@
 -- A well's ID and a constant are spelled without escapes, so that a text between quotes may be looked at as it stands. Assumes nothing.
 use Prim.Native.Nat.{ℕ, _≤_}
 use native.Mathlib.Omega.{arith}
-use mathlib.Core.Path.{_≡_, refl, sym, ap, _∙_}
+use mathlib.Core.Path.{_≡_, refl, sym, _∙_}
 use mathlib.Core.Bool.{Bool, true, false}
 use mathlib.Core.List.{[], _∷_}
 use lib.Dec.{eqb}
 use lib.ListN.{length}
 use borrow.Author.Tests.{eqb-true, ne-eqb}
-use Rattle.values.specs.Bytes.{Bytes, is, any, same}
-use Rattle.values.specs.Value.{isEscapable, unescaped, meaning}
-use Rattle.values.proofs.Tests.{pass, fail, test, and-l, and-r, or-l, or-r, both}
+use Rattle.values.specs.Bytes.{Bytes, any}
+use Rattle.values.specs.Value.{isEscapable, meaning}
+use Rattle.values.proofs.Tests.{and-l, and-r}
 use Rattle.values.proofs.Plains.{Plain, raw}
 use Rattle.register.specs.Cells.{nthByte, spellsWell, wellOf, spellsConstant, hundredths}
 use Rattle.values.specs.Integer.{isDigit}

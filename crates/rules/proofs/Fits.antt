@@ -12,7 +12,7 @@ use Rattle.values.specs.declared.integer.IntegerRead.the-variants as integer
 use Rattle.values.proofs.Tests.{pass, fail, test, or-l, or-r, and-l, and-r, not-false, both}
 use Rattle.values.proofs.Lists.{OnSome}
 use Rattle.rules.specs.Answer.{unless, first}
-use Rattle.rules.specs.Version.{Version, v4-3, since, atVersion}
+use Rattle.rules.specs.Version.{Version, atVersion}
 use Rattle.rules.specs.Known.{Kind, INFO, FILTER, FORMAT, ALT, contig, other, kindOf, isIn, Reads, KnownField, anyText, aNumber, aType, anInteger, rows, required, known, numeric, rowNamed, nameOf, readNumber, count}
 use Rattle.rules.specs.Reserved.{reservedPages, lookRow, reserved}
 use Rattle.rules.specs.Map.{isSome, isMeta, misread, valueRefusal, knownNamed, fieldNamed, meaningOfField as valueIn, valueNamed, missing, misdeclared}

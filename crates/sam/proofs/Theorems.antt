@@ -15,7 +15,6 @@ use Rattle.values.specs.Utf8.{completes, followers, isUtf8}
 use Rattle.values.specs.Integer.{decimal}
 use Rattle.values.specs.Value.{meaningOf}
 use Rattle.values.specs.Field.{Field, isKey}
-use Rattle.values.specs.declared.integer.IntegerRead.the-variants as integer
 use Rattle.values.proofs.Tests.{pass, fail, test, or-l, or-r, not-true}
 use Rattle.values.proofs.Lists.{OnSome}
 use Rattle.values.proofs.Decimals.{integer-decimal}

@@ -5,7 +5,7 @@ use mathlib.Core.Path.{_≡_, refl, sym, ap, ap₂, _∙_}
 use mathlib.Core.Bool.{Bool, true, false}
 use mathlib.Core.List.{List, [], _∷_, _++_, tail}
 use lib.ListN.{length, length-replicate}
-use Rattle.values.proofs.Tests.{pass, fail, test, both}
+use Rattle.values.proofs.Tests.{pass, fail, test}
 use Rattle.rules.specs.Reading.{Reading, reading}
 use Rattle.header.specs.Parsers.{readInto}
 use Rattle.season.specs.Sheet.{acceptedEntries, tally, sums, passes, addedBy, afterAdding, Given, tallyIn, blank, sheetOf, season, added}

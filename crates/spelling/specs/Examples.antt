@@ -1,8 +1,7 @@
 -- Document 02, §4: entries and what is listed of them, computed by the checker. Assumes nothing.
-use Prim.Native.Nat.{ℕ}
 use mathlib.Core.Path.{_≡_, refl}
-use mathlib.Core.List.{List, [], _∷_}
-use mathlib.Core.Option.{Option, none, some}
+use mathlib.Core.List.{[], _∷_}
+use mathlib.Core.Option.{none, some}
 use Rattle.spelling.specs.Odd.{listing, answerOf, oddAnswer, oddList}
 use Rattle.spelling.specs.declared.odd.OddOutcome.the-variants.{Listed, NotWellFormed, ListTooShort}
 use mathlib.Core.Bool.{true, false}

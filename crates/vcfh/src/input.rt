@@ -63,24 +63,3 @@ pub fn text(s: &[u8]) -> &[u8] {
     let text = bytes::piece(s, 9, text_length(s));
     bytes::part(text, 0, bytes::find(text, 0, 0))
 }
-
-// The header of a whole VCF ends with its column line.
-pub fn header_end(s: &[u8]) -> usize {
-    header_end_from(s, 0)
-}
-
-// The same where a line begins at `from`.
-pub fn header_end_from(s: &[u8], from: usize) -> usize {
-    let mut at = from;
-    while at < s.len() {
-        let lf = bytes::find(s, at, b'\n');
-        if s.len() <= lf {
-            return s.len();
-        }
-        if bytes::starts_with(bytes::part(s, at, lf), b"#CHROM") {
-            return lf + 1;
-        }
-        at = lf + 1;
-    }
-    s.len()
-}

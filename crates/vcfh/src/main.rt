@@ -29,6 +29,7 @@ use header::file_format_option::FileFormatOption;
 use header::parser::Outcome;
 use header::parser::ReadAnswer;
 use input::Start;
+use lookup::end;
 use records::file_format;
 use records::file_format::FileFormatRead;
 use stream::Streamed;
@@ -36,6 +37,13 @@ use values::bytes;
 use values::output;
 ghost use mathlib.Core.Path.{_≡_};
 ghost use lib.ListN.{length};
+
+// The number of the argument that is the command, the input's descriptor, and the version that is imposed.
+struct Task {
+    command: usize,
+    fd: i32,
+    imposed: FileFormatOption,
+}
 
 // Room for the first bytes of an input, and mostly for all of its header. As with `io::buffer`, the contract gives only the length.
 fn short_buffer() -> [u8; 16384]
@@ -213,6 +221,29 @@ fn house(
     }
 }
 
+// The commands that write the header, or judge how it is written.
+fn run_form(
+    command: &[u8],
+    header: &[u8],
+    imposed: FileFormatOption,
+    table: &mut [u64],
+    form: &mut [u8],
+) {
+    if bytes::same(command, b"house") {
+        house(header, imposed, table, form, true);
+    } else if bytes::same(command, b"form") {
+        house(header, imposed, table, form, false);
+    } else if bytes::same(command, b"is-house") {
+        verdict::say_verdict(header, imposed, table);
+    } else if bytes::same(command, b"text") {
+        say::text(1, header);
+    } else if bytes::same(command, b"cells") {
+        cells::say_plate(header, imposed, table);
+    } else {
+        cells::say_list(header, imposed, table);
+    }
+}
+
 fn run(
     command: &[u8],
     header: &[u8],
@@ -230,18 +261,8 @@ fn run(
         dictionary(header, imposed, table, strings, contigs);
     } else if bytes::same(command, b"odd") {
         odd(header, imposed, table, strings);
-    } else if bytes::same(command, b"house") {
-        house(header, imposed, table, form, true);
-    } else if bytes::same(command, b"form") {
-        house(header, imposed, table, form, false);
-    } else if bytes::same(command, b"is-house") {
-        verdict::say_verdict(header, imposed, table);
-    } else if bytes::same(command, b"text") {
-        say::text(1, header);
-    } else if bytes::same(command, b"cells") {
-        cells::say_plate(header, imposed, table);
     } else {
-        cells::say_list(header, imposed, table);
+        run_form(command, header, imposed, table, form);
     }
 }
 
@@ -272,53 +293,39 @@ fn run_after(
     }
 }
 
-// The command is the argument of this number. `full`: there may be more of the input than these bytes.
+// `full`: there may be more of the input than these bytes.
 fn run_command(
-    number: usize,
+    task: Task,
     text: &[u8],
     full: bool,
-    imposed: FileFormatOption,
     table: &mut [u64],
     form: &mut [u8],
     strings: &mut [u64],
-    pairs: &mut [u64],
+    contigs: &mut [u64],
     had: &mut [u64; 40],
 ) {
-    let mut word = io::buffer();
-    let word_end = os::arg(number, &mut word);
-    if bytes::same(&word[..word_end], b"contigs") {
+    let imposed = task.imposed;
+    let mut buffer = io::buffer();
+    let end = os::arg(task.command, &mut buffer);
+    let word = bytes::part(&buffer, 0, end);
+    if bytes::same(word, b"contigs") {
         contigs::say_contigs(text, full, form);
         return;
     }
-    let header = bytes::part(text, 0, input::header_end(text));
+    let header = bytes::part(text, 0, end::header_end(text));
     // Where the ID is too long for the buffer, the argument's first bytes stand there.
-    if bytes::starts_with(&word, b"find-") {
-        find(number, header, imposed, table);
+    if bytes::starts_with(&buffer, b"find-") {
+        find(task.command, header, imposed, table);
         return;
     }
-    run_after(
-        &word[..word_end],
-        header,
-        imposed,
-        table,
-        form,
-        strings,
-        pairs,
-        had,
-    );
+    run_after(word, header, imposed, table, form, strings, contigs, had);
 }
 
 // A case whose header may go on after these first bytes, which are all that a long one has.
-fn large_case(
-    number: usize,
-    first: &[u8],
-    fd: i32,
-    imposed: FileFormatOption,
-    had: &mut [u64; 40],
-) {
+fn large_case(task: Task, first: &[u8], had: &mut [u64; 40]) {
     let mut buffer = large_buffer();
     let next = output::put_bytes(&mut buffer, 0, first);
-    let end = input::fill(fd, &mut buffer, next);
+    let end = input::fill(task.fd, &mut buffer, next);
     if os::errno() != 0 {
         say::tell(b"r");
         return;
@@ -330,10 +337,9 @@ fn large_case(
     let text = input::text(bytes::part(&buffer, 0, end));
     let full = buffer.len() <= end;
     run_command(
-        number,
+        task,
         text,
         full,
-        imposed,
         &mut table,
         &mut form,
         &mut strings,
@@ -344,19 +350,12 @@ fn large_case(
 
 // The same, as a function that calls itself: the compiler keeps such a one apart, where it would else make one function of all cases
 // and take the memory of a large case in every short one. `turns` is the number of arguments, so that the call inside does nothing.
-fn large_case_apart(
-    turns: usize,
-    number: usize,
-    first: &[u8],
-    fd: i32,
-    imposed: FileFormatOption,
-    had: &mut [u64; 40],
-) {
+fn large_case_apart(turns: usize, task: Task, first: &[u8], had: &mut [u64; 40]) {
     if turns == 0 {
         return;
     }
-    large_case_apart(turns / 0x1_0000_0000, number, first, fd, imposed, had);
-    large_case(number, first, fd, imposed, had);
+    large_case_apart(turns / 0x1_0000_0000, task, first, had);
+    large_case(task, first, had);
 }
 
 // Whether the stack has room for a large case, as the first argument says.
@@ -367,25 +366,19 @@ fn may_be_large() -> bool {
 }
 
 // A case whose header goes on after what was read.
-fn larger_case(
-    number: usize,
-    first: &[u8],
-    fd: i32,
-    imposed: FileFormatOption,
-    had: &mut [u64; 40],
-) {
+fn larger_case(task: Task, first: &[u8], had: &mut [u64; 40]) {
     if !may_be_large() {
         say::tell(b"m");
         return;
     }
-    large_case_apart(os::arg_count(), number, first, fd, imposed, had);
+    large_case_apart(os::arg_count(), task, first, had);
 }
 
 // A case whose header may go on after these first bytes.
-fn long_case(number: usize, first: &[u8], fd: i32, imposed: FileFormatOption, had: &mut [u64; 40]) {
+fn long_case(task: Task, first: &[u8], had: &mut [u64; 40]) {
     let mut buffer = long_buffer();
     let next = output::put_bytes(&mut buffer, 0, first);
-    let end = input::fill(fd, &mut buffer, next);
+    let end = input::fill(task.fd, &mut buffer, next);
     if os::errno() != 0 {
         say::tell(b"r");
         return;
@@ -393,8 +386,8 @@ fn long_case(number: usize, first: &[u8], fd: i32, imposed: FileFormatOption, ha
     let text = input::text(bytes::part(&buffer, 0, end));
     let full = buffer.len() <= end;
     if full {
-        if text.len() <= input::header_end(text) {
-            larger_case(number, &buffer, fd, imposed, had);
+        if text.len() <= end::header_end(text) {
+            larger_case(task, &buffer, had);
             return;
         }
     }
@@ -403,10 +396,9 @@ fn long_case(number: usize, first: &[u8], fd: i32, imposed: FileFormatOption, ha
     let mut strings = long_pairs();
     let mut contigs = long_pairs();
     run_command(
-        number,
+        task,
         text,
         full,
-        imposed,
         &mut table,
         &mut form,
         &mut strings,
@@ -415,38 +407,24 @@ fn long_case(number: usize, first: &[u8], fd: i32, imposed: FileFormatOption, ha
     );
 }
 
-fn long_case_apart(
-    turns: usize,
-    number: usize,
-    first: &[u8],
-    fd: i32,
-    imposed: FileFormatOption,
-    had: &mut [u64; 40],
-) {
+fn long_case_apart(turns: usize, task: Task, first: &[u8], had: &mut [u64; 40]) {
     if turns == 0 {
         return;
     }
-    long_case_apart(turns / 0x1_0000_0000, number, first, fd, imposed, had);
-    long_case(number, first, fd, imposed, had);
+    long_case_apart(turns / 0x1_0000_0000, task, first, had);
+    long_case(task, first, had);
 }
 
 // A case whose header stands whole in these bytes.
-fn short_case(
-    number: usize,
-    text: &[u8],
-    full: bool,
-    imposed: FileFormatOption,
-    had: &mut [u64; 40],
-) {
+fn short_case(task: Task, text: &[u8], full: bool, had: &mut [u64; 40]) {
     let mut table = short_table();
     let mut form = short_form();
     let mut strings = short_pairs();
     let mut contigs = short_pairs();
     run_command(
-        number,
+        task,
         text,
         full,
-        imposed,
         &mut table,
         &mut form,
         &mut strings,
@@ -561,21 +539,14 @@ fn short_stream(fd: i32, begun: &[u8], imposed: FileFormatOption) {
 }
 
 // A case of which these are the first bytes, n of them.
-fn read_bytes(
-    number: usize,
-    first: &[u8],
-    n: usize,
-    fd: i32,
-    imposed: FileFormatOption,
-    had: &mut [u64; 40],
-) {
+fn read_bytes(task: Task, first: &[u8], n: usize, had: &mut [u64; 40]) {
     let text = input::text(bytes::part(first, 0, n));
     if n < 16384 {
-        short_case(number, text, false, imposed, had);
-    } else if input::header_end(text) < text.len() {
-        short_case(number, text, true, imposed, had);
+        short_case(task, text, false, had);
+    } else if end::header_end(text) < text.len() {
+        short_case(task, text, true, had);
     } else {
-        long_case_apart(os::arg_count(), number, first, fd, imposed, had);
+        long_case_apart(os::arg_count(), task, first, had);
     }
 }
 
@@ -587,23 +558,18 @@ fn is_check(number: usize) -> bool {
 
 // errno was 0 before the reading, so that another number tells of a read that failed. A text is `streamed` to be answered for as soon as a
 // line is refused.
-fn read_case(
-    number: usize,
-    fd: i32,
-    streamed: bool,
-    imposed: FileFormatOption,
-    had: &mut [u64; 40],
-) {
+fn read_case(task: Task, streamed: bool, had: &mut [u64; 40]) {
+    let imposed = task.imposed;
     let mut first = short_buffer();
-    let start = input::read_start(fd, &mut first, streamed);
+    let start = input::read_start(task.fd, &mut first, streamed);
     if os::errno() != 0 {
         say::tell(b"r");
         return;
     }
     match start {
         Start::Packed => say::tell(b"z"),
-        Start::Begun(n) => short_stream(fd, bytes::part(&first, 0, n), imposed),
-        Start::Bytes(n) => read_bytes(number, &first, n, fd, imposed, had),
+        Start::Begun(n) => short_stream(task.fd, bytes::part(&first, 0, n), imposed),
+        Start::Bytes(n) => read_bytes(task, &first, n, had),
     }
 }
 
@@ -648,7 +614,12 @@ fn case(command: usize, version: usize, file: usize, had: &mut [u64; 40]) {
         return;
     }
     let streamed = if fd == 0 { checks } else { false };
-    read_case(command, fd, streamed, imposed, had);
+    let task = Task {
+        command,
+        fd,
+        imposed,
+    };
+    read_case(task, streamed, had);
     libc::close(fd);
 }
 

@@ -1,12 +1,12 @@
 // A header that is read as it comes, so that a refused line is told before the rest of it is there.
 use crate::form::FORM;
-use crate::input;
 use feed::cable;
 use feed::cable::FeedAnswer;
 use feed::cable::FeedOutcome;
 use feed::cable::FeedState;
 use header::parser::Outcome;
 use header::parser::ReadAnswer;
+use lookup::end;
 use records::refusal::Refusal;
 use values::bytes;
 use values::output;
@@ -41,7 +41,8 @@ fn header_part(line: &[u8], piece: &[u8]) -> usize {
     if begins_columns(line, piece) {
         return next;
     }
-    input::header_end_from(piece, next)
+    let rest = bytes::part(piece, next, piece.len());
+    next + bytes::part(rest, 0, end::header_end(rest)).len()
 }
 
 // Feeds what is the header's of a piece; after its column line nothing more is waited for.
@@ -88,6 +89,24 @@ fn read_some(fd: i32, piece: &mut [u8], most: usize) -> usize {
     io::count(libc::read(fd, &mut piece[..most]), piece)
 }
 
+// Where nothing was read: at the input's end, unless the reading failed.
+fn end_reading(state: FeedState, buffer: &[u8], table: &mut [u64]) -> Streamed {
+    if os::errno() != 0 {
+        return Streamed::Failed;
+    }
+    Streamed::Answered(cable::close(state, FORM, buffer, table))
+}
+
+// The bytes that were read, fed.
+fn feed_piece(state: FeedState, piece: &[u8], buffer: &mut [u8], table: &mut [u64]) -> Step {
+    let answer = take(state, piece, buffer, table);
+    if is_over(answer) {
+        return Step::Over(Streamed::Answered(answer));
+    }
+    let next = answer.state;
+    Step::Next(next)
+}
+
 // What is there of the input is read, once.
 fn read_next(
     fd: i32,
@@ -102,17 +121,9 @@ fn read_next(
     }
     let n = read_some(fd, piece, size);
     if n == 0 {
-        if os::errno() != 0 {
-            return Step::Over(Streamed::Failed);
-        }
-        return Step::Over(Streamed::Answered(cable::close(state, FORM, buffer, table)));
+        return Step::Over(end_reading(state, buffer, table));
     }
-    let answer = take(state, bytes::part(piece, 0, n), buffer, table);
-    if is_over(answer) {
-        return Step::Over(Streamed::Answered(answer));
-    }
-    let next = answer.state;
-    Step::Next(next)
+    feed_piece(state, bytes::part(piece, 0, n), buffer, table)
 }
 
 // Reads on until an answer is there or the buffer is full.

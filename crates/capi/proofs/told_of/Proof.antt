@@ -2,8 +2,6 @@ use Rattle.capi.proofs.Answers.{tellings}
 use borrow.Author.Needs.{needs}
 use Rattle.capi.proofs.told_of.Statement.{statement}
 use Rattle.capi.proofs.told_of.Tie as tie
-use Rattle.capi.proofs.told_of.Reads as reads
-use Rattle.capi.proofs.told_of.Lts as lts
 
 -- src/lib.rt:171:27
 enum-known-outcome : tie.Need-enum-known-outcome

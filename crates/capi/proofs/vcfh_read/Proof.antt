@@ -2,13 +2,6 @@ use Rattle.capi.proofs.Answers.{readings}
 use borrow.Author.Needs.{needs}
 use Rattle.capi.proofs.vcfh_read.Statement.{statement}
 use Rattle.capi.proofs.vcfh_read.Tie as tie
-use Rattle.capi.proofs.vcfh_read.Reads as reads
-use Rattle.capi.proofs.vcfh_read.Lts as lts
-use Rattle.capi.proofs.form_of.Reads as form-of-reads
-use Rattle.capi.proofs.imposed_by.Reads as imposed-by-reads
-use Rattle.capi.proofs.number_of.Reads as number-of-reads
-use Rattle.capi.proofs.told_of.Reads as told-of-reads
-use Rattle.header.proofs.parser.read.Reads as read-reads
 
 -- src/lib.rt:264:9
 imposed-by-requires : tie.Need-imposed-by-requires

@@ -2,10 +2,6 @@ use Rattle.capi.proofs.Asking.{answers}
 use borrow.Author.Needs.{needs}
 use Rattle.capi.proofs.lookups.described.Statement.{statement}
 use Rattle.capi.proofs.lookups.described.Tie as tie
-use Rattle.capi.proofs.lookups.described.Reads as reads
-use Rattle.capi.proofs.lookups.described.Lts as lts
-use Rattle.capi.proofs.flag_of.Reads as flag-of-reads
-use Rattle.records.proofs.refusal.Refusal.number.Reads as number-reads
 
 -- src/lookups.rt:88:28
 enum-known-description : tie.Need-enum-known-description

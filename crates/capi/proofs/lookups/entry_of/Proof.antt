@@ -2,9 +2,6 @@ use Rattle.capi.proofs.Asking.{answers}
 use borrow.Author.Needs.{needs}
 use Rattle.capi.proofs.lookups.entry_of.Statement.{statement}
 use Rattle.capi.proofs.lookups.entry_of.Tie as tie
-use Rattle.capi.proofs.lookups.entry_of.Reads as reads
-use Rattle.capi.proofs.lookups.entry_of.Lts as lts
-use Rattle.records.proofs.refusal.Refusal.number.Reads as number-reads
 
 -- src/lookups.rt:181:22
 enum-known-found : tie.Need-enum-known-found

@@ -2,9 +2,6 @@ use Rattle.capi.proofs.Asking.{answers}
 use borrow.Author.Needs.{needs}
 use Rattle.capi.proofs.lookups.meaning_of.Statement.{statement}
 use Rattle.capi.proofs.lookups.meaning_of.Tie as tie
-use Rattle.capi.proofs.lookups.meaning_of.Reads as reads
-use Rattle.capi.proofs.lookups.meaning_of.Lts as lts
-use Rattle.records.proofs.refusal.Refusal.number.Reads as number-reads
 
 -- src/lookups.rt:199:24
 enum-known-written : tie.Need-enum-known-written

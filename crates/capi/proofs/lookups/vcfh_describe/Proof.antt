@@ -2,11 +2,6 @@ use Rattle.capi.proofs.Asking.{calls}
 use borrow.Author.Needs.{needs}
 use Rattle.capi.proofs.lookups.vcfh_describe.Statement.{statement}
 use Rattle.capi.proofs.lookups.vcfh_describe.Tie as tie
-use Rattle.capi.proofs.lookups.vcfh_describe.Reads as reads
-use Rattle.capi.proofs.lookups.vcfh_describe.Lts as lts
-use Rattle.capi.proofs.form_of.Reads as form-of-reads
-use Rattle.capi.proofs.lookups.described.Reads as described-reads
-use Rattle.lookup.proofs.entry.describe.Reads as describe-reads
 
 -- src/lookups.rt:223:46
 form-of-requires : tie.Need-form-of-requires

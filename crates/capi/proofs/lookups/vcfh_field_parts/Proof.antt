@@ -2,12 +2,6 @@ use Rattle.capi.proofs.Asking.{calls}
 use borrow.Author.Needs.{needs}
 use Rattle.capi.proofs.lookups.vcfh_field_parts.Statement.{statement}
 use Rattle.capi.proofs.lookups.vcfh_field_parts.Tie as tie
-use Rattle.capi.proofs.lookups.vcfh_field_parts.Reads as reads
-use Rattle.capi.proofs.lookups.vcfh_field_parts.Lts as lts
-use Rattle.capi.proofs.form_of.Reads as form-of-reads
-use Rattle.capi.proofs.lookups.field_of.Reads as field-of-reads
-use Rattle.lookup.proofs.field.field_parts.Reads as field-parts-reads
-use Rattle.records.proofs.file_format.FileFormat.new.Reads as new-reads
 
 -- src/lookups.rt:239:9
 new-requires : tie.Need-new-requires

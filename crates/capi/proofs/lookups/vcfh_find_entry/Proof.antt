@@ -2,11 +2,6 @@ use Rattle.capi.proofs.Asking.{calls}
 use borrow.Author.Needs.{needs}
 use Rattle.capi.proofs.lookups.vcfh_find_entry.Statement.{statement}
 use Rattle.capi.proofs.lookups.vcfh_find_entry.Tie as tie
-use Rattle.capi.proofs.lookups.vcfh_find_entry.Reads as reads
-use Rattle.capi.proofs.lookups.vcfh_find_entry.Lts as lts
-use Rattle.capi.proofs.form_of.Reads as form-of-reads
-use Rattle.capi.proofs.lookups.entry_of.Reads as entry-of-reads
-use Rattle.lookup.proofs.find.find_entry.Reads as find-entry-reads
 
 -- src/lookups.rt:279:46
 form-of-requires : tie.Need-form-of-requires

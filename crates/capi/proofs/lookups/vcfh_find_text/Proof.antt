@@ -2,15 +2,6 @@ use Rattle.capi.proofs.Asking.{calls}
 use borrow.Author.Needs.{needs}
 use Rattle.capi.proofs.lookups.vcfh_find_text.Statement.{statement}
 use Rattle.capi.proofs.lookups.vcfh_find_text.Tie as tie
-use Rattle.capi.proofs.lookups.vcfh_find_text.Reads as reads
-use Rattle.capi.proofs.lookups.vcfh_find_text.Lts as lts
-use Rattle.capi.proofs.form_of.Reads as form-of-reads
-use Rattle.capi.proofs.lookups.meaning_of.Reads as meaning-of-reads
-use Rattle.lookup.proofs.find.find_value.Reads as find-value-reads
-use Rattle.lookup.proofs.meaning.put_meaning.Reads as put-meaning-reads
-use Rattle.records.proofs.file_format.FileFormat.new.Reads as new-reads
-use Rattle.records.proofs.refusal.Refusal.number.Reads as number-reads
-use Rattle.values.proofs.bytes.part.Reads as part-reads
 
 -- src/lookups.rt:319:9
 new-requires : tie.Need-new-requires

@@ -2,10 +2,6 @@ use Rattle.capi.proofs.Asking.{meanings}
 use borrow.Author.Needs.{needs}
 use Rattle.capi.proofs.lookups.vcfh_meaning.Statement.{statement}
 use Rattle.capi.proofs.lookups.vcfh_meaning.Tie as tie
-use Rattle.capi.proofs.lookups.vcfh_meaning.Reads as reads
-use Rattle.capi.proofs.lookups.vcfh_meaning.Lts as lts
-use Rattle.capi.proofs.lookups.meaning_of.Reads as meaning-of-reads
-use Rattle.lookup.proofs.meaning.put_meaning.Reads as put-meaning-reads
 
 -- src/lookups.rt:341:16
 put-meaning-requires : tie.Need-put-meaning-requires

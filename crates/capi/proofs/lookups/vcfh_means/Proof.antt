@@ -2,10 +2,6 @@ use Rattle.capi.proofs.Asking.{meanings}
 use borrow.Author.Needs.{needs}
 use Rattle.capi.proofs.lookups.vcfh_means.Statement.{statement}
 use Rattle.capi.proofs.lookups.vcfh_means.Tie as tie
-use Rattle.capi.proofs.lookups.vcfh_means.Reads as reads
-use Rattle.capi.proofs.lookups.vcfh_means.Lts as lts
-use Rattle.capi.proofs.flag_of.Reads as flag-of-reads
-use Rattle.values.proofs.string.same_meaning.Reads as same-meaning-reads
 
 -- src/lookups.rt:349:13
 same-meaning-requires : tie.Need-same-meaning-requires

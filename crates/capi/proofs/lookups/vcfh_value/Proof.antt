@@ -2,12 +2,6 @@ use Rattle.capi.proofs.Asking.{calls}
 use borrow.Author.Needs.{needs}
 use Rattle.capi.proofs.lookups.vcfh_value.Statement.{statement}
 use Rattle.capi.proofs.lookups.vcfh_value.Tie as tie
-use Rattle.capi.proofs.lookups.vcfh_value.Reads as reads
-use Rattle.capi.proofs.lookups.vcfh_value.Lts as lts
-use Rattle.capi.proofs.form_of.Reads as form-of-reads
-use Rattle.capi.proofs.lookups.value_of.Reads as value-of-reads
-use Rattle.lookup.proofs.field.value.Reads as value-reads
-use Rattle.records.proofs.file_format.FileFormat.new.Reads as new-reads
 
 -- src/lookups.rt:264:9
 new-requires : tie.Need-new-requires

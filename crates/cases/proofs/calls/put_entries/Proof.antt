@@ -7,10 +7,10 @@ use Rattle.cases.proofs.calls.put_entries.Statement.{statement}
 use Rattle.cases.proofs.calls.put_entries.Tie as tie
 
 abbrev Inv-loop : tie.InvT-loop
-Inv-loop out₀ header table form version field steps next₀ entries n₀ out next n = length out ≡ length out₀
+Inv-loop out₀ header table shows steps next₀ entries n₀ out next n = length out ≡ length out₀
 
 abbrev μ-loop : tie.MeasureT-loop
-μ-loop out₀ header table form version field steps next₀ entries n₀ out next n = entries - n
+μ-loop out₀ header table shows steps next₀ entries n₀ out next n = entries - n
 
 count-from-requires : tie.Need-count-from-requires Inv-loop μ-loop
 count-from-requires c κs = search (length-take-le, needs)

@@ -2,9 +2,6 @@ use lib.Seq.{length-take-le}
 use borrow.Author.Needs.{needs}
 use Rattle.cases.proofs.lookups.put_looked.Statement.{statement}
 use Rattle.cases.proofs.lookups.put_looked.Tie as tie
-use Rattle.cases.proofs.lookups.put_looked.Reads as reads
-use Rattle.cases.proofs.lookups.put_looked.Lts as lts
-use Rattle.cases.proofs.lookups.put_read_names.Reads as put-read-names-reads
 
 -- src/lookups.rt:168:9
 returns : tie.Need-returns

@@ -2,14 +2,6 @@ use lib.Seq.{length-take-le}
 use borrow.Author.Needs.{needs}
 use Rattle.cases.proofs.lookups.put_meaning.Statement.{statement}
 use Rattle.cases.proofs.lookups.put_meaning.Tie as tie
-use Rattle.cases.proofs.lookups.put_meaning.Reads as reads
-use Rattle.cases.proofs.lookups.put_meaning.Lts as lts
-use Rattle.capi.proofs.lookups.vcfh_meaning.Reads as vcfh-meaning-reads
-use Rattle.capi.proofs.lookups.vcfh_means.Reads as vcfh-means-reads
-use Rattle.cases.proofs.lookups.put_written.Reads as put-written-reads
-use Rattle.cases.proofs.text.put_number.Reads as put-number-reads
-use Rattle.cases.proofs.words.size.Reads as size-reads
-use Rattle.cases.proofs.words.word.Reads as word-reads
 
 -- src/lookups.rt:175:9
 returns : tie.Need-returns

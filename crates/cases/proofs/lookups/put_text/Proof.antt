@@ -2,13 +2,6 @@ use lib.Seq.{length-take-le}
 use borrow.Author.Needs.{needs}
 use Rattle.cases.proofs.lookups.put_text.Statement.{statement}
 use Rattle.cases.proofs.lookups.put_text.Tie as tie
-use Rattle.cases.proofs.lookups.put_text.Reads as reads
-use Rattle.cases.proofs.lookups.put_text.Lts as lts
-use Rattle.capi.proofs.lookups.vcfh_find_text.Reads as vcfh-find-text-reads
-use Rattle.cases.proofs.library.form_of.Reads as form-of-reads
-use Rattle.cases.proofs.lookups.put_written.Reads as put-written-reads
-use Rattle.cases.proofs.words.version.Reads as version-reads
-use Rattle.cases.proofs.words.word.Reads as word-reads
 
 -- src/lookups.rt:119:9
 returns : tie.Need-returns

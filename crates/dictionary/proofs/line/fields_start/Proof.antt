@@ -2,8 +2,6 @@ use borrow.Author.Needs.{needs}
 use Rattle.dictionary.proofs.Lines.{places}
 use Rattle.dictionary.proofs.line.fields_start.Statement.{statement}
 use Rattle.dictionary.proofs.line.fields_start.Tie as tie
-use Rattle.dictionary.proofs.line.fields_start.Reads as reads
-use Rattle.dictionary.proofs.line.fields_start.Lts as lts
 
 -- src/line.rt:47:9
 returns : tie.Need-returns

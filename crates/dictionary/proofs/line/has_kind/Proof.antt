@@ -2,8 +2,6 @@ use Rattle.dictionary.proofs.Lines.{kinds}
 use borrow.Author.Needs.{needs}
 use Rattle.dictionary.proofs.line.has_kind.Statement.{statement}
 use Rattle.dictionary.proofs.line.has_kind.Tie as tie
-use Rattle.dictionary.proofs.line.has_kind.Reads as reads
-use Rattle.dictionary.proofs.line.has_kind.Lts as lts
 
 -- src/line.rt:33:16
 enum-told : tie.Need-enum-told

@@ -2,10 +2,6 @@ use Rattle.dictionary.proofs.Lines.{implieds}
 use borrow.Author.Needs.{needs}
 use Rattle.dictionary.proofs.line.is_implied.Statement.{statement}
 use Rattle.dictionary.proofs.line.is_implied.Tie as tie
-use Rattle.dictionary.proofs.line.is_implied.Reads as reads
-use Rattle.dictionary.proofs.line.is_implied.Lts as lts
-use Rattle.entries.proofs.part.id_part.Reads as id-part-reads
-use Rattle.values.proofs.string.same_meaning.Reads as same-meaning-reads
 
 -- src/line.rt:71:53
 enum-told : tie.Need-enum-told

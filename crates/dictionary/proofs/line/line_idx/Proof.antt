@@ -2,13 +2,6 @@ use Rattle.dictionary.proofs.Lines.{idxs}
 use borrow.Author.Needs.{needs}
 use Rattle.dictionary.proofs.line.line_idx.Statement.{statement}
 use Rattle.dictionary.proofs.line.line_idx.Tie as tie
-use Rattle.dictionary.proofs.line.line_idx.Reads as reads
-use Rattle.dictionary.proofs.line.line_idx.Lts as lts
-use Rattle.dictionary.proofs.line.fields_start.Reads as fields-start-reads
-use Rattle.entries.proofs.part.line_part.Reads as line-part-reads
-use Rattle.records.proofs.field.find_field.Reads as find-field-reads
-use Rattle.values.proofs.bytes.part.Reads as part-reads
-use Rattle.values.proofs.integer.parse_u64.Reads as parse-u64-reads
 
 -- src/line.rt:55:9
 line-part-requires : tie.Need-line-part-requires

@@ -5,12 +5,6 @@ use borrow.Author.Needs.{needs}
 use Rattle.dictionary.proofs.Pairs.{carried}
 use Rattle.dictionary.proofs.numbering.carried_in.Statement.{statement}
 use Rattle.dictionary.proofs.numbering.carried_in.Tie as tie
-use Rattle.dictionary.proofs.numbering.carried_in.Reads as reads
-use Rattle.dictionary.proofs.numbering.carried_in.Lts as lts
-use Rattle.dictionary.proofs.line.has_kind.Reads as has-kind-reads
-use Rattle.dictionary.proofs.line.line_idx.Reads as line-idx-reads
-use Rattle.entries.proofs.table.count.Reads as count-reads
-use Rattle.entries.proofs.table.get.Reads as get-reads
 
 abbrev Inv-loop : tie.InvT-loop
 Inv-loop h kept form dictionary given₀ missing₀ k₀ given missing k = Carrying dictionary form h kept given missing k

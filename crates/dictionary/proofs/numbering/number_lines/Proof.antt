@@ -1,110 +1,79 @@
-use Prim.Native.Nat.{_-_}
-use Rattle.entries.specs.Tables.{room}
-use Rattle.dictionary.proofs.Pairs.{Progress}
-use borrow.Author.Needs.{needs}
-use Rattle.dictionary.proofs.Pairs.{progresses}
 use Rattle.dictionary.proofs.numbering.number_lines.Statement.{statement}
 use Rattle.dictionary.proofs.numbering.number_lines.Tie as tie
-use Rattle.dictionary.proofs.numbering.number_lines.Reads as reads
-use Rattle.dictionary.proofs.numbering.number_lines.Lts as lts
-use Rattle.dictionary.proofs.line.has_kind.Reads as has-kind-reads
-use Rattle.dictionary.proofs.numbering.first_number.Reads as first-number-reads
-use Rattle.dictionary.proofs.numbering.number_line.Reads as number-line-reads
-use Rattle.entries.proofs.table.count.Reads as count-reads
-use Rattle.entries.proofs.table.get.Reads as get-reads
-use Rattle.entries.proofs.table.kept.Reads as kept-reads
+use Prim.Native.Nat.{_-_}
+use Rattle.entries.specs.Tables.{room}
+use Rattle.dictionary.proofs.Pairs.{Progress, progresses}
+use borrow.Author.Needs.{needs}
 
 abbrev Inv-loop : tie.InvT-loop
-Inv-loop h kept form dictionary indexed out₀ marks₀ numbers₀ count₀ k₀ out marks numbers count k = Progress dictionary indexed form h kept out₀ out marks₀ marks numbers₀ numbers count k
+Inv-loop h kept asked out₀ marks₀ numbers₀ form dictionary count₀ k₀ out marks numbers count k = Progress (asked .dictionary) (asked .indexed) (asked .form) h kept out₀ out marks₀ marks numbers₀ numbers count k
 
 abbrev μ-loop : tie.MeasureT-loop
-μ-loop h kept form dictionary indexed out₀ marks₀ numbers₀ count₀ k₀ out marks numbers count k = room form kept - k
+μ-loop h kept asked out₀ marks₀ numbers₀ form dictionary count₀ k₀ out marks numbers count k = room (asked .form) kept - k
 
--- src/numbering.rt:134:15
 first-number-requires : tie.Need-first-number-requires Inv-loop μ-loop
 first-number-requires c κs = search (progresses, needs)
 
--- src/numbering.rt:137:5
 loop-holds : tie.Need-loop-holds Inv-loop μ-loop
 loop-holds c = search (progresses, needs)
 
--- src/numbering.rt:137:15
 count-requires : tie.Need-count-requires Inv-loop μ-loop
 count-requires c κs = search (progresses, needs)
 
--- src/numbering.rt:138:13
 get-requires : tie.Need-get-requires Inv-loop μ-loop
 get-requires c κs = search (progresses, needs)
 
--- src/numbering.rt:139:13
 kept-requires : tie.Need-kept-requires Inv-loop μ-loop
 kept-requires c κs = search (progresses, needs)
 
--- src/numbering.rt:141:9
 add-k : tie.Need-add-k Inv-loop μ-loop
 add-k c = search (progresses, needs)
 
--- src/numbering.rt:142:12
 has-kind-requires : tie.Need-has-kind-requires Inv-loop μ-loop
 has-kind-requires c κs = search (progresses, needs)
 
--- src/numbering.rt:143:19
 number-line-requires : tie.Need-number-line-requires Inv-loop μ-loop
 number-line-requires c κs = search (progresses, needs)
 
--- src/numbering.rt:146:28
 enum-known-c : tie.Need-enum-known-c Inv-loop μ-loop
 enum-known-c c = search (progresses, needs)
 
--- src/numbering.rt:137:5
 loop-less : tie.Need-loop-less Inv-loop μ-loop
 loop-less c = search (progresses, needs)
 
--- src/numbering.rt:137:5
 loop-again : tie.Need-loop-again Inv-loop μ-loop
 loop-again c = search (progresses, needs)
 
--- src/numbering.rt:147:32
 enum-told : tie.Need-enum-told Inv-loop μ-loop
 enum-told c = search (progresses, needs)
 
--- src/numbering.rt:147:32
 same-length : tie.Need-same-length Inv-loop μ-loop
 same-length c = search (progresses, needs)
 
--- src/numbering.rt:147:32
 same-length-2 : tie.Need-same-length-2 Inv-loop μ-loop
 same-length-2 c = search (progresses, needs)
 
--- src/numbering.rt:147:32
 same-length-3 : tie.Need-same-length-3 Inv-loop μ-loop
 same-length-3 c = search (progresses, needs)
 
--- src/numbering.rt:147:32
 returns : tie.Need-returns Inv-loop μ-loop
 returns c = search (progresses, needs)
 
--- src/numbering.rt:137:5
 loop-less-2 : tie.Need-loop-less-2 Inv-loop μ-loop
 loop-less-2 c = search (progresses, needs)
 
--- src/numbering.rt:137:5
 loop-again-2 : tie.Need-loop-again-2 Inv-loop μ-loop
 loop-again-2 c = search (progresses, needs)
 
--- src/numbering.rt:121:1
 same-length-4 : tie.Need-same-length-4 Inv-loop μ-loop
 same-length-4 c = search (progresses, needs)
 
--- src/numbering.rt:121:1
 same-length-5 : tie.Need-same-length-5 Inv-loop μ-loop
 same-length-5 c = search (progresses, needs)
 
--- src/numbering.rt:121:1
 same-length-6 : tie.Need-same-length-6 Inv-loop μ-loop
 same-length-6 c = search (progresses, needs)
 
--- src/numbering.rt:121:1
 returns-2 : tie.Need-returns-2 Inv-loop μ-loop
 returns-2 c = search (progresses, needs)
 

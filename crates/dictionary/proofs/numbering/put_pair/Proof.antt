@@ -2,8 +2,6 @@ use Rattle.dictionary.proofs.Pairs.{putting}
 use borrow.Author.Needs.{needs}
 use Rattle.dictionary.proofs.numbering.put_pair.Statement.{statement}
 use Rattle.dictionary.proofs.numbering.put_pair.Tie as tie
-use Rattle.dictionary.proofs.numbering.put_pair.Reads as reads
-use Rattle.dictionary.proofs.numbering.put_pair.Lts as lts
 
 -- src/numbering.rt:48:9
 returns : tie.Need-returns

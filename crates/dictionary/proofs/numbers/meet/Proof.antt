@@ -2,8 +2,6 @@ use Rattle.dictionary.proofs.Meets.{meets}
 use borrow.Author.Needs.{needs}
 use Rattle.dictionary.proofs.numbers.meet.Statement.{statement}
 use Rattle.dictionary.proofs.numbers.meet.Tie as tie
-use Rattle.dictionary.proofs.numbers.meet.Reads as reads
-use Rattle.dictionary.proofs.numbers.meet.Lts as lts
 
 -- src/numbers.rt:11:9
 returns : tie.Need-returns

@@ -2,9 +2,6 @@ use Rattle.dictionary.proofs.Places.{implieds}
 use borrow.Author.Needs.{needs}
 use Rattle.dictionary.proofs.place.clashes_implied.Statement.{statement}
 use Rattle.dictionary.proofs.place.clashes_implied.Tie as tie
-use Rattle.dictionary.proofs.place.clashes_implied.Reads as reads
-use Rattle.dictionary.proofs.place.clashes_implied.Lts as lts
-use Rattle.dictionary.proofs.line.is_implied.Reads as is-implied-reads
 
 -- src/place.rt:106:16
 enum-told : tie.Need-enum-told

@@ -2,11 +2,6 @@ use Rattle.dictionary.proofs.Places.{earliers}
 use borrow.Author.Needs.{needs}
 use Rattle.dictionary.proofs.place.find_earlier.Statement.{statement}
 use Rattle.dictionary.proofs.place.find_earlier.Tie as tie
-use Rattle.dictionary.proofs.place.find_earlier.Reads as reads
-use Rattle.dictionary.proofs.place.find_earlier.Lts as lts
-use Rattle.dictionary.proofs.place.find_id.Reads as find-id-reads
-use Rattle.entries.proofs.part.id_part.Reads as id-part-reads
-use Rattle.values.proofs.marks.meet.Reads as meet-reads
 
 -- src/place.rt:88:9
 id-part-requires : tie.Need-id-part-requires

@@ -4,13 +4,6 @@ use borrow.Author.Needs.{needs}
 use Rattle.dictionary.proofs.Places.{Finding, finds}
 use Rattle.dictionary.proofs.place.find_id.Statement.{statement}
 use Rattle.dictionary.proofs.place.find_id.Tie as tie
-use Rattle.dictionary.proofs.place.find_id.Reads as reads
-use Rattle.dictionary.proofs.place.find_id.Lts as lts
-use Rattle.dictionary.proofs.line.has_kind.Reads as has-kind-reads
-use Rattle.entries.proofs.part.id_part.Reads as id-part-reads
-use Rattle.entries.proofs.table.count.Reads as count-reads
-use Rattle.entries.proofs.table.get.Reads as get-reads
-use Rattle.values.proofs.string.same_meaning.Reads as same-meaning-reads
 
 abbrev Inv-loop : tie.InvT-loop
 Inv-loop h ahead form dictionary e id k₀ k = Finding dictionary form h ahead e k

@@ -2,9 +2,6 @@ use Rattle.dictionary.proofs.Places.{idxs}
 use borrow.Author.Needs.{needs}
 use Rattle.dictionary.proofs.place.has_idx.Statement.{statement}
 use Rattle.dictionary.proofs.place.has_idx.Tie as tie
-use Rattle.dictionary.proofs.place.has_idx.Reads as reads
-use Rattle.dictionary.proofs.place.has_idx.Lts as lts
-use Rattle.dictionary.proofs.line.line_idx.Reads as line-idx-reads
 
 -- src/place.rt:53:27
 line-idx-requires : tie.Need-line-idx-requires

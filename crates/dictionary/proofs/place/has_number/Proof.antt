@@ -4,12 +4,6 @@ use borrow.Author.Needs.{needs}
 use Rattle.dictionary.proofs.Places.{Counting, counts}
 use Rattle.dictionary.proofs.place.has_number.Statement.{statement}
 use Rattle.dictionary.proofs.place.has_number.Tie as tie
-use Rattle.dictionary.proofs.place.has_number.Reads as reads
-use Rattle.dictionary.proofs.place.has_number.Lts as lts
-use Rattle.dictionary.proofs.line.has_kind.Reads as has-kind-reads
-use Rattle.dictionary.proofs.place.has_idx.Reads as has-idx-reads
-use Rattle.entries.proofs.table.count.Reads as count-reads
-use Rattle.entries.proofs.table.get.Reads as get-reads
 
 abbrev Inv-loop : tie.InvT-loop
 Inv-loop h ahead form dictionary n k₀ k = Counting dictionary form h ahead n k

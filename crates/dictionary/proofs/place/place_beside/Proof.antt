@@ -2,10 +2,6 @@ use Rattle.dictionary.proofs.Places.{besides}
 use borrow.Author.Needs.{needs}
 use Rattle.dictionary.proofs.place.place_beside.Statement.{statement}
 use Rattle.dictionary.proofs.place.place_beside.Tie as tie
-use Rattle.dictionary.proofs.place.place_beside.Reads as reads
-use Rattle.dictionary.proofs.place.place_beside.Lts as lts
-use Rattle.dictionary.proofs.place.has_idx.Reads as has-idx-reads
-use Rattle.dictionary.proofs.place.has_number.Reads as has-number-reads
 
 -- src/place.rt:128:24
 enum-known-earlier : tie.Need-enum-known-earlier

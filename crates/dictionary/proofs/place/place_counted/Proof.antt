@@ -2,9 +2,6 @@ use Rattle.dictionary.proofs.Places.{counteds}
 use borrow.Author.Needs.{needs}
 use Rattle.dictionary.proofs.place.place_counted.Statement.{statement}
 use Rattle.dictionary.proofs.place.place_counted.Tie as tie
-use Rattle.dictionary.proofs.place.place_counted.Reads as reads
-use Rattle.dictionary.proofs.place.place_counted.Lts as lts
-use Rattle.dictionary.proofs.line.is_implied.Reads as is-implied-reads
 
 enum-told : tie.Need-enum-told
 enum-told c = search (counteds, needs)

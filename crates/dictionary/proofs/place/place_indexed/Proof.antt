@@ -2,12 +2,6 @@ use Rattle.dictionary.proofs.Places.{indexeds}
 use borrow.Author.Needs.{needs}
 use Rattle.dictionary.proofs.place.place_indexed.Statement.{statement}
 use Rattle.dictionary.proofs.place.place_indexed.Tie as tie
-use Rattle.dictionary.proofs.place.place_indexed.Reads as reads
-use Rattle.dictionary.proofs.place.place_indexed.Lts as lts
-use Rattle.dictionary.proofs.line.line_idx.Reads as line-idx-reads
-use Rattle.dictionary.proofs.numbers.meet.Reads as meet-reads
-use Rattle.dictionary.proofs.place.clashes_implied.Reads as clashes-implied-reads
-use Rattle.dictionary.proofs.place.place_beside.Reads as place-beside-reads
 
 -- src/place.rt:159:27
 line-idx-requires : tie.Need-line-idx-requires

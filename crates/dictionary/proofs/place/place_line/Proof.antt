@@ -2,11 +2,6 @@ use Rattle.dictionary.proofs.Places.{lines}
 use borrow.Author.Needs.{needs}
 use Rattle.dictionary.proofs.place.place_line.Statement.{statement}
 use Rattle.dictionary.proofs.place.place_line.Tie as tie
-use Rattle.dictionary.proofs.place.place_line.Reads as reads
-use Rattle.dictionary.proofs.place.place_line.Lts as lts
-use Rattle.dictionary.proofs.place.find_earlier.Reads as find-earlier-reads
-use Rattle.dictionary.proofs.place.place_counted.Reads as place-counted-reads
-use Rattle.dictionary.proofs.place.place_indexed.Reads as place-indexed-reads
 
 -- src/place.rt:197:9
 find-earlier-requires : tie.Need-find-earlier-requires

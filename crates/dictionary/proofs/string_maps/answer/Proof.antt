@@ -2,9 +2,6 @@ use Rattle.dictionary.proofs.Answers.{answers}
 use borrow.Author.Needs.{needs}
 use Rattle.dictionary.proofs.string_maps.answer.Statement.{statement}
 use Rattle.dictionary.proofs.string_maps.answer.Tie as tie
-use Rattle.dictionary.proofs.string_maps.answer.Reads as reads
-use Rattle.dictionary.proofs.string_maps.answer.Lts as lts
-use Rattle.dictionary.proofs.string_maps.refuse.Reads as refuse-reads
 
 -- src/string_maps.rt:146:23
 enum-known-judged : tie.Need-enum-known-judged

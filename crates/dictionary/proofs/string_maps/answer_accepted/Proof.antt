@@ -2,10 +2,6 @@ use Rattle.dictionary.proofs.Answers.{both-answered}
 use borrow.Author.Needs.{needs}
 use Rattle.dictionary.proofs.string_maps.answer_accepted.Statement.{statement}
 use Rattle.dictionary.proofs.string_maps.answer_accepted.Tie as tie
-use Rattle.dictionary.proofs.string_maps.answer_accepted.Reads as reads
-use Rattle.dictionary.proofs.string_maps.answer_accepted.Lts as lts
-use Rattle.dictionary.proofs.string_maps.answer.Reads as answer-reads
-use Rattle.dictionary.proofs.string_maps.number_both.Reads as number-both-reads
 
 -- src/string_maps.rt:172:9
 number-both-requires : tie.Need-number-both-requires

@@ -2,12 +2,6 @@ use Rattle.dictionary.proofs.Answers.{calls}
 use borrow.Author.Needs.{needs}
 use Rattle.dictionary.proofs.string_maps.dictionaries.Statement.{statement}
 use Rattle.dictionary.proofs.string_maps.dictionaries.Tie as tie
-use Rattle.dictionary.proofs.string_maps.dictionaries.Reads as reads
-use Rattle.dictionary.proofs.string_maps.dictionaries.Lts as lts
-use Rattle.dictionary.proofs.string_maps.answer_accepted.Reads as answer-accepted-reads
-use Rattle.dictionary.proofs.string_maps.refuse.Reads as refuse-reads
-use Rattle.entries.proofs.table.kept.Reads as kept-reads
-use Rattle.header.proofs.parser.read.Reads as read-reads
 
 -- src/string_maps.rt:188:9
 read-requires : tie.Need-read-requires

@@ -2,10 +2,6 @@ use Rattle.dictionary.proofs.Judging.{judges}
 use borrow.Author.Needs.{needs}
 use Rattle.dictionary.proofs.string_maps.judge.Statement.{statement}
 use Rattle.dictionary.proofs.string_maps.judge.Tie as tie
-use Rattle.dictionary.proofs.string_maps.judge.Reads as reads
-use Rattle.dictionary.proofs.string_maps.judge.Lts as lts
-use Rattle.dictionary.proofs.string_maps.count_pairs.Reads as count-pairs-reads
-use Rattle.dictionary.proofs.string_maps.is_mixed.Reads as is-mixed-reads
 
 -- src/string_maps.rt:77:8
 is-mixed-requires : tie.Need-is-mixed-requires

@@ -2,11 +2,6 @@ use Rattle.dictionary.proofs.Judging.{boths}
 use borrow.Author.Needs.{needs}
 use Rattle.dictionary.proofs.string_maps.number_both.Statement.{statement}
 use Rattle.dictionary.proofs.string_maps.number_both.Tie as tie
-use Rattle.dictionary.proofs.string_maps.number_both.Reads as reads
-use Rattle.dictionary.proofs.string_maps.number_both.Lts as lts
-use Rattle.dictionary.proofs.numbering.carried_in.Reads as carried-in-reads
-use Rattle.dictionary.proofs.numbering.number_dictionary.Reads as number-dictionary-reads
-use Rattle.dictionary.proofs.string_maps.judge.Reads as judge-reads
 
 -- src/string_maps.rt:103:9
 carried-in-requires : tie.Need-carried-in-requires

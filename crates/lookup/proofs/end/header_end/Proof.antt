@@ -4,11 +4,6 @@ use Prim.Native.Nat.{_-_}
 use lib.ListN.{length}
 use Rattle.lookup.proofs.end.header_end.Statement.{statement}
 use Rattle.lookup.proofs.end.header_end.Tie as tie
-use Rattle.lookup.proofs.end.header_end.Reads as reads
-use Rattle.lookup.proofs.end.header_end.Lts as lts
-use Rattle.lines.proofs.line.next_line.Reads as next-line-reads
-use Rattle.lookup.proofs.end.is_column_line.Reads as is-column-line-reads
-use Rattle.values.proofs.bytes.part.Reads as part-reads
 
 abbrev Inv-loop : tie.InvT-loop
 Inv-loop s at₀ at = Ending s at

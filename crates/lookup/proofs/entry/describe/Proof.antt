@@ -2,12 +2,6 @@ use Rattle.lookup.proofs.Entries.{descriptions}
 use borrow.Author.Needs.{needs}
 use Rattle.lookup.proofs.entry.describe.Statement.{statement}
 use Rattle.lookup.proofs.entry.describe.Tie as tie
-use Rattle.lookup.proofs.entry.describe.Reads as reads
-use Rattle.lookup.proofs.entry.describe.Lts as lts
-use Rattle.entries.proofs.kind.has_id.Reads as has-id-reads
-use Rattle.entries.proofs.shown.entry_at.Reads as entry-at-reads
-use Rattle.lookup.proofs.entry.if_told.Reads as if-told-reads
-use Rattle.lookup.proofs.entry.key_of.Reads as key-of-reads
 
 -- src/entry.rt:62:31
 entry-at-requires : tie.Need-entry-at-requires

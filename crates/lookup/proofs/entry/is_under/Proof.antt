@@ -2,14 +2,6 @@ use Rattle.lookup.proofs.Entries.{unders}
 use borrow.Author.Needs.{needs}
 use Rattle.lookup.proofs.entry.is_under.Statement.{statement}
 use Rattle.lookup.proofs.entry.is_under.Tie as tie
-use Rattle.lookup.proofs.entry.is_under.Reads as reads
-use Rattle.lookup.proofs.entry.is_under.Lts as lts
-use Rattle.entries.proofs.kind.has_id.Reads as has-id-reads
-use Rattle.entries.proofs.part.id_part.Reads as id-part-reads
-use Rattle.entries.proofs.shown.entry_at.Reads as entry-at-reads
-use Rattle.lookup.proofs.entry.key_of.Reads as key-of-reads
-use Rattle.values.proofs.bytes.same.Reads as same-reads
-use Rattle.values.proofs.string.same_meaning.Reads as same-meaning-reads
 
 -- src/entry.rt:87:31
 entry-at-requires : tie.Need-entry-at-requires

@@ -2,12 +2,6 @@ use Rattle.lookup.proofs.Entries.{keys}
 use borrow.Author.Needs.{needs}
 use Rattle.lookup.proofs.entry.key_of.Statement.{statement}
 use Rattle.lookup.proofs.entry.key_of.Tie as tie
-use Rattle.lookup.proofs.entry.key_of.Reads as reads
-use Rattle.lookup.proofs.entry.key_of.Lts as lts
-use Rattle.entries.proofs.part.line_part.Reads as line-part-reads
-use Rattle.values.proofs.bytes.find.Reads as find-reads
-use Rattle.values.proofs.bytes.part.Reads as part-reads
-use Rattle.values.proofs.bytes.starts_with.Reads as starts-with-reads
 
 -- src/entry.rt:40:9
 slice-aggregate-result : tie.Need-slice-aggregate-result

@@ -2,10 +2,6 @@ use Rattle.lookup.proofs.Fields.{parts}
 use borrow.Author.Needs.{needs}
 use Rattle.lookup.proofs.field.field_parts.Statement.{statement}
 use Rattle.lookup.proofs.field.field_parts.Tie as tie
-use Rattle.lookup.proofs.field.field_parts.Reads as reads
-use Rattle.lookup.proofs.field.field_parts.Lts as lts
-use Rattle.header.proofs.shown.field.Reads as field-reads
-use Rattle.lookup.proofs.field.split.Reads as split-reads
 
 -- src/field.rt:90:11
 field-requires : tie.Need-field-requires

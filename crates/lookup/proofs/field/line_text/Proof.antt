@@ -2,12 +2,6 @@ use Rattle.lookup.proofs.Fields.{line-texts}
 use borrow.Author.Needs.{needs}
 use Rattle.lookup.proofs.field.line_text.Statement.{statement}
 use Rattle.lookup.proofs.field.line_text.Tie as tie
-use Rattle.lookup.proofs.field.line_text.Reads as reads
-use Rattle.lookup.proofs.field.line_text.Lts as lts
-use Rattle.alone.proofs.read.read_entry.Reads as read-entry-reads
-use Rattle.entries.proofs.part.line_part.Reads as line-part-reads
-use Rattle.records.proofs.field.find_field.Reads as find-field-reads
-use Rattle.records.proofs.key.MapKey.has_brackets.Reads as has-brackets-reads
 
 -- src/field.rt:110:11
 read-entry-requires : tie.Need-read-entry-requires

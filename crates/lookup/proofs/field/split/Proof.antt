@@ -2,10 +2,6 @@ use Rattle.lookup.proofs.Fields.{cuts}
 use borrow.Author.Needs.{needs}
 use Rattle.lookup.proofs.field.split.Statement.{statement}
 use Rattle.lookup.proofs.field.split.Tie as tie
-use Rattle.lookup.proofs.field.split.Reads as reads
-use Rattle.lookup.proofs.field.split.Lts as lts
-use Rattle.values.proofs.bytes.find.Reads as find-reads
-use Rattle.values.proofs.bytes.part.Reads as part-reads
 
 -- src/field.rt:51:9
 find-requires : tie.Need-find-requires

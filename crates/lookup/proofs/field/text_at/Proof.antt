@@ -2,9 +2,6 @@ use Rattle.lookup.proofs.Fields.{moved-texts}
 use borrow.Author.Needs.{needs}
 use Rattle.lookup.proofs.field.text_at.Statement.{statement}
 use Rattle.lookup.proofs.field.text_at.Tie as tie
-use Rattle.lookup.proofs.field.text_at.Reads as reads
-use Rattle.lookup.proofs.field.text_at.Lts as lts
-use Rattle.lookup.proofs.field.line_text.Reads as line-text-reads
 
 -- src/field.rt:126:11
 line-text-requires : tie.Need-line-text-requires

@@ -2,11 +2,6 @@ use Rattle.lookup.proofs.Fields.{values}
 use borrow.Author.Needs.{needs}
 use Rattle.lookup.proofs.field.value.Statement.{statement}
 use Rattle.lookup.proofs.field.value.Tie as tie
-use Rattle.lookup.proofs.field.value.Reads as reads
-use Rattle.lookup.proofs.field.value.Lts as lts
-use Rattle.entries.proofs.kind.has_id.Reads as has-id-reads
-use Rattle.entries.proofs.shown.entry_at.Reads as entry-at-reads
-use Rattle.lookup.proofs.field.text_at.Reads as text-at-reads
 
 -- src/field.rt:148:31
 entry-at-requires : tie.Need-entry-at-requires

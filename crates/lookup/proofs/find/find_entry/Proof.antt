@@ -3,10 +3,6 @@ use Rattle.lookup.proofs.Entries.{seeks, Seeking}
 use Prim.Native.Nat.{_-_}
 use Rattle.lookup.proofs.find.find_entry.Statement.{statement}
 use Rattle.lookup.proofs.find.find_entry.Tie as tie
-use Rattle.lookup.proofs.find.find_entry.Reads as reads
-use Rattle.lookup.proofs.find.find_entry.Lts as lts
-use Rattle.entries.proofs.table.count.Reads as count-reads
-use Rattle.lookup.proofs.entry.is_under.Reads as is-under-reads
 
 abbrev Inv-loop : tie.InvT-loop
 Inv-loop h table form key id entries n₀ n = Seeking form h table key id n

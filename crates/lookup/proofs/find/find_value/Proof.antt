@@ -2,10 +2,6 @@ use Rattle.lookup.proofs.Fields.{found-values}
 use borrow.Author.Needs.{needs}
 use Rattle.lookup.proofs.find.find_value.Statement.{statement}
 use Rattle.lookup.proofs.find.find_value.Tie as tie
-use Rattle.lookup.proofs.find.find_value.Reads as reads
-use Rattle.lookup.proofs.find.find_value.Lts as lts
-use Rattle.lookup.proofs.field.value.Reads as value-reads
-use Rattle.lookup.proofs.find.find_entry.Reads as find-entry-reads
 
 -- src/find.rt:44:11
 find-entry-requires : tie.Need-find-entry-requires

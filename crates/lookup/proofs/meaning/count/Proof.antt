@@ -2,9 +2,6 @@ use Rattle.lookup.proofs.Meanings.{meanings}
 use borrow.Author.Needs.{needs}
 use Rattle.lookup.proofs.meaning.count.Statement.{statement}
 use Rattle.lookup.proofs.meaning.count.Tie as tie
-use Rattle.lookup.proofs.meaning.count.Reads as reads
-use Rattle.lookup.proofs.meaning.count.Lts as lts
-use Rattle.lookup.proofs.meaning.put.Reads as put-reads
 
 -- src/meaning.rt:30:20
 slice-aggregate-put : tie.Need-slice-aggregate-put

@@ -2,9 +2,6 @@ use Rattle.lookup.proofs.Meanings.{meanings}
 use borrow.Author.Needs.{needs}
 use Rattle.lookup.proofs.meaning.put.Statement.{statement}
 use Rattle.lookup.proofs.meaning.put.Tie as tie
-use Rattle.lookup.proofs.meaning.put.Reads as reads
-use Rattle.lookup.proofs.meaning.put.Lts as lts
-use Rattle.values.proofs.string.put_value.Reads as put-value-reads
 
 -- src/meaning.rt:22:39
 slice-aggregate-put-value : tie.Need-slice-aggregate-put-value

@@ -2,10 +2,6 @@ use Rattle.lookup.proofs.Meanings.{meanings}
 use borrow.Author.Needs.{needs}
 use Rattle.lookup.proofs.meaning.put_meaning.Statement.{statement}
 use Rattle.lookup.proofs.meaning.put_meaning.Tie as tie
-use Rattle.lookup.proofs.meaning.put_meaning.Reads as reads
-use Rattle.lookup.proofs.meaning.put_meaning.Lts as lts
-use Rattle.lookup.proofs.meaning.count.Reads as count-reads
-use Rattle.lookup.proofs.meaning.put.Reads as put-reads
 
 -- src/meaning.rt:38:9
 count-requires : tie.Need-count-requires

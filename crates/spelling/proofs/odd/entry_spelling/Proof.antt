@@ -2,8 +2,6 @@ use Rattle.spelling.proofs.Listing.{entry}
 use borrow.Author.Needs.{needs}
 use Rattle.spelling.proofs.odd.entry_spelling.Statement.{statement}
 use Rattle.spelling.proofs.odd.entry_spelling.Tie as tie
-use Rattle.spelling.proofs.odd.entry_spelling.Reads as reads
-use Rattle.spelling.proofs.odd.entry_spelling.Lts as lts
 
 entry-at-requires : tie.Need-entry-at-requires
 entry-at-requires c κs = search (entry, needs)

@@ -2,8 +2,6 @@ use Rattle.spelling.proofs.Listing.{again}
 use borrow.Author.Needs.{needs}
 use Rattle.spelling.proofs.odd.is_read_again.Statement.{statement}
 use Rattle.spelling.proofs.odd.is_read_again.Tie as tie
-use Rattle.spelling.proofs.odd.is_read_again.Reads as reads
-use Rattle.spelling.proofs.odd.is_read_again.Lts as lts
 
 has-id-requires : tie.Need-has-id-requires
 has-id-requires c κs = search (again, needs)

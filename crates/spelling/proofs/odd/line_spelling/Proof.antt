@@ -2,8 +2,6 @@ use Rattle.spelling.proofs.Listing.{lines}
 use borrow.Author.Needs.{needs}
 use Rattle.spelling.proofs.odd.line_spelling.Statement.{statement}
 use Rattle.spelling.proofs.odd.line_spelling.Tie as tie
-use Rattle.spelling.proofs.odd.line_spelling.Reads as reads
-use Rattle.spelling.proofs.odd.line_spelling.Lts as lts
 
 read-entry-requires : tie.Need-read-entry-requires
 read-entry-requires c κs = search (lines, needs)

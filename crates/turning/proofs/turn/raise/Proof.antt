@@ -2,8 +2,6 @@ use Rattle.turning.proofs.Turns.{raisings}
 use borrow.Author.Needs.{needs}
 use Rattle.turning.proofs.turn.raise.Statement.{statement}
 use Rattle.turning.proofs.turn.raise.Tie as tie
-use Rattle.turning.proofs.turn.raise.Reads as reads
-use Rattle.turning.proofs.turn.raise.Lts as lts
 
 with-counts-requires : tie.Need-with-counts-requires
 with-counts-requires c κs = search (raisings, needs)

@@ -2,8 +2,6 @@ use Rattle.turning.proofs.Turns.{turned-ones}
 use borrow.Author.Needs.{needs}
 use Rattle.turning.proofs.turn.turned.Statement.{statement}
 use Rattle.turning.proofs.turn.turned.Tie as tie
-use Rattle.turning.proofs.turn.turned.Reads as reads
-use Rattle.turning.proofs.turn.turned.Lts as lts
 
 source-requires : tie.Need-source-requires
 source-requires c κs = search (turned-ones, needs)

@@ -4,11 +4,6 @@ use Prim.Native.Nat.{_-_}
 use lib.ListN.{length}
 use Rattle.vcfh.proofs.numbers.say_id.Statement.{statement}
 use Rattle.vcfh.proofs.numbers.say_id.Tie as tie
-use Rattle.vcfh.proofs.numbers.say_id.Reads as reads
-use Rattle.vcfh.proofs.numbers.say_id.Lts as lts
-use Rattle.entries.proofs.part.id_part.Reads as id-part-reads
-use Rattle.values.proofs.cursor.Cursor.next_unescaped.Reads as next-unescaped-reads
-use Rattle.vcfh.proofs.say.shown.Reads as shown-reads
 
 abbrev Inv-loop : tie.InvT-loop
 Inv-loop header e id c₀ c = Unit {0}

@@ -2,9 +2,6 @@ use borrow.Author.Needs.{needs}
 use Prim.Native.Nat.{_-_}
 use Rattle.vcfh.proofs.numbers.say_pairs.Statement.{statement}
 use Rattle.vcfh.proofs.numbers.say_pairs.Tie as tie
-use Rattle.vcfh.proofs.numbers.say_pairs.Reads as reads
-use Rattle.vcfh.proofs.numbers.say_pairs.Lts as lts
-use Rattle.vcfh.proofs.numbers.say_pair.Reads as say-pair-reads
 
 abbrev Inv-loop : tie.InvT-loop
 Inv-loop label header table words pairs k₀ k = Unit {0}

@@ -2,9 +2,6 @@ use Rattle.dictionary.proofs.Answers.{outcomes}
 use borrow.Author.Needs.{needs}
 use Rattle.dictionary.proofs.string_maps.DictionaryOutcome.number.Statement.{statement}
 use Rattle.dictionary.proofs.string_maps.DictionaryOutcome.number.Tie as tie
-use Rattle.dictionary.proofs.string_maps.DictionaryOutcome.number.Reads as reads
-use Rattle.dictionary.proofs.string_maps.DictionaryOutcome.number.Lts as lts
-use Rattle.records.proofs.refusal.Refusal.number.Reads as number-reads
 
 -- src/string_maps.rt:36:50
 enum-told : tie.Need-enum-told

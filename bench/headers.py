@@ -26,6 +26,7 @@ def indexed(lines, first):
     return [f"{line[:-1]},IDX={n}>" for n, line in enumerate(lines, first)]
 
 
+TYPED = ",Number=1,Type=Integer"
 STRINGS = [f'##INFO=<ID=IX{n},Number=1,Type=Integer,Description="The value">' for n in range(10000)]
 
 HEADERS = {
@@ -45,6 +46,11 @@ HEADERS = {
     "keys_4000": header([f"##k{i}=<ID=a>" for i in range(4000)]),
     "keys_40000": header([f"##k{i}=<ID=a>" for i in range(40000)]),
     "mixed_40000": header([f"##m{i}=<ID=a>" if i % 2 else f"##t{i}=x" for i in range(40000)]),
+    # other keys of two lines each; IDs of three kinds; a probe's cells among other maps; a SAM header
+    "pairs_30000": header([f"##k{i}={x}" for x in "ab" for i in range(30000)]),
+    "kinds_3000": header([f'##{kind}=<ID=s{i}{rest},Description="d">' for kind, rest in (("FILTER", ""), ("INFO", TYPED), ("FORMAT", TYPED)) for i in range(3000)]),
+    "cells_40000": header([*(f"##cell=<ID=W{i:02},K=0.90>" for i in range(1, 41)), *(f"##well=<ID=a{i}>" for i in range(40000))]),
+    "sam_40000": "".join(f"@SQ\tSN:ctg{i:06}\tLN:5\n" for i in range(40000)),
     "fields_17": header([f"##k=<ID=a{j}," + ",".join(f"{i:x}=" for i in range(16)) + ">" for j in range(10000)]),
     "contigs_250000": header([f"##contig=<ID=ctg{i:06},length=5>" for i in range(250000)]),
     "contigs_100000": header([f"##contig=<ID=ctg{i:06},length=5>" for i in range(100000)]),

@@ -160,6 +160,16 @@ module _ (size : ℕ) (e : RuleEntry) {u : Bool} (g : u ≡ leb (e .start + e .l
 
 pub ruleset wells = (line-outside, id-outside, with-id, wrong-kind, wrong-id, without-id)
 
+-- an entry of the table, by its words and what they tell
+module _ (form : Form) (size : ℕ) (table : List ℕ) (n : ℕ) {p : Bool} (a : p ≡ wordsClear form table n) where
+  pub is-unclear : not p ≡ true → false ≡ (wordsClear form table n && wellFormed size (entryIn form table n))
+  is-unclear f = rw (← a, not-true p f)
+
+  pub is-well : not p ≡ false → {e : RuleEntry} → e ≡ entryIn form table n → {q : Bool} → q ≡ wellFormed size e → q ≡ (wordsClear form table n && wellFormed size (entryIn form table n))
+  is-well f c b = b ∙ rw (← a, not-false p f, c)
+
+pub ruleset entry-tests = (is-unclear, is-well)
+
 -- The parts
 
 pub id-text : (h : Bytes) (e : RuleEntry) {p r : Bytes} → p ≡ take (length h) (drop (e .start) h) → r ≡ take (e .idLength) (drop (e .offset) p) → r ≡ idIn h e

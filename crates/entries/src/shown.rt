@@ -15,7 +15,7 @@ ghost use Prim.Native.Nat.{_+_};
 ghost use Rattle.rules.specs.Shown.{saysNoId, countsInPlace, wellFormed, nthFieldPart};
 ghost use Rattle.rules.specs.Map.{fieldsAt};
 ghost use Rattle.entries.specs.Values.{entryOf};
-ghost use Rattle.entries.specs.Tables.{entryAt, shownEntry, shownId, shownKey};
+ghost use Rattle.entries.specs.Tables.{wordsClear, entryIn, entryAt, shownEntry, shownId, shownKey};
 ghost use Rattle.entries.specs.Shown.{answered, orRefused, keyAnswered, keyOrRefused, entryMeant, bytesOf, Inside, KeyInside};
 
 // A part of the header, or refusal 29: no such entry, no such field, or an entry that is not well formed.
@@ -124,6 +124,16 @@ fn is_well_formed(size: usize, e: Entry) -> bool
         return false;
     }
     has_due_counts(e)
+}
+
+// Whether entry n, from 0, lies in the table and is well formed in a header of `size` bytes.
+pub fn is_entry(size: usize, table: &[u64], form: Form, n: usize) -> bool
+    ensures { λ r. ⌜ r ≡ (wordsClear form (now (table .entry)) n && wellFormed size (entryIn form (now (table .entry)) n)) ⌝ }
+{
+    if !table::is_clear(table, form, n) {
+        return false;
+    }
+    is_well_formed(size, table::get(table, form, n))
 }
 
 // Entry n, from 0, if it lies in the table and is well formed.

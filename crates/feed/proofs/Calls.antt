@@ -6,26 +6,21 @@ use mathlib.Core.Bool.{Bool, true, false, not, _&&_}
 use mathlib.Core.List.{List, [], _∷_, _++_}
 use mathlib.Core.Option.{Option, none, some}
 use lib.Dec.{leb}
-use lib.ListN.{length, getD, take, drop, length-take, length-drop, take-append-drop}
-use lib.Seq.{sets, length-sets, take-all, drop-drop}
+use lib.ListN.{length, getD, set, take, drop, length-take, length-drop, take-append-drop}
+use lib.Seq.{sets, length-sets, take-all, take-suc, drop-drop}
 use borrow.Author.Tests.{le-leb, lt-leb, leb-true, leb-false, ne-eqb}
 use Rattle.values.specs.Bytes.{Bytes, LF, is, any}
-use Rattle.values.specs.Written.{onward, Wrote}
 use Rattle.values.proofs.Tests.{pass, fail, test, not-true, not-false, and-l, and-r, or-r, or-on}
 use Rattle.values.proofs.Lists.{here, drop-past}
 use Rattle.rules.specs.Sizes.{Limits}
-use Rattle.rules.specs.Entry.{Entry}
+use Rattle.rules.specs.Shown.{wellFormed}
 use Rattle.records.specs.Refusals.{number}
 use Rattle.records.specs.declared.file_format.FileFormat.{FileFormat}
 use Rattle.records.specs.declared.refusal.Refusal.{Refusal}
 use Rattle.entries.specs.declared.form.Form.{Form}
 use Rattle.entries.specs.declared.limits.Limits.{Limits as CodeLimits}
-use Rattle.entries.specs.declared.shown.EntryRead.{EntryRead}
-use Rattle.entries.specs.declared.shown.EntryRead.the-variants as found
-use Rattle.entries.specs.declared.entry.Entry.{Entry as CodeEntry}
 use Rattle.entries.specs.Values.{limitsOf, limitsBy}
-use Rattle.entries.specs.Shown.{entryMeant}
-use Rattle.entries.specs.Tables.{entryAt}
+use Rattle.entries.specs.Tables.{wordsClear, entryIn, entryAt}
 use Rattle.header.specs.Steps.{startSpot, fits, readOn, tableOn}
 use Rattle.header.specs.Verdicts.{imposedOf}
 use Rattle.header.specs.Parsers.{AnswerMeaning, answerMeans, spotIn, advanceMeans, endedAt, refusedAt, ReadsOn}
@@ -65,12 +60,16 @@ module _ {form : Form} {h t : List ℕ} {count n : ℕ} (g : Forming form h t co
     unfolding allFormed
     turn = let z : count - n ≡ suc (count - (n + 1)) = omega arith in g .still ∙ rw z
 
-    module _ (r : EntryRead) (e : entryMeant r ≡ entryAt form h t n) where
-      pub forming-fails : r ≡ found.Missing → false ≡ allFormed form h t 0 count
-      forming-fails f = sym (turn ∙ rw (← e, f))
+    module _ {q : Bool} (e : q ≡ (wordsClear form t n && wellFormed (length h) (entryIn form t n))) where
+      found-by : isFound (entryAt form h t n) ≡ q
+      unfolding entryAt
+      found-by = elim (test q) [ pass f ↦ rw (entryAt, ← e, f) | fail f ↦ rw (entryAt, ← e, f) ]
 
-      pub forming-next : {x : CodeEntry} → r ≡ found.Entry x → Forming form h t count (n + 1)
-      forming-next f = record { inside = omega arith; still = turn ∙ rw (← e, f) }
+      pub forming-fails : not q ≡ true → false ≡ allFormed form h t 0 count
+      forming-fails f = sym (turn ∙ rw (found-by, not-true q f))
+
+      pub forming-next : not q ≡ false → Forming form h t count (n + 1)
+      forming-next f = record { inside = omega arith; still = turn ∙ rw (found-by, not-false q f) }
 
 pub ruleset formings = (forming-start, forming-end, forming-fails, forming-next)
 
@@ -265,23 +264,55 @@ pub ruleset rests = (rest-ended, rest-stopped, on-lines, on-length)
 
 -- A piece
 
+sets-more : (xs l : List ℕ) (i a : ℕ) → sets l i (xs ++ a ∷ []) ≡ set (sets l i xs) (i + length xs) a
+sets-more [] l i a = let z : i + 0 ≡ i = omega arith in rw z
+sets-more (x ∷ xs) l i a = let z : suc i + length xs ≡ i + suc (length xs) = omega arith in sets-more xs (set l i x) (suc i) a ∙ rw z
+
+-- its first k bytes are copied
+pub record Copying (b₀ piece b : Bytes) (held k : ℕ) : Type 0 where
+  pub within : k ≤ length piece
+  pub copied : b ≡ sets b₀ held (take k piece)
+
+pub copying-start : (b piece : Bytes) (held : ℕ) → Copying b piece b held 0
+copying-start b piece held = record { within = omega arith; copied = refl }
+
+module _ {b₀ piece b : Bytes} {held k : ℕ} (g : Copying b₀ piece b held k) where
+  pub copying-length : length b ≡ length b₀
+  copying-length = ap length (g .copied) ∙ length-sets b₀ held (take k piece)
+
+  pub copying-room : k < length piece → held + length piece ≤ length b₀ → held + k < length b
+  copying-room l m = omega (arith, copying-length)
+
+  pub copying-next : k < length piece → {b′ : Bytes} → b′ ≡ set b (held + k) (getD piece k 0) → Copying b₀ piece b′ held (k + 1)
+  copying-next l e =
+      let i : k + 1 ≡ suc k = omega arith in
+      let n : length (take k piece) ≡ k = simp length-take (omega arith) in
+      let more : sets b₀ held (take (k + 1) piece) ≡ set (sets b₀ held (take k piece)) (held + k) (getD piece k 0)
+      = rw (i, take-suc piece k 0 l) (sets-more (take k piece) b₀ held (getD piece k 0) ∙ rw n) in
+      record { within = omega arith; copied = e ∙ rw (g .copied) (sym more) }
+
+  pub copying-end : length piece ≤ k → b ≡ sets b₀ held piece
+  copying-end l = g .copied ∙ ap (sets b₀ held) (take-all k piece l)
+
+  pub copying-place : length piece ≤ k → held + k ≡ held + length piece
+  copying-place l = omega (arith, g .within)
+
+pub ruleset copyings = (copying-start, copying-length, copying-room, copying-next, copying-end, copying-place)
+
 -- after it was copied
-module _ (form : Form) (held : ℕ) (piece b : Bytes) {q : Bool} (e : q ≡ hasRoom form held piece b) (n : not q ≡ false) {now : ℕ} {b′ : Bytes} (w : Wrote b held piece now b′) where
-  roomy : held + length piece ≤ length b
+module _ (form : Form) (held : ℕ) (piece b : Bytes) {q : Bool} (e : q ≡ hasRoom form held piece b) (n : not q ≡ false) where
+  pub roomy : held + length piece ≤ length b
   unfolding hasRoom
   roomy =
       let x = leb (held + length piece) (length b) in
       leb-true (held + length piece) (length b) (and-l x (leb (held + length piece) (limitsBy form .header)) (sym e ∙ not-false q n))
 
-  now-is : now ≡ held + length piece
-  unfolding onward
-  now-is = omega (arith, w .place, w .fits, roomy)
+  module _ {now : ℕ} (p : now ≡ held + length piece) {b′ : Bytes} (o : b′ ≡ sets b held piece) where
+    pub piece-inside : now ≤ length b′
+    piece-inside = rw (p, o, length-sets b held piece) roomy
 
-  pub piece-inside : now ≤ length b′
-  piece-inside = rw (now-is, w .output, length-sets b held piece) roomy
-
-  pub piece-part : length (take now b′) ≡ now
-  piece-part = simp length-take (omega (arith, piece-inside))
+    pub piece-part : length (take now b′) ≡ now
+    piece-part = simp length-take (omega (arith, piece-inside))
 
 module _ (form : Form) (s : Feeding) (piece b t : List ℕ) {q : Bool} (e : q ≡ hasRoom form (s .held) piece b) where
   pub piece-long : not q ≡ true → (r : FeedAnswer) → feedMeans r ≡ told (endedState (s .imposed) (s .spot) (s .held) (tooLong (s .spot))) (tooLong (s .spot)) → Leaves (pieceFed form s piece b t) r b t
@@ -290,14 +321,14 @@ module _ (form : Form) (s : Feeding) (piece b t : List ℕ) {q : Bool} (e : q �
       let z : hasRoom form (s .held) piece b ≡ false = sym e ∙ not-true q n in
       rw (pieceFed, z) (record { answer = f; buffer = refl; table = refl })
 
-  module _ (n : not q ≡ false) {now : ℕ} {b′ : Bytes} (w : Wrote b (s .held) piece now b′) where
+  module _ (n : not q ≡ false) {now : ℕ} (p : now ≡ s .held + length piece) {b′ : Bytes} (o : b′ ≡ sets b (s .held) piece) where
     pub piece-taken : {r : FeedAnswer} {t′ : List ℕ} → ReadsComplete form (openState (s .imposed) (s .spot) now) (take now b′) t r t′ → Leaves (pieceFed form s piece b t) r b′ t′
     unfolding pieceFed
     piece-taken {r} {t′} c =
         let z : hasRoom form (s .held) piece b ≡ true = sym e ∙ not-false q n in
-        let d = subst (λ (x : Bytes). ReadsComplete form (openState (s .imposed) (s .spot) now) (take now x) t r t′) (w .output) c in
-        let k = subst (λ (i : ℕ). ReadsComplete form (openState (s .imposed) (s .spot) i) (take i (sets b (s .held) piece)) t r t′) (now-is form (s .held) piece b e n w) d in
-        rw (pieceFed, z) (record { answer = k .answer; buffer = w .output; table = k .table })
+        let d = subst (λ (x : Bytes). ReadsComplete form (openState (s .imposed) (s .spot) now) (take now x) t r t′) o c in
+        let k = subst (λ (i : ℕ). ReadsComplete form (openState (s .imposed) (s .spot) i) (take i (sets b (s .held) piece)) t r t′) p d in
+        rw (pieceFed, z) (record { answer = k .answer; buffer = o; table = k .table })
 
 pub complete-length : {form : Form} {s : Feeding} {h t : List ℕ} {r : FeedAnswer} {t′ : List ℕ} → ReadsComplete form s h t r t′ → length t′ ≡ length t
 complete-length {form} {s} {h} {t} c = ap length (c .table) ∙ table-length form (s .imposed) h (lastEnd h (s .spot .at)) t (s .spot)
@@ -305,10 +336,10 @@ complete-length {form} {s} {h} {t} c = ap length (c .table) ∙ table-length for
 pub rest-length : {form : Form} {s : Feeding} {h t : List ℕ} {r : FeedAnswer} {t′ : List ℕ} → ReadsRest form s h t r t′ → length t′ ≡ length t
 rest-length {form} {s} {h} {t} c = ap length (c .table) ∙ table-length form (s .imposed) h (s .held) t (s .spot)
 
-pub piece-length : {b : Bytes} {held : ℕ} {piece : Bytes} {now : ℕ} {b′ : Bytes} → Wrote b held piece now b′ → length b′ ≡ length b
-piece-length {b} {held} {piece} w = ap length (w .output) ∙ length-sets b held piece
+pub piece-length : (b : Bytes) (held : ℕ) (piece : Bytes) {b′ : Bytes} → b′ ≡ sets b held piece → length b′ ≡ length b
+piece-length b held piece o = ap length o ∙ length-sets b held piece
 
-pub ruleset pieces = (piece-long, piece-inside, piece-part, piece-length, piece-taken, complete-length)
+pub ruleset pieces = (piece-long, roomy, piece-inside, piece-part, piece-length, piece-taken, complete-length)
 
 -- The calls
 

@@ -1,7 +1,6 @@
 // A header over the cable: pieces go into a lent buffer, and each line is read when its LF is there, the last one when the sender closes.
 use entries::form::Form;
 use entries::shown;
-use entries::shown::EntryRead;
 use header::file_format_option::FileFormatOption;
 use header::parser;
 use header::parser::Advance;
@@ -11,10 +10,11 @@ use header::parser::ReadAnswer;
 use records::file_format::FileFormat;
 use records::refusal::Refusal;
 use values::bytes;
-use values::output;
 ghost use mathlib.Core.Path.{_≡_};
-ghost use Prim.Native.Nat.{_+_, _^_, _<_};
+ghost use Prim.Native.Nat.{_+_, _^_, _≤_, _<_};
 ghost use lib.Dec.{leb};
+ghost use lib.ListN.{length};
+ghost use lib.Seq.{sets};
 ghost use Rattle.records.specs.Refusals.{number};
 ghost use Rattle.header.specs.Verdicts.{imposedOf};
 ghost use Rattle.header.specs.Parsers.{answerMeans, spotIn, refusedAt};
@@ -82,9 +82,9 @@ fn all_formed(h: &[u8], table: &[u64], form: Form, count: usize) -> bool
 {
     let mut n: usize = 0;
     while n < count {
-        let EntryRead::Entry(_) = shown::entry_at(h, table, form, n) else {
+        if !shown::is_entry(h.len(), table, form, n) {
             return false;
-        };
+        }
         n += 1;
     }
     true
@@ -242,6 +242,20 @@ fn read_complete(state: FeedState, form: Form, h: &[u8], table: &mut [u64]) -> F
     }
 }
 
+// Copies a piece that fits whole, and gives the place after it.
+fn put_piece(buffer: &mut [u8], held: usize, piece: &[u8]) -> usize
+    requires { ⌜ held + length (now piece) ≤ length (now buffer) ⌝ }
+    ensures place { λ r. ⌜ r ≡ held + length (now (piece .entry)) ⌝ }
+    ensures buffer { λ _. ⌜ now (buffer .exit) ≡ sets (now (buffer .entry)) held (now (piece .entry)) ⌝ }
+{
+    let mut k: usize = 0;
+    while k < piece.len() {
+        buffer[held + k] = piece[k];
+        k += 1;
+    }
+    held + k
+}
+
 // Copies a piece that fits whole, and reads.
 fn take_piece(
     state: FeedState,
@@ -265,7 +279,7 @@ fn take_piece(
         };
         return end(imposed, parser, held, a);
     }
-    let now = output::put_bytes(buffer, held, piece);
+    let now = put_piece(buffer, held, piece);
     let taken = FeedState {
         imposed,
         parser,

@@ -1,8 +1,8 @@
-use borrow.Author.Needs.{needs}
-use Rattle.feed.proofs.Calls.{Forming, formings}
-use Prim.Native.Nat.{_-_}
 use Rattle.feed.proofs.cable.all_formed.Statement.{statement}
 use Rattle.feed.proofs.cable.all_formed.Tie as tie
+use Rattle.feed.proofs.Calls.{Forming, formings}
+use Prim.Native.Nat.{_-_}
+use borrow.Author.Needs.{needs}
 
 abbrev Inv-loop : tie.InvT-loop
 Inv-loop h table form count n₀ n = Forming form h table count n
@@ -13,14 +13,8 @@ abbrev μ-loop : tie.MeasureT-loop
 loop-holds : tie.Need-loop-holds Inv-loop μ-loop
 loop-holds c = search (formings, needs)
 
-entry-at-requires : tie.Need-entry-at-requires Inv-loop μ-loop
-entry-at-requires c κs = search (formings, needs)
-
-enum-told : tie.Need-enum-told Inv-loop μ-loop
-enum-told c = search (formings, needs)
-
-enum-told-2 : tie.Need-enum-told-2 Inv-loop μ-loop
-enum-told-2 c = search (formings, needs)
+is-entry-requires : tie.Need-is-entry-requires Inv-loop μ-loop
+is-entry-requires c κs = search (formings, needs)
 
 returns : tie.Need-returns Inv-loop μ-loop
 returns c = search (formings, needs)
@@ -44,9 +38,7 @@ all-formed-spec =
     Inv-loop
     μ-loop
     loop-holds
-    entry-at-requires
-    enum-told
-    enum-told-2
+    is-entry-requires
     returns
     add-n
     loop-less

@@ -15,8 +15,8 @@ same-length c = search (pieces, needs)
 returns : tie.Need-returns
 returns c = search (pieces, needs)
 
-put-bytes-requires : tie.Need-put-bytes-requires
-put-bytes-requires c κs = search (pieces, needs)
+put-piece-requires : tie.Need-put-piece-requires
+put-piece-requires c κs = search (pieces, needs)
 
 slice-reshare-prefix-read-complete : tie.Need-slice-reshare-prefix-read-complete
 slice-reshare-prefix-read-complete c = search (pieces, needs)
@@ -44,7 +44,7 @@ take-piece-spec =
     end-requires
     same-length
     returns
-    put-bytes-requires
+    put-piece-requires
     slice-reshare-prefix-read-complete
     slice-aggregate-read-complete
     read-complete-requires

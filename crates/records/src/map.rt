@@ -339,7 +339,7 @@ fn mark_fields(s: &[u8], map: MapContext, marks: &mut [u64]) -> usize
 fn mark_long(s: &[u8], map: MapContext) -> usize
     ensures { λ r. ⌜ Distinct map (now (s .entry)) r ⌝ }
 {
-    let mut marks = [0u64; 45056];
+    let mut marks = [0u64; 40960];
     mark_fields(s, map, &mut marks)
 }
 

@@ -48,7 +48,7 @@ static int dictionaries(void) {
 }
 
 static int cells(void) { return vcfh_register((const uint8_t *)header, length, 0, 0, 0, VCFH_FIRST, table, WORDS).number == 0; }
-static int sam(void) { return vcfh_contigs((const uint8_t *)header, length, out, SIZE).number == 0; }
+static int sam_contigs(void) { return vcfh_contigs((const uint8_t *)header, length, out, SIZE).number == 0; }
 
 /* The contigs of the header in the order in which they are looked up: their names, and their entries' numbers. */
 static char names[SIZE];
@@ -157,7 +157,7 @@ int main(int count, char **words) {
     length = fread(header, 1, SIZE, file);
     int (*call)(void) = strcmp(words[1], "hts") == 0 ? hts : strcmp(words[1], "house") == 0 ? house
                         : strcmp(words[1], "dictionaries") == 0 ? dictionaries
-                        : strcmp(words[1], "register") == 0 ? cells : strcmp(words[1], "sam") == 0 ? sam
+                        : strcmp(words[1], "register") == 0 ? cells : strcmp(words[1], "sam") == 0 ? sam_contigs
                         : strcmp(words[1], "fed4096") == 0 ? fed_4096
                         : strcmp(words[1], "fed64") == 0 ? fed_64
                         : strcmp(words[1], "fed1") == 0 ? fed_1

@@ -23,10 +23,6 @@ pub some-words : (form : Form) → 2 ≤ wordCount form
 some-words First = omega arith
 some-words Second = omega arith
 
-pub few-words : (form : Form) → wordCount form ≤ 3
-few-words First = omega arith
-few-words Second = omega arith
-
 pub room-small : (form : Form) (t : List ℕ) → 2 * room form t ≤ length t
 unfolding room
 room-small First t = omega arith

@@ -1,8 +1,10 @@
 -- Document 01, "Lines on both sides": the words that the starred cases leave, and what the calls show of other words, computed by the checker; both in each form of document 02, §5. Assumes nothing.
-use Prim.Native.Nat.{ℕ}
+use Prim.Native.Nat.{ℕ, _-_, _^_}
 use mathlib.Core.Path.{_≡_, refl}
+use mathlib.Core.Bool.{Bool, true, false}
 use mathlib.Core.List.{List, [], _∷_, _++_, map}
 use mathlib.Core.Option.{none}
+use lib.Dec.{ltb}
 use Rattle.rules.specs.Answer.{Answer, ok, refuse}
 use Rattle.rules.specs.Version.{v4-3}
 use Rattle.rules.specs.Shown.{Part, saysNoId, countsInPlace, wellFormed, lineIn, readAlone, tells, entryRecord, nthFieldPart}
@@ -11,12 +13,25 @@ use Rattle.rules.specs.Reading.{reading}
 use Rattle.rules.specs.Examples.{Case, Expected, starred, opened, cell, keyed}
 use Rattle.entries.specs.declared.form.Form.{Form}
 use Rattle.entries.specs.declared.form.Form.the-variants.{First, Second}
-use Rattle.entries.specs.Words.{wordOne, wordTwo, wordThree, unpacked, isClear}
+use Rattle.entries.specs.Words.{wordOne, wordTwo, wordThree, unpacked, isClear, strays, excess}
 use Rattle.entries.specs.Shown.{orRefused, keyOrRefused}
 use Rattle.entries.specs.Tables.{room, words, wordsAt, entryIn, wordsClear, entryAt, shownEntry, shownId, shownField, shownKey}
 
 abbrev pub wordsKept : Case × Expected → List ℕ
 wordsKept c = words First (c .1 .entries)
+
+-- one look at several entries: of a map with an ID, in a header of 43 bytes and in one of 42; of an ID past its line; of a text
+faults : List (ℕ × Bool)
+faults =
+    (strays 0x7000150016000000 0x000B000300000000, ltb (excess (2 ^ 63 - 1 - 43) 0x7000150016000000 0x000B000300000000) (2 ^ 63))
+    ∷ (0, ltb (excess (2 ^ 63 - 1 - 42) 0x7000150016000000 0x000B000300000000) (2 ^ 63))
+    ∷ (strays 0x7000150016000000 0x0014000320000000, ltb (excess (2 ^ 63 - 1 - 43) 0x7000150016000000 0x0014000320000000) (2 ^ 63))
+    ∷ (strays 0x8000150016000001 0, ltb (excess (2 ^ 63 - 1 - 43) 0x8000150016000001 0) (2 ^ 63))
+    ∷ []
+
+faults-told : faults ≡ ((0, true) ∷ (0, false) ∷ (0x20000000, false) ∷ (1, false) ∷ [])
+unfolding faults strays excess
+faults-told = refl
 
 -- the fileformat line's words
 abbrev pub formatWords : List ℕ

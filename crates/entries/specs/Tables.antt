@@ -1,5 +1,5 @@
 -- A lent table: so many words for each entry, the words left over are never used. Assumes nothing.
-use Prim.Native.Nat.{ℕ, zero, suc, _+_, _*_, _/_, _^_, _<_}
+use Prim.Native.Nat.{ℕ, zero, suc, _+_, _*_, _/_, _^_, _≤_, _<_}
 use mathlib.Core.Path.{_≡_}
 use mathlib.Core.Bool.{Bool, true, false, _&&_}
 use mathlib.Core.List.{List, [], _∷_, _++_}
@@ -12,6 +12,7 @@ use Rattle.rules.specs.Version.{Version}
 use Rattle.rules.specs.Entry.{Entry}
 use Rattle.rules.specs.Shown.{Part, wellFormed, entryPart, idPart, entryFieldPart, entryKeyPart}
 use Rattle.entries.specs.declared.form.Form.{Form}
+use Rattle.entries.specs.declared.form.Form.the-variants.{First}
 use Rattle.entries.specs.Values.{limitsBy}
 use Rattle.entries.specs.Words.{wordCount, wordsOf, unpacked, isClear}
 
@@ -69,6 +70,19 @@ wordsClear form t n = ltb n (room form t) && isClear form (wordsAt form t n)
 -- entry n, if that holds and it is well formed in this header
 unfoldable pub entryAt : Form → Bytes → List ℕ → ℕ → Option Entry
 entryAt form h t n = elim (wordsClear form t n && wellFormed (length h) (entryIn form t n)) [ true ↦ some (entryIn form t n) | false ↦ none ]
+
+abbrev pub isFound : Option Entry → Bool
+isFound none = false
+isFound (some e) = true
+
+-- so many entries from number n on are well formed
+unfoldable pub allFormed : Form → Bytes → List ℕ → ℕ → ℕ → Bool
+allFormed form h t n zero = true
+allFormed form h t n (suc k) = isFound (entryAt form h t n) && allFormed form h t (n + 1) k
+
+-- what the code found in one look at several entries: those of the first form from one number up to another are well formed, or nothing
+pub record ArePlain (size : ℕ) (t : List ℕ) (from to : ℕ) (r : Bool) : Type 0 where
+  pub is : r ≡ true → (n : ℕ) → from ≤ n → n < to → wordsClear First t n && wellFormed size (entryIn First t n) ≡ true
 
 -- The calls on an entry number
 

@@ -1,7 +1,8 @@
 -- Document 01, "Entries, most significant bit first", and document 02, §5 and §10: how an entry is stored, in two words or three. Assumes nothing.
-use Prim.Native.Nat.{ℕ, _+_, _*_, _/_, _%_, _^_}
+use Prim.Native.Nat.{ℕ, _+_, _-_, _*_, _/_, _%_, _^_}
 use mathlib.Core.Bool.{Bool, true, false, _&&_}
 use mathlib.Core.List.{List, [], _∷_}
+use lib.Bits.{bitOr}
 use lib.Dec.{eqb}
 use lib.ListN.{getD, take}
 use Rattle.rules.specs.Entry.{Entry}
@@ -94,3 +95,14 @@ unfoldable pub isClear : Form → List ℕ → Bool
 isClear form ws =
     eqb (getD (numbersIn (bitsOne form) (getD ws 0 0)) 3 0) 0
     && (eqb (getD (numbersIn (bitsTwo form) (getD ws 1 0)) 4 0) 0 && eqb (getD (numbersIn (bitsThree form) (getD ws 2 0)) 2 0) 0)
+
+-- Many entries of the first form at once
+
+-- the bits that are 0 in an entry without a tag
+unfoldable pub strays : ℕ → ℕ → ℕ
+strays w x = bitOr (w % 2 ^ 24) (x % 2 ^ 31)
+
+-- the kind is below 8, the line ends early enough, the ID lies in the line, and the kind is 2 or more: each where a number is below 2 ^ 63
+unfoldable pub excess : ℕ → ℕ → ℕ → ℕ
+excess room w x =
+    bitOr (bitOr (bitOr w (w / 2 ^ 40 % 2 ^ 20 + w / 2 ^ 24 % 2 ^ 16 + room)) (x / 2 ^ 48 % 2 ^ 16 + x / 2 ^ 32 % 2 ^ 16 + (2 ^ 63 - 1) - w / 2 ^ 24 % 2 ^ 16)) (2 ^ 63 + 2 ^ 61 - 1 - w % 2 ^ 63)

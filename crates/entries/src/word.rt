@@ -3,9 +3,9 @@ use crate::entry::Entry;
 use crate::form::Form;
 ghost use mathlib.Core.Path.{_≡_};
 ghost use mathlib.Core.List.{[], _∷_};
-ghost use Prim.Native.Nat.{_≤_};
+ghost use Prim.Native.Nat.{_^_, _≤_, _<_};
 ghost use Rattle.entries.specs.Values.{entryOf};
-ghost use Rattle.entries.specs.Words.{bit, wordOne, wordTwo, wordThree, unpacked, isClear};
+ghost use Rattle.entries.specs.Words.{bit, wordOne, wordTwo, wordThree, unpacked, isClear, strays, excess};
 ghost use Rattle.entries.specs.declared.form.Form.the-variants.{Second};
 
 // Kind 4, start 20, length 16, zero 24; in the second form start 24, length 24, zero 12.
@@ -112,4 +112,27 @@ pub fn is_clear(form: Form, w: u64, x: u64, y: u64) -> bool
             y % 0x1_0000 == 0
         }
     }
+}
+
+// The bits that are 0 in each entry of the first form without a tag.
+pub fn strays(w: u64, x: u64) -> u64
+    ensures { λ r. ⌜ r ≡ strays w x ⌝ }
+{
+    w % 0x100_0000 | x % 0x8000_0000
+}
+
+// Below 2^63 where an entry of the first form has a kind with an ID, its line ends early enough, and its ID lies in the line: sums in
+// place of tests, so that the compiler takes several entries at once. `room`: how far below 2^63 the header's length is.
+pub fn excess(room: u64, w: u64, x: u64) -> u64
+    requires { ⌜ room < 2 ^ 63 ⌝ }
+    ensures { λ r. ⌜ r ≡ excess room w x ⌝ }
+{
+    let start = w / 0x100_0000_0000 % 0x10_0000;
+    let length = w / 0x100_0000 % 0x1_0000;
+    let offset = x / 0x1_0000_0000_0000 % 0x1_0000;
+    let id_length = x / 0x1_0000_0000 % 0x1_0000;
+    let line = start + length + room;
+    let id = offset + id_length + 0x7FFF_FFFF_FFFF_FFFF - length;
+    let kind = 0x9FFF_FFFF_FFFF_FFFF - w % 0x8000_0000_0000_0000;
+    w | line | id | kind
 }

@@ -13,14 +13,13 @@ use Rattle.values.specs.Bytes.{Bytes, LF, is, any}
 use Rattle.values.proofs.Tests.{pass, fail, test, not-true, not-false, and-l, and-r, or-r, or-on}
 use Rattle.values.proofs.Lists.{here, drop-past}
 use Rattle.rules.specs.Sizes.{Limits}
-use Rattle.rules.specs.Shown.{wellFormed}
 use Rattle.records.specs.Refusals.{number}
 use Rattle.records.specs.declared.file_format.FileFormat.{FileFormat}
 use Rattle.records.specs.declared.refusal.Refusal.{Refusal}
 use Rattle.entries.specs.declared.form.Form.{Form}
 use Rattle.entries.specs.declared.limits.Limits.{Limits as CodeLimits}
 use Rattle.entries.specs.Values.{limitsOf, limitsBy}
-use Rattle.entries.specs.Tables.{wordsClear, entryIn, entryAt}
+use Rattle.entries.specs.Tables.{allFormed}
 use Rattle.header.specs.Steps.{startSpot, fits, readOn, tableOn}
 use Rattle.header.specs.Verdicts.{imposedOf}
 use Rattle.header.specs.Parsers.{AnswerMeaning, answerMeans, spotIn, advanceMeans, endedAt, refusedAt, ReadsOn}
@@ -32,7 +31,7 @@ use Rattle.header.specs.declared.parser.Advance.{Advance}
 use Rattle.header.specs.declared.parser.Advance.the-variants as advance
 use Rattle.header.proofs.Steps.{Fit, fit}
 use Rattle.header.proofs.Parsers.{table-length, on-lines, on-length}
-use Rattle.feed.specs.Feeding.{Feeding, Fed, startOf, isFound, allFormed, isSound, unmoved, broken, unlessOver, hasRoom, tooLong, endOf, lastEnd, soFar, endedState, openState, completeTold, completeTable, pieceFed, feedOf, restTold, restFed, closeOf}
+use Rattle.feed.specs.Feeding.{Feeding, Fed, startOf, isSound, unmoved, broken, unlessOver, hasRoom, tooLong, endOf, lastEnd, soFar, endedState, openState, completeTold, completeTable, pieceFed, feedOf, restTold, restFed, closeOf}
 use Rattle.feed.specs.Calls.{feedNumber, endedMeans, stateMeans, told, feedMeans, ReadsComplete, ReadsRest, Leaves, Closes}
 use Rattle.feed.specs.declared.cable.Ended.{Ended}
 use Rattle.feed.specs.declared.cable.Ended.the-variants as ended
@@ -40,38 +39,6 @@ use Rattle.feed.specs.declared.cable.FeedState.{FeedState}
 use Rattle.feed.specs.declared.cable.FeedOutcome.{FeedOutcome}
 use Rattle.feed.specs.declared.cable.FeedOutcome.the-variants as outcome
 use Rattle.feed.specs.declared.cable.FeedAnswer.{FeedAnswer}
-
--- The entries: those before number n are well formed
-
-pub record Forming (form : Form) (h t : List ℕ) (count n : ℕ) : Type 0 where
-  pub inside : n ≤ count
-  pub still : allFormed form h t 0 count ≡ allFormed form h t n (count - n)
-
-pub forming-start : (form : Form) (h t : List ℕ) (count : ℕ) → Forming form h t count 0
-forming-start form h t count = record { inside = omega arith; still = let z : count - 0 ≡ count = omega arith in rw z }
-
-module _ {form : Form} {h t : List ℕ} {count n : ℕ} (g : Forming form h t count n) where
-  pub forming-end : count ≤ n → true ≡ allFormed form h t 0 count
-  unfolding allFormed
-  forming-end l = let z : count - n ≡ 0 = omega arith in sym (g .still ∙ rw z)
-
-  module _ (l : n < count) where
-    turn : allFormed form h t 0 count ≡ (isFound (entryAt form h t n) && allFormed form h t (n + 1) (count - (n + 1)))
-    unfolding allFormed
-    turn = let z : count - n ≡ suc (count - (n + 1)) = omega arith in g .still ∙ rw z
-
-    module _ {q : Bool} (e : q ≡ (wordsClear form t n && wellFormed (length h) (entryIn form t n))) where
-      found-by : isFound (entryAt form h t n) ≡ q
-      unfolding entryAt
-      found-by = elim (test q) [ pass f ↦ rw (entryAt, ← e, f) | fail f ↦ rw (entryAt, ← e, f) ]
-
-      pub forming-fails : not q ≡ true → false ≡ allFormed form h t 0 count
-      forming-fails f = sym (turn ∙ rw (found-by, not-true q f))
-
-      pub forming-next : not q ≡ false → Forming form h t count (n + 1)
-      forming-next f = record { inside = omega arith; still = turn ∙ rw (found-by, not-false q f) }
-
-pub ruleset formings = (forming-start, forming-end, forming-fails, forming-next)
 
 -- The state
 

@@ -1,5 +1,5 @@
 -- Document 02, §8: a header that fits is read the same however it is cut. Assumes nothing.
-use Prim.Native.Nat.{ℕ, zero, suc, _+_, _-_, _≤_, _<_}
+use Prim.Native.Nat.{ℕ, zero, suc, _+_, _≤_, _<_}
 use native.Mathlib.Omega.{arith}
 use mathlib.Core.Path.{_≡_, refl, sym, ap, ap₂, subst, _∙_}
 use mathlib.Core.Bool.{true}
@@ -19,14 +19,14 @@ use Rattle.rules.specs.Claims.{All, nth, joined}
 use Rattle.rules.proofs.Stands.{Stands}
 use Rattle.entries.specs.declared.form.Form.{Form}
 use Rattle.entries.specs.Values.{limitsBy}
-use Rattle.entries.specs.Tables.{room, stored, firstEntries, entriesIn, entryAt}
+use Rattle.entries.specs.Tables.{room, stored, firstEntries, entriesIn, entryAt, allFormed}
 use Rattle.entries.proofs.Stored.{stored-room, stored-more, stored-none, entry-stored, entries-stored, storable}
 use Rattle.entries.proofs.Calls.{formed}
 use Rattle.header.specs.Steps.{Went, startPoint, goOn, Spot, fits, pointOf, spotOf, wentOn, toldBy, readOn, tableOn}
 use Rattle.header.specs.Parsers.{AnswerMeaning, readingMeans, readInto, refusedAt, closedAt}
 use Rattle.header.proofs.Steps.{Fit, fitting, go-none, Inside, Further, goes-inside}
 use Rattle.header.proofs.Whole.{whole}
-use Rattle.feed.specs.Feeding.{Feeding, Fed, startOf, allFormed, isSound, unmoved, hasRoom, endOf, lastEnd, stateBy, answerBy, completeTold, completeTable, pieceFed, feedOf, closeOf, feedAll}
+use Rattle.feed.specs.Feeding.{Feeding, Fed, startOf, isSound, unmoved, hasRoom, endOf, lastEnd, stateBy, answerBy, completeTold, completeTable, pieceFed, feedOf, closeOf, feedAll}
 use Rattle.feed.specs.Calls.{stateMeans, Answered, feedMeans, Sent, closed, fed}
 use Rattle.feed.specs.declared.cable.FeedState.{FeedState}
 use Rattle.feed.specs.declared.cable.FeedAnswer.{FeedAnswer}

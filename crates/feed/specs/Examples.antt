@@ -1,5 +1,5 @@
 -- Document 02, §8: headers in pieces, computed by the checker. Assumes nothing.
-use Prim.Native.Nat.{ℕ, _-_}
+use Prim.Native.Nat.{ℕ}
 use mathlib.Core.Path.{_≡_, refl}
 use mathlib.Core.List.{List, [], _∷_, _++_}
 use mathlib.Core.Option.{none}
@@ -9,10 +9,10 @@ use Rattle.rules.specs.Examples.{opened, cell}
 use Rattle.rules.specs.Shown.{saysNoId, countsInPlace, wellFormed, lineIn, idIn}
 use Rattle.entries.specs.declared.form.Form.the-variants.{First}
 use Rattle.entries.specs.Words.{wordOne, wordTwo, wordThree, unpacked, isClear}
-use Rattle.entries.specs.Tables.{room, words, stored, firstEntries, wordsAt, entryIn, entriesFrom, entriesIn, wordsClear, entryAt}
+use Rattle.entries.specs.Tables.{room, words, stored, firstEntries, wordsAt, entryIn, entriesFrom, entriesIn, wordsClear, entryAt, allFormed}
 use Rattle.ids.specs.Clashes.{hasKey, keySeen, isOfKey, isOfId, idSeen, clashBy}
 use Rattle.header.specs.Steps.{stepOn, goOn, fits, readOn, tableOn}
-use Rattle.feed.specs.Feeding.{Fed, startOf, allFormed, isSound, hasRoom, endOf, pieceFed, feedOf, closeOf, feedAll}
+use Rattle.feed.specs.Feeding.{Fed, startOf, isSound, hasRoom, endOf, pieceFed, feedOf, closeOf, feedAll}
 
 -- the 83 bytes' entries in a table of eight words
 abbrev pub kept : List ℕ

@@ -1,5 +1,5 @@
 -- Document 02, §8: a header that comes in pieces. Each line is read when its LF is there, the last one when the sender closes. Assumes nothing.
-use Prim.Native.Nat.{ℕ, zero, suc, _+_}
+use Prim.Native.Nat.{ℕ, suc, _+_}
 use mathlib.Core.Bool.{Bool, true, false, _&&_}
 use mathlib.Core.List.{List, [], _∷_}
 use mathlib.Core.Option.{Option, none, some}
@@ -8,10 +8,9 @@ use lib.ListN.{length, take, drop}
 use lib.Seq.{sets}
 use Rattle.values.specs.Bytes.{Bytes, LF, is, any}
 use Rattle.rules.specs.Version.{Version}
-use Rattle.rules.specs.Entry.{Entry}
 use Rattle.entries.specs.declared.form.Form.{Form}
 use Rattle.entries.specs.Values.{limitsBy}
-use Rattle.entries.specs.Tables.{entryAt}
+use Rattle.entries.specs.Tables.{allFormed}
 use Rattle.header.specs.Steps.{Spot, Told, startSpot, fits, readOn, tableOn}
 use Rattle.header.specs.Parsers.{AnswerMeaning, refusedAt, closedAt}
 
@@ -33,15 +32,6 @@ pub record Fed : Type 0 where
   pub table : List ℕ
 
 -- 29
-
-abbrev pub isFound : Option Entry → Bool
-isFound none = false
-isFound (some e) = true
-
--- so many entries from number n on are well formed
-unfoldable pub allFormed : Form → Bytes → List ℕ → ℕ → ℕ → Bool
-allFormed form h t n zero = true
-allFormed form h t n (suc k) = isFound (entryAt form h t n) && allFormed form h t (n + 1) k
 
 -- the bytes held are in the buffer, the counts fit, and each entry is well formed in the bytes held
 unfoldable pub isSound : Form → Feeding → Bytes → List ℕ → Bool

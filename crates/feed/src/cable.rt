@@ -1,6 +1,6 @@
 // A header over the cable: pieces go into a lent buffer, and each line is read when its LF is there, the last one when the sender closes.
 use entries::form::Form;
-use entries::shown;
+use entries::formed;
 use header::file_format_option::FileFormatOption;
 use header::parser;
 use header::parser::Advance;
@@ -18,7 +18,7 @@ ghost use lib.Seq.{sets};
 ghost use Rattle.records.specs.Refusals.{number};
 ghost use Rattle.header.specs.Verdicts.{imposedOf};
 ghost use Rattle.header.specs.Parsers.{answerMeans, spotIn, refusedAt};
-ghost use Rattle.feed.specs.Feeding.{startOf, allFormed, isSound, broken, hasRoom, lastEnd, soFar, endedState, pieceFed, feedOf, closeOf};
+ghost use Rattle.feed.specs.Feeding.{startOf, isSound, broken, hasRoom, lastEnd, soFar, endedState, pieceFed, feedOf, closeOf};
 ghost use Rattle.feed.specs.Calls.{feedNumber, stateMeans, told, feedMeans, ReadsComplete, ReadsRest, Leaves, Closes};
 
 pub enum Ended {
@@ -76,20 +76,6 @@ pub fn start(imposed: FileFormatOption) -> FeedState
     }
 }
 
-// Whether the table's first entries are all well formed in the header.
-fn all_formed(h: &[u8], table: &[u64], form: Form, count: usize) -> bool
-    ensures { λ r. ⌜ r ≡ allFormed form (now (h .entry)) (now (table .entry)) 0 count ⌝ }
-{
-    let mut n: usize = 0;
-    while n < count {
-        if !shown::is_entry(h.len(), table, form, n) {
-            return false;
-        }
-        n += 1;
-    }
-    true
-}
-
 // Whether a call can go by the state.
 pub fn is_sound(state: FeedState, form: Form, buffer: &[u8], table: &[u64]) -> bool
     ensures { λ r. ⌜ r ≡ isSound form (stateMeans state) (now (buffer .entry)) (now (table .entry)) ⌝ }
@@ -102,7 +88,7 @@ pub fn is_sound(state: FeedState, form: Form, buffer: &[u8], table: &[u64]) -> b
     if !parser.fits(form, held, table) {
         return false;
     }
-    all_formed(&buffer[..held], table, form, parser.count)
+    formed::all_formed(&buffer[..held], table, form, parser.count)
 }
 
 // Whether so many more bytes are within the size.

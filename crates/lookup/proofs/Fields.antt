@@ -113,13 +113,6 @@ module _ (w : Bytes) {k : ℕ} (a : k ≡ 0 + length (before (is 61) (drop 0 w))
         let t = ap length b ∙ length-take (length w - (k + 1)) (drop (k + 1) w) in
         omega arith
 
-    -- the key ends before the value
-    key-apart : length v ≤ length w - k
-    key-apart =
-        let d = length-drop (k + 1) w in
-        let t = ap length b ∙ length-take (length w - (k + 1)) (drop (k + 1) w) in
-        omega arith
-
     module _ (e : begins 34 v ≡ false) where
       bare-cut : record { «key_length» = k; start = length w - length v; length = length v; quoted = false } ≡ cutOf w
       bare-cut = rw (key-is, value-is) (sym (bare-is w (ap (begins 34) (sym value-is) ∙ e)))

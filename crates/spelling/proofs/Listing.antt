@@ -221,9 +221,6 @@ module _ {form : Form} {h : Bytes} {t : List ℕ} {v : Version} {list₀ list : 
 
 pub ruleset walking = (walk-start, walk-end, walk-less, walk-refused, walk-plain, walk-odd)
 
-pub counted-so : {o : Option (List ℕ)} {list list′ : List ℕ} {r : Counted} → Walks o list r list′ → Counts o r
-counted-so w = record { is = w .counts }
-
 -- The call
 
 module _ (list : List ℕ) {o : Option (List ℕ)} {ns : List ℕ} (e : o ≡ some ns) where

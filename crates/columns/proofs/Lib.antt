@@ -1,4 +1,5 @@
 pub mod Splits
+pub mod Classes
 pub mod Names
 pub mod Prefixes
 pub mod Lines

@@ -1,5 +1,6 @@
 use lib.ListN.{length}
 use borrow.Author.Needs.{needs}
+use Rattle.columns.proofs.Classes.{count-one}
 use Prim.Native.Nat.{ℕ, _-_, _<_}
 use borrow.Fn.Kinds.{In}
 use borrow.Fn.PlainCycle.{Measures, is, falls, and}
@@ -61,7 +62,7 @@ count-marked-returns : (t : ℕ) → count-marked-lts.Need-returns (
   count-longer-reads.Asked,
   count-longer-reads.Learnt,
 ) (count-marked-at t) count-marked.Post
-count-marked-returns t c = search needs
+count-marked-returns t c = search (count-one, needs)
 
 count-marked-slice-aggregate-count-marked :
     (t : ℕ) → count-marked-lts.Need-slice-aggregate-count-marked (

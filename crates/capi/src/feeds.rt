@@ -15,7 +15,6 @@ use records::file_format::FileFormat;
 use records::refusal::Refusal;
 ghost use mathlib.Core.Path.{_≡_};
 ghost use Rattle.header.specs.Verdicts.{imposedOf, stageOf};
-ghost use Rattle.header.specs.Parsers.{outcomeNumber};
 ghost use Rattle.feed.specs.Feeding.{startOf};
 ghost use Rattle.feed.specs.Calls.{endedMeans, stateMeans, feedMeans};
 ghost use Rattle.capi.specs.Answers.{imposedBy, formBy};

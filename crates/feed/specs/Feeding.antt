@@ -1,19 +1,19 @@
 -- Document 02, §8: a header that comes in pieces. Each line is read when its LF is there, the last one when the sender closes. Assumes nothing.
-use Prim.Native.Nat.{ℕ, zero, suc, _+_}
+use Prim.Native.Nat.{ℕ, _+_}
 use mathlib.Core.Bool.{Bool, true, false, _&&_}
 use mathlib.Core.List.{List, [], _∷_}
 use mathlib.Core.Option.{Option, none, some}
 use lib.Dec.{leb}
-use lib.ListN.{length, take, drop}
+use lib.ListN.{length, take}
 use lib.Seq.{sets}
-use Rattle.values.specs.Bytes.{Bytes, LF, is, any}
+use Rattle.values.specs.Bytes.{Bytes}
 use Rattle.rules.specs.Version.{Version}
-use Rattle.rules.specs.Entry.{Entry}
 use Rattle.entries.specs.declared.form.Form.{Form}
 use Rattle.entries.specs.Values.{limitsBy}
-use Rattle.entries.specs.Tables.{entryAt}
+use Rattle.lines.specs.Lines.{lastEnd}
 use Rattle.header.specs.Steps.{Spot, Told, startSpot, fits, readOn, tableOn}
 use Rattle.header.specs.Parsers.{AnswerMeaning, refusedAt, closedAt}
+use Rattle.header.specs.Parts.{allFormed}
 
 -- between two calls: the version imposed, how far the lines are read, the bytes held, and the final answer once there is one
 pub record Feeding : Type 0 where
@@ -33,15 +33,6 @@ pub record Fed : Type 0 where
   pub table : List ℕ
 
 -- 29
-
-abbrev pub isFound : Option Entry → Bool
-isFound none = false
-isFound (some e) = true
-
--- so many entries from number n on are well formed
-unfoldable pub allFormed : Form → Bytes → List ℕ → ℕ → ℕ → Bool
-allFormed form h t n zero = true
-allFormed form h t n (suc k) = isFound (entryAt form h t n) && allFormed form h t (n + 1) k
 
 -- the bytes held are in the buffer, the counts fit, and each entry is well formed in the bytes held
 unfoldable pub isSound : Form → Feeding → Bytes → List ℕ → Bool
@@ -69,15 +60,6 @@ hasRoom form held piece b = leb (held + length piece) (length b) && leb (held + 
 -- 27: line and start are 0
 abbrev pub tooLong : Spot → AnswerMeaning
 tooLong p = record { number = 27; line = 0; start = 0; entries = p .count; accepted = none }
-
--- up to and with the last LF
-unfoldable pub endOf : Bytes → ℕ
-endOf [] = 0
-endOf (b ∷ bs) = elim (any (is LF) (b ∷ bs)) [ true ↦ suc (endOf bs) | false ↦ 0 ]
-
--- the place after the last LF from a place on; that place, where there is none
-abbrev pub lastEnd : Bytes → ℕ → ℕ
-lastEnd h at = at + endOf (drop at h)
 
 -- lines, bytes and entries so far
 abbrev pub soFar : ℕ → Spot → AnswerMeaning

@@ -1,15 +1,14 @@
 // A header over the cable: pieces go into a lent buffer, and each line is read when its LF is there, the last one when the sender closes.
 use entries::form::Form;
-use entries::shown;
 use header::file_format_option::FileFormatOption;
 use header::parser;
 use header::parser::Advance;
 use header::parser::Outcome;
 use header::parser::Parser;
 use header::parser::ReadAnswer;
+use lines::line;
 use records::file_format::FileFormat;
 use records::refusal::Refusal;
-use values::bytes;
 ghost use mathlib.Core.Path.{_≡_};
 ghost use Prim.Native.Nat.{_+_, _^_, _≤_, _<_};
 ghost use lib.Dec.{leb};
@@ -18,7 +17,7 @@ ghost use lib.Seq.{sets};
 ghost use Rattle.records.specs.Refusals.{number};
 ghost use Rattle.header.specs.Verdicts.{imposedOf};
 ghost use Rattle.header.specs.Parsers.{answerMeans, spotIn, refusedAt};
-ghost use Rattle.feed.specs.Feeding.{startOf, allFormed, isSound, broken, hasRoom, lastEnd, soFar, endedState, pieceFed, feedOf, closeOf};
+ghost use Rattle.feed.specs.Feeding.{startOf, isSound, broken, hasRoom, soFar, endedState, pieceFed, feedOf, closeOf};
 ghost use Rattle.feed.specs.Calls.{feedNumber, stateMeans, told, feedMeans, ReadsComplete, ReadsRest, Leaves, Closes};
 
 pub enum Ended {
@@ -76,20 +75,6 @@ pub fn start(imposed: FileFormatOption) -> FeedState
     }
 }
 
-// Whether the table's first entries are all well formed in the header.
-fn all_formed(h: &[u8], table: &[u64], form: Form, count: usize) -> bool
-    ensures { λ r. ⌜ r ≡ allFormed form (now (h .entry)) (now (table .entry)) 0 count ⌝ }
-{
-    let mut n: usize = 0;
-    while n < count {
-        if !shown::is_entry(h.len(), table, form, n) {
-            return false;
-        }
-        n += 1;
-    }
-    true
-}
-
 // Whether a call can go by the state.
 pub fn is_sound(state: FeedState, form: Form, buffer: &[u8], table: &[u64]) -> bool
     ensures { λ r. ⌜ r ≡ isSound form (stateMeans state) (now (buffer .entry)) (now (table .entry)) ⌝ }
@@ -102,7 +87,7 @@ pub fn is_sound(state: FeedState, form: Form, buffer: &[u8], table: &[u64]) -> b
     if !parser.fits(form, held, table) {
         return false;
     }
-    all_formed(&buffer[..held], table, form, parser.count)
+    parser::all_formed(&buffer[..held], table, form, parser.count)
 }
 
 // Whether so many more bytes are within the size.
@@ -123,28 +108,6 @@ fn has_room(form: Form, held: usize, piece: &[u8], buffer: &[u8]) -> bool
         return false;
     }
     fits_more(limits.header, held, piece.len())
-}
-
-// The place after the last LF from `at` on; where there is none, `at`.
-fn last_end(h: &[u8], at: usize) -> usize
-    ensures { λ r. ⌜ r ≡ lastEnd (now (h .entry)) at ⌝ }
-{
-    if h.len() <= at {
-        return at;
-    }
-    // A line may be long, so whether it is complete is looked at for many bytes at once.
-    if !bytes::has(&h[at..], b'\n') {
-        return at;
-    }
-    let mut end = h.len();
-    while at < end {
-        let last = end - 1;
-        if h[last] == b'\n' {
-            return end;
-        }
-        end = last;
-    }
-    at
 }
 
 fn refuse_broken(state: FeedState) -> FeedAnswer
@@ -230,7 +193,7 @@ fn read_complete(state: FeedState, form: Form, h: &[u8], table: &mut [u64]) -> F
     let imposed = state.imposed;
     let parser = state.parser;
     let held = state.held;
-    let end = last_end(h, parser.at);
+    let end = line::last_end(h, parser.at);
     match parser::read_on(h, end, parser, imposed, form, table) {
         Advance::Ended(p) => so_far(FeedState {
             imposed,

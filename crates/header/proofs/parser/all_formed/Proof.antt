@@ -1,6 +1,6 @@
-use Rattle.feed.proofs.cable.all_formed.Statement.{statement}
-use Rattle.feed.proofs.cable.all_formed.Tie as tie
-use Rattle.feed.proofs.Calls.{Forming, formings}
+use Rattle.header.proofs.parser.all_formed.Statement.{statement}
+use Rattle.header.proofs.parser.all_formed.Tie as tie
+use Rattle.header.proofs.Parts.{Forming, formings}
 use Prim.Native.Nat.{_-_}
 use borrow.Author.Needs.{needs}
 

@@ -1,25 +1,25 @@
 -- The calls: the ways of the code's tests and answers, on plain values. Assumes nothing.
-use Prim.Native.Nat.{ℕ, zero, suc, _+_, _-_, _≤_, _<_}
+use Prim.Native.Nat.{ℕ, suc, _+_, _-_, _≤_, _<_}
 use native.Mathlib.Omega.{arith}
 use mathlib.Core.Path.{_≡_, refl, sym, ap, subst, _∙_}
 use mathlib.Core.Bool.{Bool, true, false, not, _&&_}
 use mathlib.Core.List.{List, [], _∷_, _++_}
 use mathlib.Core.Option.{Option, none, some}
 use lib.Dec.{leb}
-use lib.ListN.{length, getD, set, take, drop, length-take, length-drop, take-append-drop}
-use lib.Seq.{sets, length-sets, take-all, take-suc, drop-drop}
-use borrow.Author.Tests.{le-leb, lt-leb, leb-true, leb-false, ne-eqb}
-use Rattle.values.specs.Bytes.{Bytes, LF, is, any}
-use Rattle.values.proofs.Tests.{pass, fail, test, not-true, not-false, and-l, and-r, or-r, or-on}
-use Rattle.values.proofs.Lists.{here, drop-past}
+use lib.ListN.{length, getD, set, take, length-take}
+use lib.Seq.{sets, length-sets, take-all, take-suc}
+use borrow.Author.Tests.{le-leb, lt-leb, leb-true, leb-false}
+use Rattle.values.specs.Bytes.{Bytes}
+use Rattle.values.proofs.Tests.{pass, fail, test, not-true, not-false, and-l, and-r}
 use Rattle.rules.specs.Sizes.{Limits}
 use Rattle.records.specs.Refusals.{number}
 use Rattle.records.specs.declared.file_format.FileFormat.{FileFormat}
 use Rattle.records.specs.declared.refusal.Refusal.{Refusal}
 use Rattle.entries.specs.declared.form.Form.{Form}
 use Rattle.entries.specs.declared.limits.Limits.{Limits as CodeLimits}
-use Rattle.entries.specs.Values.{limitsOf, limitsBy}
 use Rattle.entries.specs.Tables.{allFormed}
+use Rattle.entries.specs.Values.{limitsOf, limitsBy}
+use Rattle.lines.specs.Lines.{lastEnd}
 use Rattle.header.specs.Steps.{startSpot, fits, readOn, tableOn}
 use Rattle.header.specs.Verdicts.{imposedOf}
 use Rattle.header.specs.Parsers.{AnswerMeaning, answerMeans, spotIn, advanceMeans, endedAt, refusedAt, ReadsOn}
@@ -31,7 +31,8 @@ use Rattle.header.specs.declared.parser.Advance.{Advance}
 use Rattle.header.specs.declared.parser.Advance.the-variants as advance
 use Rattle.header.proofs.Steps.{Fit, fit}
 use Rattle.header.proofs.Parsers.{table-length, on-lines, on-length}
-use Rattle.feed.specs.Feeding.{Feeding, Fed, startOf, isSound, unmoved, broken, unlessOver, hasRoom, tooLong, endOf, lastEnd, soFar, endedState, openState, completeTold, completeTable, pieceFed, feedOf, restTold, restFed, closeOf}
+use Rattle.header.proofs.Parts.{part-count}
+use Rattle.feed.specs.Feeding.{Feeding, Fed, startOf, isSound, unmoved, broken, unlessOver, hasRoom, tooLong, soFar, endedState, openState, completeTold, completeTable, pieceFed, feedOf, restTold, restFed, closeOf}
 use Rattle.feed.specs.Calls.{feedNumber, endedMeans, stateMeans, told, feedMeans, ReadsComplete, ReadsRest, Leaves, Closes}
 use Rattle.feed.specs.declared.cable.Ended.{Ended}
 use Rattle.feed.specs.declared.cable.Ended.the-variants as ended
@@ -55,10 +56,6 @@ module _ (form : Form) (s : Feeding) (b t : List ℕ) where
     pub sound-formed : not q ≡ false → {r : Bool} → r ≡ allFormed form (take (s .held) b) t 0 (s .spot .count) → r ≡ isSound form s b t
     unfolding isSound
     sound-formed n f = f ∙ rw (le-leb (s .held) (length b) l, ← e, not-false q n)
-
--- a part of the buffer
-pub part-count : (b : Bytes) (n : ℕ) → n ≤ length b → length (take n b) ≡ n
-part-count b n l = simp length-take (omega arith)
 
 pub ruleset sounds = (sound-short, sound-unfit, sound-formed, part-count)
 
@@ -103,75 +100,6 @@ module _ (form : Form) (held : ℕ) (piece b : Bytes) {given : CodeLimits} (g : 
   some-room n f = f ∙ rw (← e, not-false q n, ap (λ (x : Limits). x .header) g)
 
 pub ruleset has-rooms = (no-room, some-room)
-
--- The last LF
-
-end-none : (x : Bytes) → any (is LF) x ≡ false → endOf x ≡ 0
-unfolding endOf
-end-none [] e = refl
-end-none (b ∷ x) e = rw (endOf, e)
-
-pub any-hit : (t : ℕ → Bool) (x : Bytes) (c : ℕ) (y : Bytes) → t c ≡ true → any t (x ++ c ∷ y) ≡ true
-unfolding any
-any-hit t [] c y e = rw e
-any-hit t (b ∷ x) c y e = rw (any-hit t x c y e) (or-on (t b) refl)
-
-pub end-hit : (x y : Bytes) → any (is LF) y ≡ false → endOf (x ++ LF ∷ y) ≡ length x + 1
-unfolding endOf
-end-hit [] y e = rw (endOf, any-hit (is LF) [] LF y refl, end-none y e)
-end-hit (b ∷ x) y e = let z : suc (length x) + 1 ≡ suc (length x + 1) = omega arith in rw (endOf, any-hit (is LF) (b ∷ x) LF y refl, end-hit x y e, z)
-
-any-later : (n : ℕ) (x : Bytes) → any (is LF) x ≡ false → any (is LF) (drop n x) ≡ false
-unfolding any
-any-later zero x e = e
-any-later (suc n) [] e = e
-any-later (suc n) (b ∷ x) e = any-later n x (or-r (is LF b) (any (is LF) x) e)
-
-module _ (h : Bytes) (at : ℕ) where
-  none-left : any (is LF) (drop at h) ≡ false → at ≡ lastEnd h at
-  none-left e = omega (arith, end-none (drop at h) e)
-
-  pub end-past : length h ≤ at → at ≡ lastEnd h at
-  unfolding any
-  end-past l = none-left (rw (drop-past h at l))
-
-  pub end-unmet : at < length h → {q : Bool} → q ≡ any (is LF) (take (length h - at) (drop at h)) → not q ≡ true → at ≡ lastEnd h at
-  end-unmet l {q} e n = none-left (rw (← take-all (length h - at) (drop at h) (rw (length-drop at h) (omega arith))) (sym e ∙ not-true q n))
-
--- no LF stands from the place `end` on
-pub record Seeking (h : Bytes) (end : ℕ) : Type 0 where
-  pub inside : end ≤ length h
-  pub clean : any (is LF) (drop end h) ≡ false
-
-pub seek-start : (h : Bytes) → Seeking h (length h)
-unfolding any
-seek-start h = record { inside = omega arith; clean = rw (drop-past h (length h) (omega arith)) }
-
-module _ {h : Bytes} {end : ℕ} (g : Seeking h end) (at : ℕ) where
-  pub seek-end : end ≤ at → at ≡ lastEnd h at
-  seek-end l =
-      let d : drop (at - end) (drop end h) ≡ drop at h = drop-drop (at - end) end h ∙ (let z : end + (at - end) ≡ at = omega arith in rw z) in
-      none-left h at (subst (λ (x : Bytes). any (is LF) x ≡ false) d (any-later (at - end) (drop end h) (g .clean)))
-
-  pub seek-hit : at < end → getD h (end - 1) 0 ≡ LF → end ≡ lastEnd h at
-  seek-hit l e =
-      let n = end - 1 - at in
-      let x = take n (drop at h) in
-      let i : at + n ≡ end - 1 = omega arith in
-      let j : end - 1 + 1 ≡ end = omega arith in
-      let rest : drop n (drop at h) ≡ LF ∷ drop end h = drop-drop n at h ∙ rw (i, here h (end - 1) (omega (arith, g .inside)), e, j) in
-      let whole : drop at h ≡ x ++ LF ∷ drop end h = sym (take-append-drop n (drop at h)) ∙ ap (x ++_) rest in
-      let long : length x ≡ n = length-take n (drop at h) ∙ (let d = length-drop at h in omega (arith, d, g .inside)) in
-      let z : endOf (drop at h) ≡ length x + 1 = ap endOf whole ∙ end-hit x (drop end h) (g .clean) in
-      omega (arith, z, long)
-
-pub seek-next : {h : Bytes} {end : ℕ} → Seeking h end → {at : ℕ} → at < end → (getD h (end - 1) 0 ≡ LF → ⊥) → Seeking h (end - 1)
-unfolding any
-seek-next {h} {end} g l ne =
-    let j : end - 1 + 1 ≡ end = omega arith in
-    record { inside = omega (arith, g .inside); clean = rw (here h (end - 1) (omega (arith, g .inside)), ne-eqb (getD h (end - 1) 0) LF ne, j) (g .clean) }
-
-pub ruleset seeks = (end-past, end-unmet, seek-start, seek-end, seek-hit, seek-next)
 
 -- Answers
 

@@ -22,16 +22,18 @@ use Rattle.entries.specs.Values.{limitsBy}
 use Rattle.entries.specs.Tables.{room, stored, firstEntries, entriesIn, entryAt, allFormed}
 use Rattle.entries.proofs.Stored.{stored-room, stored-more, stored-none, entry-stored, entries-stored, storable}
 use Rattle.entries.proofs.Calls.{formed}
+use Rattle.lines.specs.Lines.{endOf, lastEnd}
+use Rattle.lines.proofs.Ends.{end-length, end-drop, end-more}
 use Rattle.header.specs.Steps.{Went, startPoint, goOn, Spot, fits, pointOf, spotOf, wentOn, toldBy, readOn, tableOn}
 use Rattle.header.specs.Parsers.{AnswerMeaning, readingMeans, readInto, refusedAt, closedAt}
 use Rattle.header.proofs.Steps.{Fit, fitting, go-none, Inside, Further, goes-inside}
+use Rattle.header.proofs.Extends.{extends, ends-by, onTo, goes-on}
 use Rattle.header.proofs.Whole.{whole}
-use Rattle.feed.specs.Feeding.{Feeding, Fed, startOf, isSound, unmoved, hasRoom, endOf, lastEnd, stateBy, answerBy, completeTold, completeTable, pieceFed, feedOf, closeOf, feedAll}
+use Rattle.feed.specs.Feeding.{Feeding, Fed, startOf, isSound, unmoved, hasRoom, stateBy, answerBy, completeTold, completeTable, pieceFed, feedOf, closeOf, feedAll}
 use Rattle.feed.specs.Calls.{stateMeans, Answered, feedMeans, Sent, closed, fed}
 use Rattle.feed.specs.declared.cable.FeedState.{FeedState}
 use Rattle.feed.specs.declared.cable.FeedAnswer.{FeedAnswer}
 use Rattle.feed.proofs.Calls.{feed-when-over, feed-when-open, close-when-over, close-when-open}
-use Rattle.feed.proofs.Extends.{end-length, end-drop, end-more, extends, ends-by, onTo, goes-on}
 
 data Stop (o : Option ℕ) : Type 0 where
   unstopped : o ≡ none → Stop o

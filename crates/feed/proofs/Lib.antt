@@ -1,4 +1,3 @@
 pub mod Calls
 pub mod Answers
-pub mod Extends
 pub mod Cut

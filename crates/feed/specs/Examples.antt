@@ -12,7 +12,8 @@ use Rattle.entries.specs.Words.{wordOne, wordTwo, wordThree, unpacked, isClear}
 use Rattle.entries.specs.Tables.{room, words, stored, firstEntries, wordsAt, entryIn, entriesFrom, entriesIn, wordsClear, entryAt, allFormed}
 use Rattle.ids.specs.Clashes.{hasKey, keySeen, isOfKey, isOfId, idSeen, clashBy}
 use Rattle.header.specs.Steps.{stepOn, goOn, fits, readOn, tableOn}
-use Rattle.feed.specs.Feeding.{Fed, startOf, isSound, hasRoom, endOf, pieceFed, feedOf, closeOf, feedAll}
+use Rattle.lines.specs.Lines.{endOf}
+use Rattle.feed.specs.Feeding.{Fed, startOf, isSound, hasRoom, pieceFed, feedOf, closeOf, feedAll}
 
 -- the 83 bytes' entries in a table of eight words
 abbrev pub kept : List ℕ

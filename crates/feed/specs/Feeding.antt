@@ -1,16 +1,17 @@
 -- Document 02, §8: a header that comes in pieces. Each line is read when its LF is there, the last one when the sender closes. Assumes nothing.
-use Prim.Native.Nat.{ℕ, suc, _+_}
+use Prim.Native.Nat.{ℕ, _+_}
 use mathlib.Core.Bool.{Bool, true, false, _&&_}
 use mathlib.Core.List.{List, [], _∷_}
 use mathlib.Core.Option.{Option, none, some}
 use lib.Dec.{leb}
-use lib.ListN.{length, take, drop}
+use lib.ListN.{length, take}
 use lib.Seq.{sets}
-use Rattle.values.specs.Bytes.{Bytes, LF, is, any}
+use Rattle.values.specs.Bytes.{Bytes}
 use Rattle.rules.specs.Version.{Version}
 use Rattle.entries.specs.declared.form.Form.{Form}
-use Rattle.entries.specs.Values.{limitsBy}
 use Rattle.entries.specs.Tables.{allFormed}
+use Rattle.entries.specs.Values.{limitsBy}
+use Rattle.lines.specs.Lines.{lastEnd}
 use Rattle.header.specs.Steps.{Spot, Told, startSpot, fits, readOn, tableOn}
 use Rattle.header.specs.Parsers.{AnswerMeaning, refusedAt, closedAt}
 
@@ -59,15 +60,6 @@ hasRoom form held piece b = leb (held + length piece) (length b) && leb (held + 
 -- 27: line and start are 0
 abbrev pub tooLong : Spot → AnswerMeaning
 tooLong p = record { number = 27; line = 0; start = 0; entries = p .count; accepted = none }
-
--- up to and with the last LF
-unfoldable pub endOf : Bytes → ℕ
-endOf [] = 0
-endOf (b ∷ bs) = elim (any (is LF) (b ∷ bs)) [ true ↦ suc (endOf bs) | false ↦ 0 ]
-
--- the place after the last LF from a place on; that place, where there is none
-abbrev pub lastEnd : Bytes → ℕ → ℕ
-lastEnd h at = at + endOf (drop at h)
 
 -- lines, bytes and entries so far
 abbrev pub soFar : ℕ → Spot → AnswerMeaning

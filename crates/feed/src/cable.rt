@@ -7,9 +7,9 @@ use header::parser::Advance;
 use header::parser::Outcome;
 use header::parser::Parser;
 use header::parser::ReadAnswer;
+use lines::line;
 use records::file_format::FileFormat;
 use records::refusal::Refusal;
-use values::bytes;
 ghost use mathlib.Core.Path.{_≡_};
 ghost use Prim.Native.Nat.{_+_, _^_, _≤_, _<_};
 ghost use lib.Dec.{leb};
@@ -18,7 +18,7 @@ ghost use lib.Seq.{sets};
 ghost use Rattle.records.specs.Refusals.{number};
 ghost use Rattle.header.specs.Verdicts.{imposedOf};
 ghost use Rattle.header.specs.Parsers.{answerMeans, spotIn, refusedAt};
-ghost use Rattle.feed.specs.Feeding.{startOf, isSound, broken, hasRoom, lastEnd, soFar, endedState, pieceFed, feedOf, closeOf};
+ghost use Rattle.feed.specs.Feeding.{startOf, isSound, broken, hasRoom, soFar, endedState, pieceFed, feedOf, closeOf};
 ghost use Rattle.feed.specs.Calls.{feedNumber, stateMeans, told, feedMeans, ReadsComplete, ReadsRest, Leaves, Closes};
 
 pub enum Ended {
@@ -111,28 +111,6 @@ fn has_room(form: Form, held: usize, piece: &[u8], buffer: &[u8]) -> bool
     fits_more(limits.header, held, piece.len())
 }
 
-// The place after the last LF from `at` on; where there is none, `at`.
-fn last_end(h: &[u8], at: usize) -> usize
-    ensures { λ r. ⌜ r ≡ lastEnd (now (h .entry)) at ⌝ }
-{
-    if h.len() <= at {
-        return at;
-    }
-    // A line may be long, so whether it is complete is looked at for many bytes at once.
-    if !bytes::has(&h[at..], b'\n') {
-        return at;
-    }
-    let mut end = h.len();
-    while at < end {
-        let last = end - 1;
-        if h[last] == b'\n' {
-            return end;
-        }
-        end = last;
-    }
-    at
-}
-
 fn refuse_broken(state: FeedState) -> FeedAnswer
     ensures { λ r. ⌜ feedMeans r ≡ told (stateMeans state) broken ⌝ }
 {
@@ -216,7 +194,7 @@ fn read_complete(state: FeedState, form: Form, h: &[u8], table: &mut [u64]) -> F
     let imposed = state.imposed;
     let parser = state.parser;
     let held = state.held;
-    let end = last_end(h, parser.at);
+    let end = line::last_end(h, parser.at);
     match parser::read_on(h, end, parser, imposed, form, table) {
         Advance::Ended(p) => so_far(FeedState {
             imposed,

@@ -2,6 +2,8 @@ pub mod Steps
 pub mod Whole
 pub mod Verdicts
 pub mod Parsers
+pub mod Extends
+pub mod Parts
 pub mod Fields
 pub mod Answers
 pub mod Demands

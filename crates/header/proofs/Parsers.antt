@@ -282,7 +282,7 @@ refuse-is {A} {m} e = ap pick e
 refuse-not : {A B : Type 0} {n : ℕ} {x : A} → refuse n ≡ ok x → B
 refuse-not e = let z : _≡_ {A = ℕ} 0 1 = cc in absurd (omega arith)
 
-drop-front : {A : Type 0} (xs ys : List A) (n : ℕ) → length xs ≡ n → drop n (xs ++ ys) ≡ ys
+pub drop-front : {A : Type 0} (xs ys : List A) (n : ℕ) → length xs ≡ n → drop n (xs ++ ys) ≡ ys
 drop-front xs ys n e = let z : n ≡ length xs + 0 = omega (arith, e) in rw z (drop-append-add xs ys 0)
 
 module _ (form : Form) (imposed : Option Version) (plain : Bool) (h : Bytes) (end : ℕ) (t₀ : List ℕ) (s₀ : Spot) where
@@ -505,19 +505,23 @@ module _ (form : Form) (plain : Bool) (h t : List ℕ) (s : Spot) (b : Begins fo
   pub begin-unmarked : {ms : Bytes} → length ms ≡ 0 → BeginsMarked form plain h ms t s
   begin-unmarked {ms} e = record { begins = b; marked = record { from = s .at; behind = omega arith; all = unmarked-all h (s .at) (pointOf form t s .entries) ms e } }
 
-module _ (form : Form) (h : Bytes) (t : List ℕ) (p : Parser) {q : Bool} (a : q ≡ fits form (length h) t (spotIn p)) where
-  pub on-unfit : (imposed : Option Version) (end : ℕ) → not q ≡ true → ReadsOn form imposed h end t (spotIn p) (advance.Ended p) t
-  unfolding readOn tableOn
-  on-unfit imposed end e = let f : fits form (length h) t (spotIn p) ≡ false = sym a ∙ not-true q e in record { told = rw (readOn, f); table = rw (tableOn, f) }
+module _ (form : Form) (h : Bytes) (t : List ℕ) (p : Parser) where
+  module _ {q : Bool} (a : q ≡ fits form (length h) t (spotIn p)) where
+    pub on-unfit : (imposed : Option Version) (end : ℕ) → not q ≡ true → ReadsOn form imposed h end t (spotIn p) (advance.Ended p) t
+    unfolding readOn tableOn
+    on-unfit imposed end e = let f : fits form (length h) t (spotIn p) ≡ false = sym a ∙ not-true q e in record { told = rw (readOn, f); table = rw (tableOn, f) }
 
-  module _ (e : not q ≡ false) where
+    pub on-fit : not q ≡ false → fits form (length h) t (spotIn p) ≡ true
+    on-fit e = sym a ∙ not-false q e
+
+  module _ (f : fits form (length h) t (spotIn p) ≡ true) where
     pub on-inside : p .at ≤ length h
-    on-inside = fit form (length h) t (spotIn p) (sym a ∙ not-false q e) .at
+    on-inside = fit form (length h) t (spotIn p) f .at
 
     pub on-begins : {plain : Bool} → plain ≡ isAscii (take (length h - p .at) (drop (p .at) h)) → Begins form plain h t (spotIn p)
-    on-begins {plain} f = record {
-      fit = sym a ∙ not-false q e;
-      ascii = λ i. subst (λ (x : Bytes). isAscii x ≡ true) (take-all (length h - p .at) (drop (p .at) h) (rw (length-drop (p .at) h) (omega arith))) (sym f ∙ i);
+    on-begins {plain} e = record {
+      fit = f;
+      ascii = λ i. subst (λ (x : Bytes). isAscii x ≡ true) (take-all (length h - p .at) (drop (p .at) h) (rw (length-drop (p .at) h) (omega arith))) (sym e ∙ i);
     }
 
 -- the table keeps its length
@@ -570,7 +574,7 @@ on-lines {form} {imposed} {h} {end} {t} {s} {r} c {p} {x} i = elim (test (fits f
       none-not (sym (ap (λ (y : Told). y .stop) (sym (ap advanceMeans i) ∙ c .told ∙ q)))
 ]
 
-pub ruleset ons = (begin-marked, begin-unmarked, ahead-long, on-out, on-unfit, on-inside, on-begins, on-length)
+pub ruleset ons = (begin-marked, begin-unmarked, ahead-long, on-out, on-unfit, on-fit, on-inside, on-begins, on-length)
 
 -- A whole header
 

@@ -8,6 +8,7 @@ use crate::verdict::Verdict;
 use columns::header_line;
 use entries::entry::Entry;
 use entries::form::Form;
+use entries::formed;
 use entries::kind;
 use entries::table;
 use ids::scan;
@@ -17,12 +18,14 @@ use records::refusal::Refusal;
 use values::bytes;
 use values::utf8;
 ghost use mathlib.Core.Path.{_≡_};
+ghost use mathlib.Core.Bool.{true};
 ghost use Prim.Native.Nat.{_≤_};
 ghost use lib.ListN.{length};
 ghost use Rattle.header.specs.Verdicts.{imposedOf};
 ghost use Rattle.header.specs.Steps.{startSpot, fits};
 ghost use Rattle.header.specs.declared.verdict.Verdict.the-variants.{Begin, Columns};
 ghost use Rattle.header.specs.Parsers.{answerMeans, endedAt, refusedAs, spotIn, Bounds, KeepsLine, Parses, Begins, BeginsMarked, ReadsOn, ReadCall};
+ghost use Rattle.header.specs.Parts.{BeginsParts, MayPart};
 
 // What a header is found to be: accepted, with the version in force and the number of samples, or refused.
 pub enum Outcome {
@@ -348,6 +351,10 @@ fn marked_size(header: &[u8], at: usize) -> usize
     if size <= at {
         return 0;
     }
+    // So many bytes are read in more time than all marks are cleared.
+    if 0x2_0000 <= size - at {
+        return size;
+    }
     if bytes::has(&header[at..], b'\\') {
         return size;
     }
@@ -383,6 +390,85 @@ fn read_sized(
     read_longer(header, end, from, options, table)
 }
 
+// The lines that begin before `end`, with as many marks as the bytes ahead need.
+fn read_part(
+    header: &[u8],
+    end: usize,
+    from: Parser,
+    imposed: FileFormatOption,
+    form: Form,
+    table: &mut [u64],
+) -> Advance
+    requires { ⌜ fits form (length (now header)) (now table) (spotIn from) ≡ true ⌝ }
+    ensures { λ r.
+        ⌜ ReadsOn form (imposedOf imposed) (now (header .entry)) end (now (table .entry)) (spotIn from) r (now (table .exit)) ⌝ }
+{
+    let at = from.at;
+    let options = Options {
+        imposed,
+        form,
+        ascii: utf8::is_ascii(&header[at..]),
+    };
+    let mut none = [0u64; 0];
+    // Few lines are held against all entries in less time than it takes to mark those.
+    if header.len() - at < 256 {
+        return read_lines(header, end, from, options, table, &mut none);
+    }
+    let size = marked_size(header, at);
+    read_sized(header, size, end, from, options, table, &mut none)
+}
+
+// The same in parts, each up to the last LF of so many bytes: what the lines of a part may clash with are few of the entries before
+// it, and marks of more than these would be full in a very long header.
+fn read_parts(
+    header: &[u8],
+    end: usize,
+    from: Parser,
+    imposed: FileFormatOption,
+    form: Form,
+    table: &mut [u64],
+) -> Advance
+    requires { ⌜ BeginsParts form (now header) end (now table) (spotIn from) ⌝ }
+    ensures { λ r.
+        ⌜ ReadsOn form (imposedOf imposed) (now (header .entry)) end (now (table .entry)) (spotIn from) r (now (table .exit)) ⌝ }
+{
+    let mut parser = from;
+    let mut reach = from.at;
+    while 0x20_0000 <= end - reach {
+        let ahead = reach + 0x10_0000;
+        let cut = line::last_end(&header[..ahead], reach);
+        if cut == reach {
+            reach = ahead;
+        } else {
+            reach = cut;
+            match read_part(&header[..cut], cut, parser, imposed, form, table) {
+                Advance::Ended(next) => parser = next,
+                Advance::Stopped(next, x) => return Advance::Stopped(next, x),
+            }
+        }
+    }
+    read_part(header, end, parser, imposed, form, table)
+}
+
+// Whether the lines before `end` are read in parts: there are very many bytes, and no entry lies past those that were read, where it
+// might show other bytes in a part than in the whole.
+fn is_parted(header: &[u8], end: usize, from: Parser, form: Form, table: &[u64]) -> bool
+    requires { ⌜ fits form (length (now header)) (now table) (spotIn from) ≡ true ⌝ }
+    ensures { λ r. ⌜ MayPart form (now (header .entry)) end (now (table .entry)) (spotIn from) r ⌝ }
+{
+    let at = from.at;
+    if header.len() < end {
+        return false;
+    }
+    if end < at {
+        return false;
+    }
+    if end - at < 0x40_0000 {
+        return false;
+    }
+    formed::all_formed(&header[..at], table, form, from.count)
+}
+
 // Reads the lines that begin before `end`, from where the parser stands on, into the table after the entries that it counts. Where
 // the parser does not fit, nothing is read.
 pub fn read_on(
@@ -399,22 +485,13 @@ pub fn read_on(
     if !from.fits(form, header.len(), table) {
         return Advance::Ended(from);
     }
-    let at = from.at;
-    if end <= at {
+    if end <= from.at {
         return Advance::Ended(from);
     }
-    let options = Options {
-        imposed,
-        form,
-        ascii: utf8::is_ascii(&header[at..]),
-    };
-    let mut none = [0u64; 0];
-    // Few lines are held against all entries in less time than it takes to mark those.
-    if header.len() - at < 256 {
-        return read_lines(header, end, from, options, table, &mut none);
+    if is_parted(header, end, from, form, table) {
+        return read_parts(header, end, from, imposed, form, table);
     }
-    let size = marked_size(header, at);
-    read_sized(header, size, end, from, options, table, &mut none)
+    read_part(header, end, from, imposed, form, table)
 }
 
 // Reads a header into the table, from its first entry on.

@@ -6,7 +6,7 @@ use mathlib.Core.Bool.{Bool, true, false, not, _&&_, _||_, false≢true}
 use mathlib.Core.List.{List, [], _∷_, _++_, append-assoc}
 use lib.Dec.{eqb, leb, ltb}
 use lib.ListN.{length, drop, take, replicate}
-use borrow.Author.Tests.{eqb-true, eqb-false, ltb-true, ltb-false, leb-true, leb-false, lt-ltb, le-ltb, ne-eqb}
+use borrow.Author.Tests.{eqb-true, eqb-false, ltb-true, ltb-false, leb-true, leb-false, lt-leb, lt-ltb, le-ltb, ne-eqb}
 use Rattle.values.specs.Bytes.{Bytes, is, any, before, starts, same}
 use Rattle.values.specs.Value.{meaning}
 use Rattle.values.specs.Hash.{wideBasis, wideStep, wideFrom}
@@ -25,7 +25,7 @@ use Rattle.entries.specs.declared.form.Form.{Form}
 use Rattle.entries.specs.Tables.{room, entriesIn, entryIn}
 use Rattle.entries.proofs.Stored.{entries-here, entries-past}
 use Rattle.ids.specs.Clashes.{prefixOf, hasKey, keySeen, isOfKey, isOfId, idSeen, clashBy, clashIn}
-use Rattle.ids.specs.Marks.{keyHash, underHash, idHash, markUnder, markEntry, markAll, Marked, MarkedFrom, markNoted, markAhead, keyFound, idFound, clashFound}
+use Rattle.ids.specs.Marks.{keyHash, underHash, idHash, markUnder, markEntry, markAll, Marked, MarkedFrom, markNoted, markBy, isFar, notesRoom, markAhead, keyFound, idFound, clashFound}
 use Rattle.ids.specs.Ahead.{isEnded, NewId, hasEscape, notesFrom, notesAhead, isAhead, NextAhead}
 use Rattle.ids.proofs.Seen.{met-by}
 use Rattle.ids.proofs.Aheads.{new-id, Noted, noted, away-kind, away-from}
@@ -382,40 +382,59 @@ pub ruleset notings = (noting-start, noting-end, noting-next, noting-less, notin
 
 -- What lines from a place on may clash with is marked
 
-module _ (h : Bytes) (from : ℕ) (es : List Entry) (ms : List ℕ) where
-  pub ahead-marked : All (MarkedFrom h from (markAhead h from es ms)) es
-  unfolding markAhead
-  ahead-marked = elim (test (hasEscape h from)) [
-    | pass e ↦ rw (markAhead, e) (all-marked h from es ms)
-    | fail e ↦ rw (markAhead, e) (noted-all h (notesFrom h from (replicate 512 0)) from (noted h from (replicate 512 0) e) es ms)
+module _ (h : Bytes) (from : ℕ) (ns : List ℕ) (es : List Entry) (ms : List ℕ) where
+  by-marked : All (MarkedFrom h from (markBy h from ns es ms)) es
+  unfolding markBy
+  by-marked = elim (test (hasEscape h from)) [
+    | pass e ↦ rw (markBy, e) (all-marked h from es ms)
+    | fail e ↦ rw (markBy, e) (noted-all h (notesFrom h from ns) from (noted h from ns e) es ms)
   ]
 
-  ahead-length : length (markAhead h from es ms) ≡ length ms
-  unfolding markAhead
-  ahead-length = elim (test (hasEscape h from)) [
-    | pass e ↦ rw (markAhead, e) (all-length h es ms)
-    | fail e ↦ rw (markAhead, e) (noted-length h (notesFrom h from (replicate 512 0)) es ms)
+  by-length : length (markBy h from ns es ms) ≡ length ms
+  unfolding markBy
+  by-length = elim (test (hasEscape h from)) [
+    | pass e ↦ rw (markBy, e) (all-length h es ms)
+    | fail e ↦ rw (markBy, e) (noted-length h (notesFrom h from ns) es ms)
   ]
 
-  pub ahead-long : {ms′ : List ℕ} → ms′ ≡ markAhead h from es ms → length ms′ ≡ length ms
-  ahead-long e = ap length e ∙ ahead-length
+  pub by-long : {ms′ : List ℕ} → ms′ ≡ markBy h from ns es ms → length ms′ ≡ length ms
+  by-long e = ap length e ∙ by-length
 
   -- q is what looking ahead answered
   module _ {q : Bool} (a : q ≡ not (hasEscape h from)) where
-    pub ahead-noted : q ≡ true → {ns : List ℕ} → ns ≡ notesAhead h from (replicate 512 0) → {ms′ : List ℕ} → ms′ ≡ markNoted h ns es ms → ms′ ≡ markAhead h from es ms
-    unfolding markAhead notesAhead
-    ahead-noted e f g = let none = not-same (hasEscape h from) false (sym a ∙ e) in g ∙ rw (f, markAhead, notesAhead, none)
+    pub by-noted : q ≡ true → {ns′ : List ℕ} → ns′ ≡ notesAhead h from ns → {ms′ : List ℕ} → ms′ ≡ markNoted h ns′ es ms → ms′ ≡ markBy h from ns es ms
+    unfolding markBy notesAhead
+    by-noted e f g = let none = not-same (hasEscape h from) false (sym a ∙ e) in g ∙ rw (f, markBy, notesAhead, none)
 
-    pub ahead-all : q ≡ false → {ms′ : List ℕ} → ms′ ≡ markAll h es ms → ms′ ≡ markAhead h from es ms
-    unfolding markAhead
-    ahead-all e g = let some = not-same (hasEscape h from) true (sym a ∙ e) in g ∙ rw (markAhead, some)
+    pub by-all : q ≡ false → {ms′ : List ℕ} → ms′ ≡ markAll h es ms → ms′ ≡ markBy h from ns es ms
+    unfolding markBy
+    by-all e g = let some = not-same (hasEscape h from) true (sym a ∙ e) in g ∙ rw (markBy, some)
+
+pub ruleset bys = (by-noted, by-all, by-long)
+
+module _ (h : Bytes) (from : ℕ) (es : List Entry) (ms : List ℕ) where
+  pub ahead-marked : All (MarkedFrom h from (markAhead h from es ms)) es
+  ahead-marked = by-marked h from (replicate (notesRoom (isFar h from)) 0) es ms
+
+  pub ahead-long : {ms′ : List ℕ} → ms′ ≡ markAhead h from es ms → length ms′ ≡ length ms
+  ahead-long = by-long h from (replicate (notesRoom (isFar h from)) 0) es ms
+
+  module _ {q : Bool} (a : q ≡ isFar h from) where
+    pub ahead-many : q ≡ true → {ms′ : List ℕ} → ms′ ≡ markBy h from (replicate 8192 0) es ms → ms′ ≡ markAhead h from es ms
+    ahead-many f e = e ∙ rw (← a, f)
+
+    pub ahead-few : q ≡ false → {ms′ : List ℕ} → ms′ ≡ markBy h from (replicate 512 0) es ms → ms′ ≡ markAhead h from es ms
+    ahead-few f e = e ∙ rw (← a, f)
+
+pub far-past : (h : Bytes) (from : ℕ) → length h < from → false ≡ isFar h from
+far-past h from l = sym (lt-leb 16384 (length h - from) (omega arith))
 
 pub ahead-none : (h : Bytes) (from : ℕ) (form : Form) (t ms : List ℕ) {n : ℕ} → n ≡ room form t → n ≡ 0 → ms ≡ markAhead h from (entriesIn form t) ms
-unfolding markAhead markAll markNoted
+unfolding markBy markAll markNoted
 ahead-none h from form t ms en z =
     let none : entriesIn form t ≡ [] = entries-past form t 0 (omega arith) in
-    elim (test (hasEscape h from)) [ pass e ↦ rw (markAhead, e, none) | fail e ↦ rw (markAhead, e, none) ]
+    elim (test (hasEscape h from)) [ pass e ↦ rw (markBy, e, none) | fail e ↦ rw (markBy, e, none) ]
 
-pub ruleset aheads-marked = (ahead-none, ahead-noted, ahead-all, ahead-long)
+pub ruleset aheads-marked = (ahead-none, ahead-few, ahead-many, ahead-long)
 
 pub ruleset scans = (key-unmarked, key-looked, id-unmarked, id-looked, met-by)

@@ -1,10 +1,10 @@
 -- Marks of the entries kept so far, by which a scan of them may be left out. Assumes nothing.
-use Prim.Native.Nat.{ℕ, _≤_}
+use Prim.Native.Nat.{ℕ, _-_, _≤_}
 use mathlib.Core.Path.{_≡_}
 use mathlib.Core.Bool.{Bool, true, false, not, _||_, _&&_}
 use mathlib.Core.List.{List, [], _∷_}
-use lib.Dec.{eqb, ltb}
-use lib.ListN.{replicate}
+use lib.Dec.{eqb, leb, ltb}
+use lib.ListN.{length, replicate}
 use Rattle.values.specs.Bytes.{Bytes}
 use Rattle.values.specs.Hash.{wideBasis, wideStep, wideFrom}
 use Rattle.values.specs.Marks.{isMet, meet}
@@ -60,9 +60,20 @@ unfoldable pub markNoted : Bytes → List ℕ → List Entry → List ℕ → Li
 markNoted h ns [] ms = ms
 markNoted h ns (e ∷ es) ms = markNoted h ns es (elim (isAhead h ns e) [ true ↦ markEntry h e ms | false ↦ ms ])
 
--- 512 words for the notes; all entries, where an ID ahead may be escaped
-unfoldable pub markAhead : Bytes → ℕ → List Entry → List ℕ → List ℕ
-markAhead h from es ms = elim (hasEscape h from) [ true ↦ markAll h es ms | false ↦ markNoted h (notesFrom h from (replicate 512 0)) es ms ]
+-- by notes of what stands ahead, after those in ns; all entries, where an ID ahead may be escaped
+unfoldable pub markBy : Bytes → ℕ → List ℕ → List Entry → List ℕ → List ℕ
+markBy h from ns es ms = elim (hasEscape h from) [ true ↦ markAll h es ms | false ↦ markNoted h (notesFrom h from ns) es ms ]
+
+abbrev pub isFar : Bytes → ℕ → Bool
+isFar h from = leb 16384 (length h - from)
+
+-- few words for the notes of a short part, more for those of a long one
+abbrev pub notesRoom : Bool → ℕ
+notesRoom true = 8192
+notesRoom false = 512
+
+abbrev pub markAhead : Bytes → ℕ → List Entry → List ℕ → List ℕ
+markAhead h from es ms = markBy h from (replicate (notesRoom (isFar h from)) 0) es ms
 
 -- What is found of a new line: nothing is looked for where the marks tell that it isn't there
 

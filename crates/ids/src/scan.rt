@@ -19,7 +19,7 @@ ghost use Rattle.entries.specs.Values.{entryOf};
 ghost use Rattle.entries.specs.Tables.{entriesIn};
 ghost use Rattle.ids.specs.Clashes.{lastOf, isOfKey, MayEqual, Candidate, keySeen, idSeen, mapClash};
 ghost use Rattle.ids.specs.Ahead.{isEnded};
-ghost use Rattle.ids.specs.Marks.{keyHash, underHash, idHash, markUnder, markEntry, markAll, markNoted, markAhead, keyFound, idFound, clashUnder, clashFound};
+ghost use Rattle.ids.specs.Marks.{keyHash, underHash, idHash, markUnder, markEntry, markAll, markNoted, markBy, isFar, markAhead, keyFound, idFound, clashUnder, clashFound};
 
 pub enum Clash {
     Free,
@@ -340,6 +340,27 @@ fn mark_noted(h: &[u8], kept: &[u64], form: Form, notes: &[u64], marks: &mut [u6
     }
 }
 
+// By notes of what stands from `from` on; all entries, where an ID there may be escaped.
+fn mark_by(h: &[u8], from: usize, kept: &[u64], form: Form, notes: &mut [u64], marks: &mut [u64])
+    ensures { λ _. ⌜ now (marks .exit) ≡ markBy (now (h .entry)) from (now (notes .entry)) (entriesIn form (now (kept .entry))) (now (marks .entry)) ⌝ }
+{
+    if ahead::look_ahead(h, from, notes) {
+        mark_noted(h, kept, form, notes, marks);
+        return;
+    }
+    mark_all(h, kept, form, marks);
+}
+
+// Whether so many bytes stand from `from` on that they need more notes than a short part, which is read in less time than those are cleared.
+fn is_far(h: &[u8], from: usize) -> bool
+    ensures { λ r. ⌜ r ≡ isFar (now (h .entry)) from ⌝ }
+{
+    if h.len() < from {
+        return false;
+    }
+    16384 <= h.len() - from
+}
+
 // Marks what lines from `from` on may clash with, so that a scan of the table may be left out.
 pub fn mark_ahead(h: &[u8], from: usize, kept: &[u64], form: Form, marks: &mut [u64])
     ensures { λ _. ⌜ now (marks .exit) ≡ markAhead (now (h .entry)) from (entriesIn form (now (kept .entry))) (now (marks .entry)) ⌝ }
@@ -347,10 +368,11 @@ pub fn mark_ahead(h: &[u8], from: usize, kept: &[u64], form: Form, marks: &mut [
     if table::count(kept, form) == 0 {
         return;
     }
-    let mut notes = [0u64; 512];
-    if ahead::look_ahead(h, from, &mut notes) {
-        mark_noted(h, kept, form, &notes, marks);
+    if is_far(h, from) {
+        let mut many = [0u64; 8192];
+        mark_by(h, from, kept, form, &mut many, marks);
         return;
     }
-    mark_all(h, kept, form, marks);
+    let mut few = [0u64; 512];
+    mark_by(h, from, kept, form, &mut few, marks);
 }

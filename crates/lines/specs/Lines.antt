@@ -1,9 +1,10 @@
 -- The line that stands at a place of a header, by the pieces into which the rules cut it. Assumes nothing.
-use Prim.Native.Nat.{ℕ, _+_, _-_, _≤_, _<_}
+use Prim.Native.Nat.{ℕ, suc, _+_, _-_, _≤_, _<_}
 use mathlib.Core.Path.{_≡_}
-use mathlib.Core.List.{List, _∷_}
+use mathlib.Core.Bool.{true, false}
+use mathlib.Core.List.{List, [], _∷_}
 use lib.ListN.{length, drop, take}
-use Rattle.values.specs.Bytes.{Bytes}
+use Rattle.values.specs.Bytes.{Bytes, LF, is, any}
 use Rattle.rules.specs.Lines.{pieces, lineOf}
 use Rattle.lines.specs.declared.line.Line.{Line}
 
@@ -21,3 +22,12 @@ pub record LineIs (h : Bytes) (at : ℕ) (r : Line) : Type 0 where
   pub moves : at < length h → at < r .next
   pub inside : at ≤ length h → r .next ≤ length h
   pub past : length h ≤ at → (r .end ≡ at) × (r .next ≡ at)
+
+-- up to and with the last LF
+unfoldable pub endOf : Bytes → ℕ
+endOf [] = 0
+endOf (b ∷ bs) = elim (any (is LF) (b ∷ bs)) [ true ↦ suc (endOf bs) | false ↦ 0 ]
+
+-- the place after the last LF from a place on; that place, where there is none
+abbrev pub lastEnd : Bytes → ℕ → ℕ
+lastEnd h at = at + endOf (drop at h)

@@ -4,7 +4,7 @@ ghost use mathlib.Core.Path.{_≡_};
 ghost use Prim.Native.Nat.{_+_};
 ghost use lib.ListN.{length, drop};
 ghost use Rattle.values.specs.Bytes.{LF, is, before};
-ghost use Rattle.lines.specs.Lines.{LineIs};
+ghost use Rattle.lines.specs.Lines.{lastEnd, LineIs};
 
 // Where the line that was asked for ends, and where the next one stands.
 pub struct Line {
@@ -47,4 +47,26 @@ pub fn next_line(h: &[u8], at: usize) -> Line
         return Line { end: last, next };
     }
     Line { end: lf, next }
+}
+
+// The place after the last LF from `at` on; where there is none, `at`.
+pub fn last_end(h: &[u8], at: usize) -> usize
+    ensures { λ r. ⌜ r ≡ lastEnd (now (h .entry)) at ⌝ }
+{
+    if h.len() <= at {
+        return at;
+    }
+    // A line may be long, so whether it is complete is looked at for many bytes at once.
+    if !bytes::has(&h[at..], b'\n') {
+        return at;
+    }
+    let mut end = h.len();
+    while at < end {
+        let last = end - 1;
+        if h[last] == b'\n' {
+            return end;
+        }
+        end = last;
+    }
+    at
 }

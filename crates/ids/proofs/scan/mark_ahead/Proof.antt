@@ -9,17 +9,14 @@ count-requires c κs = search needs
 returns : tie.Need-returns
 returns c = search (aheads-marked, needs)
 
-slice-aggregate-look-ahead : tie.Need-slice-aggregate-look-ahead
-slice-aggregate-look-ahead c = search needs
+is-far-requires : tie.Need-is-far-requires
+is-far-requires c κs = search needs
 
-look-ahead-requires : tie.Need-look-ahead-requires
-look-ahead-requires c κs = search needs
+slice-aggregate-mark-by : tie.Need-slice-aggregate-mark-by
+slice-aggregate-mark-by c = search needs
 
-slice-aggregate-mark-noted : tie.Need-slice-aggregate-mark-noted
-slice-aggregate-mark-noted c = search needs
-
-mark-noted-requires : tie.Need-mark-noted-requires
-mark-noted-requires c κs = search needs
+mark-by-requires : tie.Need-mark-by-requires
+mark-by-requires c κs = search needs
 
 same-length : tie.Need-same-length
 same-length c = search needs
@@ -27,8 +24,11 @@ same-length c = search needs
 returns-2 : tie.Need-returns-2
 returns-2 c = search (aheads-marked, needs)
 
-mark-all-requires : tie.Need-mark-all-requires
-mark-all-requires c κs = search needs
+slice-aggregate-mark-by-2 : tie.Need-slice-aggregate-mark-by-2
+slice-aggregate-mark-by-2 c = search needs
+
+mark-by-requires-2 : tie.Need-mark-by-requires-2
+mark-by-requires-2 c κs = search needs
 
 same-length-2 : tie.Need-same-length-2
 same-length-2 c = search needs
@@ -42,12 +42,12 @@ mark-ahead-spec =
     (tie.spec
     count-requires
     returns
-    slice-aggregate-look-ahead
-    look-ahead-requires
-    slice-aggregate-mark-noted
-    mark-noted-requires
+    is-far-requires
+    slice-aggregate-mark-by
+    mark-by-requires
     same-length
     returns-2
-    mark-all-requires
+    slice-aggregate-mark-by-2
+    mark-by-requires-2
     same-length-2
     returns-3)

@@ -1,8 +1,8 @@
 use borrow.Author.Needs.{needs}
-use Rattle.feed.proofs.Calls.{Seeking, seeks}
+use Rattle.lines.proofs.Ends.{Seeking, seeks}
 use Prim.Native.Nat.{_-_}
-use Rattle.feed.proofs.cable.last_end.Statement.{statement}
-use Rattle.feed.proofs.cable.last_end.Tie as tie
+use Rattle.lines.proofs.line.last_end.Statement.{statement}
+use Rattle.lines.proofs.line.last_end.Tie as tie
 
 abbrev Inv-loop : tie.InvT-loop
 Inv-loop h at end₀ end = Seeking h end

@@ -1,19 +1,18 @@
--- More bytes after those that are held change nothing of what their complete lines give; and lines are read on where they were left.
+-- More bytes after those that are there change nothing of what their complete lines give; and lines are read on where they were left.
 -- Assumes nothing.
-use Prim.Native.Nat.{ℕ, zero, suc, _+_, _≤_, _<_}
+use Prim.Native.Nat.{ℕ, _+_, _≤_}
 use native.Mathlib.Omega.{arith}
-use mathlib.Core.Path.{_≡_, refl, sym, ap, ap₂, _∙_}
+use mathlib.Core.Path.{_≡_, refl, sym, ap, _∙_}
 use mathlib.Core.Bool.{true}
-use mathlib.Core.List.{List, [], _∷_, _++_, tail, append-assoc}
+use mathlib.Core.List.{List, [], _∷_, _++_}
 use mathlib.Core.Option.{Option, none, some}
 use lib.Dec.{leb, ltb}
-use lib.ListN.{length, take, drop, length-append, length-drop}
-use lib.Seq.{take-append-le, drop-append-le, drop-append-seam, drop-drop}
+use lib.ListN.{length, take, drop, length-drop}
+use lib.Seq.{take-append-le, drop-append-le}
 use borrow.Author.Tests.{ltb-true, ltb-false, lt-ltb}
-use Rattle.values.specs.Bytes.{Bytes, LF, is, any, before, from}
+use Rattle.values.specs.Bytes.{Bytes, is}
 use Rattle.values.specs.Value.{meaning}
 use Rattle.values.proofs.Tests.{pass, fail, test}
-use Rattle.values.proofs.Lists.{any-append, before-from, before-none, from-is}
 use Rattle.rules.specs.Answer.{judged}
 use Rattle.rules.specs.Sizes.{Limits}
 use Rattle.rules.specs.Version.{Version}
@@ -26,91 +25,14 @@ use Rattle.rules.specs.Reading.{State, empty, ready, done, step}
 use Rattle.rules.specs.Claims.{All}
 use Rattle.rules.proofs.Alls.{all-append, all-map}
 use Rattle.rules.proofs.Firsts.{was, not-read, see}
-use Rattle.rules.proofs.Pieces.{pieces-line}
 use Rattle.rules.proofs.Stands.{Stands}
 use Rattle.entries.proofs.Calls.{Formed, formed}
+use Rattle.lines.specs.Lines.{endOf}
 use Rattle.lines.proofs.Lines.{pieces-there}
+use Rattle.lines.proofs.Ends.{end-length, complete}
 use Rattle.ids.specs.Clashes.{prefixOf, hasKey, keySeen, isOfKey, isOfId, idSeen, clashNumber, clashIn}
 use Rattle.header.specs.Steps.{Stage, stageAfter, freshState, newClash, stepOn, Point, Went, passed, goOn}
 use Rattle.header.proofs.Steps.{step-stand, took-stand, go-refused, go-full, go-more, go-none, go-past, Inside, passed-inside}
-use Rattle.feed.specs.Feeding.{endOf}
-use Rattle.feed.proofs.Calls.{any-hit}
-
--- The last LF
-
-pub end-split : (u r : Bytes) → endOf (u ++ LF ∷ r) ≡ length u + (1 + endOf r)
-unfolding endOf
-end-split [] r = let z : 0 + (1 + endOf r) ≡ suc (endOf r) = omega arith in rw (endOf, any-hit (is LF) [] LF r refl, z)
-end-split (b ∷ u) r = let z : suc (length u) + (1 + endOf r) ≡ suc (length u + (1 + endOf r)) = omega arith in rw (endOf, any-hit (is LF) (b ∷ u) LF r refl, end-split u r, z)
-
-pub end-length : (y : Bytes) → endOf y ≤ length y
-unfolding endOf
-end-length [] = omega arith
-end-length (b ∷ y) = elim (test (any (is LF) (b ∷ y))) [
-  | pass e ↦ rw (endOf, e) (omega (arith, end-length y))
-  | fail e ↦ rw (endOf, e) (omega arith)
-]
-
-pub end-drop : (n : ℕ) (y : Bytes) → n ≤ endOf y → endOf y ≡ n + endOf (drop n y)
-unfolding endOf
-end-drop zero y l = omega arith
-end-drop (suc n) [] l = absurd (omega arith)
-end-drop (suc n) (b ∷ y) l = elim (test (any (is LF) (b ∷ y))) [
-  | pass e ↦
-      let z : endOf (b ∷ y) ≡ suc (endOf y) = rw (endOf, e) in
-      let i = end-drop n y (omega (arith, z)) in
-      omega (arith, z, i)
-  | fail e ↦ let z : endOf (b ∷ y) ≡ 0 = rw (endOf, e) in absurd (omega (arith, z))
-]
-
-pub end-some : (n : ℕ) (y : Bytes) → n < endOf y → any (is LF) (drop n y) ≡ true
-unfolding endOf
-end-some zero [] l = absurd (omega arith)
-end-some zero (b ∷ y) l = elim (test (any (is LF) (b ∷ y))) [
-  | pass e ↦ e
-  | fail e ↦ let z : endOf (b ∷ y) ≡ 0 = rw (endOf, e) in absurd (omega (arith, z))
-]
-end-some (suc n) [] l = absurd (omega arith)
-end-some (suc n) (b ∷ y) l = elim (test (any (is LF) (b ∷ y))) [
-  | pass e ↦ let z : endOf (b ∷ y) ≡ suc (endOf y) = rw (endOf, e) in end-some n y (omega (arith, z))
-  | fail e ↦ let z : endOf (b ∷ y) ≡ 0 = rw (endOf, e) in absurd (omega (arith, z))
-]
-
-pub end-more : (y x : Bytes) → endOf y ≤ endOf (y ++ x)
-unfolding endOf
-end-more [] x = omega arith
-end-more (b ∷ y) x = elim (test (any (is LF) (b ∷ y))) [
-  | fail e ↦ let z : endOf (b ∷ y) ≡ 0 = rw (endOf, e) in omega (arith, z)
-  | pass e ↦
-      let f : any (is LF) (b ∷ (y ++ x)) ≡ true = any-append (is LF) (b ∷ y) x ∙ rw e in
-      let z : endOf (b ∷ y) ≡ suc (endOf y) = rw (endOf, e) in
-      let w : endOf (b ∷ (y ++ x)) ≡ suc (endOf (y ++ x)) = rw (endOf, f) in
-      omega (arith, z, w, end-more y x)
-]
-
--- a line that begins before the last LF is complete: it is a piece whatever follows
-pub record Complete (h x : Bytes) (at : ℕ) (p : Bytes) : Type 0 where
-  pub piece : pieces (drop at (h ++ x)) ≡ p ∷ pieces (drop (at + length p) (h ++ x))
-  pub before-end : at + length p ≤ endOf h
-
-pub complete : (h x : Bytes) (at : ℕ) (p : Bytes) (ps : List Bytes) → pieces (drop at h) ≡ p ∷ ps → at < endOf h → Complete h x at p
-complete h x at p ps e l =
-    let y = drop at h in
-    let u = before (is LF) y in
-    let r = tail (from (is LF) y) in
-    let cut : y ≡ u ++ LF ∷ r = sym (before-from (is LF) y) ∙ ap (u ++_) (from-is LF y (end-some at h l)) in
-    let clean = before-none (is LF) y in
-    let first : pieces y ≡ (u ++ LF ∷ []) ∷ pieces r = ap pieces cut ∙ pieces-line u r clean in
-    let z : (u ++ LF ∷ []) ∷ pieces r ≡ p ∷ ps = sym first ∙ e in
-    let is-p : u ++ LF ∷ [] ≡ p = cc in
-    let long = end-length h in
-    let whole : drop at (h ++ x) ≡ u ++ LF ∷ (r ++ x) = drop-append-le at h x (omega arith) ∙ ap (_++ x) cut ∙ append-assoc u (LF ∷ r) x in
-    let rest : drop (at + length p) (h ++ x) ≡ r ++ x
-    = sym (drop-drop (length p) at (h ++ x)) ∙ ap (drop (length p)) (whole ∙ sym (append-assoc u (LF ∷ []) (r ++ x)) ∙ ap (_++ (r ++ x)) is-p) ∙ drop-append-seam p (r ++ x) in
-    let size : length p ≡ length u + 1 = sym (ap length is-p) ∙ length-append u (LF ∷ []) in
-    let at-end : endOf h ≡ at + endOf y = end-drop at h (omega arith) in
-    let by : endOf y ≡ length u + (1 + endOf r) = ap endOf cut ∙ end-split u r in
-    record { piece = ap pieces whole ∙ pieces-line u (r ++ x) clean ∙ ap₂ (λ (a : Bytes) (b : List Bytes). a ∷ b) is-p (ap pieces (sym rest)); before-end = omega (arith, size, at-end, by) }
 
 -- What the entries show
 

@@ -72,7 +72,7 @@ fit-up : (form : Form) (m n : ℕ) (t : List ℕ) (s : Spot) → Fit form m t s 
 fit-up form m n t s f l k = record { header = k; count = f .count; at = omega (arith, f .at); line = f .line }
 
 module _ (form : Form) (imposed : Option Version) (h : Bytes) (end : ℕ) (t₀ : List ℕ) (s₀ : Spot) where
-  -- what is left of the lines, read from here, is what is left of those from the spot where reading began; no line ends between the spot and `reach`
+  -- what is left of the lines, read from here, is what is left of those from the spot where reading began; the entries lie before `reach`
   pub record Parting (t : List ℕ) (s : Spot) (reach : ℕ) : Type 0 where
     pub ahead : reach ≤ end
     pub inside : end ≤ length h
@@ -287,7 +287,7 @@ module _ (form : Form) (imposed : Option Version) (h : Bytes) (end : ℕ) (t₀ 
                 ∙ sym (rw (tableOn, fits-whole, from-here, both))) ∙ g .table;
           }
 
--- the cut is after the last LF of the bytes up to `far`
+-- a part of so many bytes, cut after its last LF
 module _ {form : Form} {imposed : Option Version} {h : Bytes} {end : ℕ} {t₀ t : List ℕ} {s₀ s : Spot} {reach : ℕ} (g : Parting form imposed h end t₀ s₀ t s reach) (l : 2097152 ≤ end - reach) where
   pub far-inside : reach + 1048576 ≤ length h
   far-inside = omega (arith, g .ahead, g .inside)

@@ -418,8 +418,8 @@ fn read_part(
     read_sized(header, size, end, from, options, table, &mut none)
 }
 
-// The same in parts, each up to the last LF of so many bytes: what the lines of a part may clash with are few of the entries before
-// it, and marks of more than these would be full in a very long header.
+// As `read_part`, in parts, each up to the last LF of so many bytes: what the lines of a part may clash with are few of the entries
+// before it, and marks of all entries would be full in a very long header.
 fn read_parts(
     header: &[u8],
     end: usize,

@@ -13,7 +13,7 @@ use Rattle.rules.specs.Shown.{idIn}
 use Rattle.entries.specs.declared.entry.Entry.{Entry as CodeEntry}
 use Rattle.entries.specs.Values.{entryOf}
 use Rattle.entries.specs.Tables.{room, entryIn}
-use Rattle.dictionary.specs.Dictionary.{Line, anyOf, impliedNumbers, clashes, differ}
+use Rattle.dictionary.specs.Dictionary.{anyOf, impliedNumbers, clashes, differ}
 use Rattle.dictionary.specs.Lines.{holds, idxMeant, isImplied, tableLines, idAt, idxAt, isIdx}
 use Rattle.dictionary.specs.Slots.{idxFirst}
 use Rattle.dictionary.specs.Places.{idxNamed, earlierMeant, numberSeen, placeBeside, indexedPlace, countedPlace, placeBy}

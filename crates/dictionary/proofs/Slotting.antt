@@ -1,5 +1,5 @@
 -- Slots on plain values: what is found by them, and what they tell after one line more. Assumes nothing.
-use Prim.Native.Nat.{ℕ, zero, suc, _+_, _-_, _*_, _/_, _%_, _^_, _<_, _≤_}
+use Prim.Native.Nat.{ℕ, zero, suc, _+_, _-_, _/_, _%_, _<_, _≤_}
 use native.Mathlib.Omega.{arith}
 use native.Mathlib.Nat.{mod-lt}
 use mathlib.Core.Path.{_≡_, refl, sym, ap, subst, _∙_}
@@ -21,7 +21,7 @@ use Rattle.rules.specs.Shown.{idIn}
 use Rattle.entries.specs.declared.entry.Entry.{Entry as CodeEntry}
 use Rattle.entries.specs.declared.form.Form.{Form}
 use Rattle.entries.specs.Values.{entryOf}
-use Rattle.entries.specs.Tables.{room, entryIn, entriesIn, firstEntries}
+use Rattle.entries.specs.Tables.{entryIn, entriesIn, firstEntries}
 use Rattle.entries.proofs.Stored.{first-entries}
 use Rattle.dictionary.specs.Dictionary.{Line, anyOf}
 use Rattle.dictionary.specs.Lines.{entryLines, linesBefore, tableLines, idAt, idxAt, idxMeant, isIdx}

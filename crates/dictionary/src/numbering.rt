@@ -191,16 +191,23 @@ fn number_many(h: &[u8], kept: &[u64], asked: Asked, out: &mut [u64]) -> Numberi
     number_lines(h, kept, asked, out, &mut ids, &mut numbers)
 }
 
-fn number_most(h: &[u8], kept: &[u64], asked: Asked, out: &mut [u64]) -> Numbering
+// Where lines carry IDX.
+fn number_indexed(h: &[u8], kept: &[u64], asked: Asked, out: &mut [u64]) -> Numbering
     ensures { λ r.
         ⌜ NumbersLines (asked .dictionary) (asked .indexed) (tableLines (asked .dictionary) (asked .form) (now (h .entry)) (now (kept .entry))) (now (out .entry)) r
         (now (out .exit)) ⌝ }
 {
-    if asked.indexed {
-        let mut ids = [0u32; 98304];
-        let mut numbers = [0u32; 98304];
-        return number_lines(h, kept, asked, out, &mut ids, &mut numbers);
-    }
+    let mut ids = [0u32; 98304];
+    let mut numbers = [0u32; 98304];
+    number_lines(h, kept, asked, out, &mut ids, &mut numbers)
+}
+
+// Where they don't.
+fn number_counted(h: &[u8], kept: &[u64], asked: Asked, out: &mut [u64]) -> Numbering
+    ensures { λ r.
+        ⌜ NumbersLines (asked .dictionary) (asked .indexed) (tableLines (asked .dictionary) (asked .form) (now (h .entry)) (now (kept .entry))) (now (out .entry)) r
+        (now (out .exit)) ⌝ }
+{
     let mut ids = [0u32; 196608];
     let mut numbers = [0u32; 0];
     number_lines(h, kept, asked, out, &mut ids, &mut numbers)
@@ -235,7 +242,11 @@ fn number_sized(
     if entries < 24576 {
         return number_many(h, kept, asked, out);
     }
-    number_most(h, kept, asked, out)
+    let indexed = asked.indexed;
+    if indexed {
+        return number_indexed(h, kept, asked, out);
+    }
+    number_counted(h, kept, asked, out)
 }
 
 pub fn number_dictionary(

@@ -6,9 +6,10 @@ use borrow.Fn.PlainCycle.{Measures, is, falls, and}
 use Rattle.dictionary.proofs.numbering.number_sized.Reads as number-sized
 use Rattle.dictionary.proofs.numbering.number_sized.Kinds as number-sized-kinds
 use Rattle.dictionary.proofs.numbering.+number_sized.Lts-number_sized as number-sized-lts
+use Rattle.dictionary.proofs.numbering.number_counted.Reads as number-counted-reads
+use Rattle.dictionary.proofs.numbering.number_indexed.Reads as number-indexed-reads
 use Rattle.dictionary.proofs.numbering.number_lines.Reads as number-lines-reads
 use Rattle.dictionary.proofs.numbering.number_many.Reads as number-many-reads
-use Rattle.dictionary.proofs.numbering.number_most.Reads as number-most-reads
 use Rattle.entries.proofs.table.count.Reads as count-reads
 use Rattle.dictionary.proofs.numbering.+number_sized.{statement}
 use Rattle.dictionary.proofs.numbering.+number_sized.Tie.{close}
@@ -38,10 +39,12 @@ number-sized-number-lines-requires : (t : ℕ) → number-sized-lts.Need-number-
   number-sized.Post,
   number-many-reads.Asked,
   number-many-reads.Learnt,
-  number-most-reads.Asked,
-  number-most-reads.Learnt,
+  number-indexed-reads.Asked,
+  number-indexed-reads.Learnt,
+  number-counted-reads.Asked,
+  number-counted-reads.Learnt,
 ) (number-sized-at t) number-sized.Post
-number-sized-number-lines-requires t c κs = search (all-open, needs)
+number-sized-number-lines-requires t c κs = search needs
 
 number-sized-same-length : (t : ℕ) → number-sized-lts.Need-same-length (
   number-lines-reads.Asked,
@@ -52,10 +55,12 @@ number-sized-same-length : (t : ℕ) → number-sized-lts.Need-same-length (
   number-sized.Post,
   number-many-reads.Asked,
   number-many-reads.Learnt,
-  number-most-reads.Asked,
-  number-most-reads.Learnt,
+  number-indexed-reads.Asked,
+  number-indexed-reads.Learnt,
+  number-counted-reads.Asked,
+  number-counted-reads.Learnt,
 ) (number-sized-at t) number-sized.Post
-number-sized-same-length t c = search (all-open, needs)
+number-sized-same-length t c = search needs
 
 number-sized-same-length-2 : (t : ℕ) → number-sized-lts.Need-same-length-2 (
   number-lines-reads.Asked,
@@ -66,10 +71,12 @@ number-sized-same-length-2 : (t : ℕ) → number-sized-lts.Need-same-length-2 (
   number-sized.Post,
   number-many-reads.Asked,
   number-many-reads.Learnt,
-  number-most-reads.Asked,
-  number-most-reads.Learnt,
+  number-indexed-reads.Asked,
+  number-indexed-reads.Learnt,
+  number-counted-reads.Asked,
+  number-counted-reads.Learnt,
 ) (number-sized-at t) number-sized.Post
-number-sized-same-length-2 t c = search (all-open, needs)
+number-sized-same-length-2 t c = search needs
 
 number-sized-same-length-3 : (t : ℕ) → number-sized-lts.Need-same-length-3 (
   number-lines-reads.Asked,
@@ -80,10 +87,12 @@ number-sized-same-length-3 : (t : ℕ) → number-sized-lts.Need-same-length-3 (
   number-sized.Post,
   number-many-reads.Asked,
   number-many-reads.Learnt,
-  number-most-reads.Asked,
-  number-most-reads.Learnt,
+  number-indexed-reads.Asked,
+  number-indexed-reads.Learnt,
+  number-counted-reads.Asked,
+  number-counted-reads.Learnt,
 ) (number-sized-at t) number-sized.Post
-number-sized-same-length-3 t c = search (all-open, needs)
+number-sized-same-length-3 t c = search needs
 
 number-sized-returns : (t : ℕ) → number-sized-lts.Need-returns (
   number-lines-reads.Asked,
@@ -94,10 +103,12 @@ number-sized-returns : (t : ℕ) → number-sized-lts.Need-returns (
   number-sized.Post,
   number-many-reads.Asked,
   number-many-reads.Learnt,
-  number-most-reads.Asked,
-  number-most-reads.Learnt,
+  number-indexed-reads.Asked,
+  number-indexed-reads.Learnt,
+  number-counted-reads.Asked,
+  number-counted-reads.Learnt,
 ) (number-sized-at t) number-sized.Post
-number-sized-returns t c = search (all-open, needs)
+number-sized-returns t c = search needs
 
 number-sized-count-requires : (t : ℕ) → number-sized-lts.Need-count-requires (
   number-lines-reads.Asked,
@@ -108,10 +119,12 @@ number-sized-count-requires : (t : ℕ) → number-sized-lts.Need-count-requires
   number-sized.Post,
   number-many-reads.Asked,
   number-many-reads.Learnt,
-  number-most-reads.Asked,
-  number-most-reads.Learnt,
+  number-indexed-reads.Asked,
+  number-indexed-reads.Learnt,
+  number-counted-reads.Asked,
+  number-counted-reads.Learnt,
 ) (number-sized-at t) number-sized.Post
-number-sized-count-requires t c κs = search (all-open, needs)
+number-sized-count-requires t c κs = search needs
 
 number-sized-slice-aggregate-number-sized :
     (t : ℕ) → number-sized-lts.Need-slice-aggregate-number-sized (
@@ -123,10 +136,12 @@ number-sized-slice-aggregate-number-sized :
       number-sized.Post,
       number-many-reads.Asked,
       number-many-reads.Learnt,
-      number-most-reads.Asked,
-      number-most-reads.Learnt,
+      number-indexed-reads.Asked,
+      number-indexed-reads.Learnt,
+      number-counted-reads.Asked,
+      number-counted-reads.Learnt,
     ) (number-sized-at t) number-sized.Post
-number-sized-slice-aggregate-number-sized t c = search (all-open, needs)
+number-sized-slice-aggregate-number-sized t c = search needs
 
 number-sized-slice-aggregate-number-sized-2 :
     (t : ℕ) → number-sized-lts.Need-slice-aggregate-number-sized-2 (
@@ -138,10 +153,12 @@ number-sized-slice-aggregate-number-sized-2 :
       number-sized.Post,
       number-many-reads.Asked,
       number-many-reads.Learnt,
-      number-most-reads.Asked,
-      number-most-reads.Learnt,
+      number-indexed-reads.Asked,
+      number-indexed-reads.Learnt,
+      number-counted-reads.Asked,
+      number-counted-reads.Learnt,
     ) (number-sized-at t) number-sized.Post
-number-sized-slice-aggregate-number-sized-2 t c = search (all-open, needs)
+number-sized-slice-aggregate-number-sized-2 t c = search needs
 
 number-sized-number-sized-requires : (t : ℕ) → number-sized-lts.Need-number-sized-requires (
   number-lines-reads.Asked,
@@ -152,8 +169,10 @@ number-sized-number-sized-requires : (t : ℕ) → number-sized-lts.Need-number-
   number-sized.Post,
   number-many-reads.Asked,
   number-many-reads.Learnt,
-  number-most-reads.Asked,
-  number-most-reads.Learnt,
+  number-indexed-reads.Asked,
+  number-indexed-reads.Learnt,
+  number-counted-reads.Asked,
+  number-counted-reads.Learnt,
 ) (number-sized-at t) number-sized.Post
 number-sized-number-sized-requires t c κs = search (all-open, needs)
 
@@ -166,10 +185,12 @@ number-sized-same-length-4 : (t : ℕ) → number-sized-lts.Need-same-length-4 (
   number-sized.Post,
   number-many-reads.Asked,
   number-many-reads.Learnt,
-  number-most-reads.Asked,
-  number-most-reads.Learnt,
+  number-indexed-reads.Asked,
+  number-indexed-reads.Learnt,
+  number-counted-reads.Asked,
+  number-counted-reads.Learnt,
 ) (number-sized-at t) number-sized.Post
-number-sized-same-length-4 t c = search (all-open, needs)
+number-sized-same-length-4 t c = search needs
 
 number-sized-returns-2 : (t : ℕ) → number-sized-lts.Need-returns-2 (
   number-lines-reads.Asked,
@@ -180,10 +201,12 @@ number-sized-returns-2 : (t : ℕ) → number-sized-lts.Need-returns-2 (
   number-sized.Post,
   number-many-reads.Asked,
   number-many-reads.Learnt,
-  number-most-reads.Asked,
-  number-most-reads.Learnt,
+  number-indexed-reads.Asked,
+  number-indexed-reads.Learnt,
+  number-counted-reads.Asked,
+  number-counted-reads.Learnt,
 ) (number-sized-at t) number-sized.Post
-number-sized-returns-2 t c = search (all-open, needs)
+number-sized-returns-2 t c = search needs
 
 number-sized-number-many-requires : (t : ℕ) → number-sized-lts.Need-number-many-requires (
   number-lines-reads.Asked,
@@ -194,10 +217,12 @@ number-sized-number-many-requires : (t : ℕ) → number-sized-lts.Need-number-m
   number-sized.Post,
   number-many-reads.Asked,
   number-many-reads.Learnt,
-  number-most-reads.Asked,
-  number-most-reads.Learnt,
+  number-indexed-reads.Asked,
+  number-indexed-reads.Learnt,
+  number-counted-reads.Asked,
+  number-counted-reads.Learnt,
 ) (number-sized-at t) number-sized.Post
-number-sized-number-many-requires t c κs = search (all-open, needs)
+number-sized-number-many-requires t c κs = search needs
 
 number-sized-same-length-5 : (t : ℕ) → number-sized-lts.Need-same-length-5 (
   number-lines-reads.Asked,
@@ -208,10 +233,12 @@ number-sized-same-length-5 : (t : ℕ) → number-sized-lts.Need-same-length-5 (
   number-sized.Post,
   number-many-reads.Asked,
   number-many-reads.Learnt,
-  number-most-reads.Asked,
-  number-most-reads.Learnt,
+  number-indexed-reads.Asked,
+  number-indexed-reads.Learnt,
+  number-counted-reads.Asked,
+  number-counted-reads.Learnt,
 ) (number-sized-at t) number-sized.Post
-number-sized-same-length-5 t c = search (all-open, needs)
+number-sized-same-length-5 t c = search needs
 
 number-sized-returns-3 : (t : ℕ) → number-sized-lts.Need-returns-3 (
   number-lines-reads.Asked,
@@ -222,12 +249,14 @@ number-sized-returns-3 : (t : ℕ) → number-sized-lts.Need-returns-3 (
   number-sized.Post,
   number-many-reads.Asked,
   number-many-reads.Learnt,
-  number-most-reads.Asked,
-  number-most-reads.Learnt,
+  number-indexed-reads.Asked,
+  number-indexed-reads.Learnt,
+  number-counted-reads.Asked,
+  number-counted-reads.Learnt,
 ) (number-sized-at t) number-sized.Post
-number-sized-returns-3 t c = search (all-open, needs)
+number-sized-returns-3 t c = search needs
 
-number-sized-number-most-requires : (t : ℕ) → number-sized-lts.Need-number-most-requires (
+number-sized-number-indexed-requires : (t : ℕ) → number-sized-lts.Need-number-indexed-requires (
   number-lines-reads.Asked,
   number-lines-reads.Learnt,
   count-reads.Asked,
@@ -236,10 +265,12 @@ number-sized-number-most-requires : (t : ℕ) → number-sized-lts.Need-number-m
   number-sized.Post,
   number-many-reads.Asked,
   number-many-reads.Learnt,
-  number-most-reads.Asked,
-  number-most-reads.Learnt,
+  number-indexed-reads.Asked,
+  number-indexed-reads.Learnt,
+  number-counted-reads.Asked,
+  number-counted-reads.Learnt,
 ) (number-sized-at t) number-sized.Post
-number-sized-number-most-requires t c κs = search (all-open, needs)
+number-sized-number-indexed-requires t c κs = search needs
 
 number-sized-same-length-6 : (t : ℕ) → number-sized-lts.Need-same-length-6 (
   number-lines-reads.Asked,
@@ -250,10 +281,12 @@ number-sized-same-length-6 : (t : ℕ) → number-sized-lts.Need-same-length-6 (
   number-sized.Post,
   number-many-reads.Asked,
   number-many-reads.Learnt,
-  number-most-reads.Asked,
-  number-most-reads.Learnt,
+  number-indexed-reads.Asked,
+  number-indexed-reads.Learnt,
+  number-counted-reads.Asked,
+  number-counted-reads.Learnt,
 ) (number-sized-at t) number-sized.Post
-number-sized-same-length-6 t c = search (all-open, needs)
+number-sized-same-length-6 t c = search needs
 
 number-sized-returns-4 : (t : ℕ) → number-sized-lts.Need-returns-4 (
   number-lines-reads.Asked,
@@ -264,10 +297,60 @@ number-sized-returns-4 : (t : ℕ) → number-sized-lts.Need-returns-4 (
   number-sized.Post,
   number-many-reads.Asked,
   number-many-reads.Learnt,
-  number-most-reads.Asked,
-  number-most-reads.Learnt,
+  number-indexed-reads.Asked,
+  number-indexed-reads.Learnt,
+  number-counted-reads.Asked,
+  number-counted-reads.Learnt,
 ) (number-sized-at t) number-sized.Post
-number-sized-returns-4 t c = search (all-open, needs)
+number-sized-returns-4 t c = search needs
+
+number-sized-number-counted-requires : (t : ℕ) → number-sized-lts.Need-number-counted-requires (
+  number-lines-reads.Asked,
+  number-lines-reads.Learnt,
+  count-reads.Asked,
+  count-reads.Learnt,
+  number-sized-below t,
+  number-sized.Post,
+  number-many-reads.Asked,
+  number-many-reads.Learnt,
+  number-indexed-reads.Asked,
+  number-indexed-reads.Learnt,
+  number-counted-reads.Asked,
+  number-counted-reads.Learnt,
+) (number-sized-at t) number-sized.Post
+number-sized-number-counted-requires t c κs = search needs
+
+number-sized-same-length-7 : (t : ℕ) → number-sized-lts.Need-same-length-7 (
+  number-lines-reads.Asked,
+  number-lines-reads.Learnt,
+  count-reads.Asked,
+  count-reads.Learnt,
+  number-sized-below t,
+  number-sized.Post,
+  number-many-reads.Asked,
+  number-many-reads.Learnt,
+  number-indexed-reads.Asked,
+  number-indexed-reads.Learnt,
+  number-counted-reads.Asked,
+  number-counted-reads.Learnt,
+) (number-sized-at t) number-sized.Post
+number-sized-same-length-7 t c = search needs
+
+number-sized-returns-5 : (t : ℕ) → number-sized-lts.Need-returns-5 (
+  number-lines-reads.Asked,
+  number-lines-reads.Learnt,
+  count-reads.Asked,
+  count-reads.Learnt,
+  number-sized-below t,
+  number-sized.Post,
+  number-many-reads.Asked,
+  number-many-reads.Learnt,
+  number-indexed-reads.Asked,
+  number-indexed-reads.Learnt,
+  number-counted-reads.Asked,
+  number-counted-reads.Learnt,
+) (number-sized-at t) number-sized.Post
+number-sized-returns-5 t c = search needs
 
 pub +number-sized-spec : {M : Type 1} → statement M
 +number-sized-spec = close μ-number-sized λ t. number-sized-lts.spec (
@@ -279,8 +362,10 @@ pub +number-sized-spec : {M : Type 1} → statement M
   number-sized.Post,
   number-many-reads.Asked,
   number-many-reads.Learnt,
-  number-most-reads.Asked,
-  number-most-reads.Learnt,
+  number-indexed-reads.Asked,
+  number-indexed-reads.Learnt,
+  number-counted-reads.Asked,
+  number-counted-reads.Learnt,
 )
     (number-sized-at t)
     number-sized.Post
@@ -298,6 +383,9 @@ pub +number-sized-spec : {M : Type 1} → statement M
     (number-sized-number-many-requires t)
     (number-sized-same-length-5 t)
     (number-sized-returns-3 t)
-    (number-sized-number-most-requires t)
+    (number-sized-number-indexed-requires t)
     (number-sized-same-length-6 t)
     (number-sized-returns-4 t)
+    (number-sized-number-counted-requires t)
+    (number-sized-same-length-7 t)
+    (number-sized-returns-5 t)

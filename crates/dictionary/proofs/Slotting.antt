@@ -56,13 +56,13 @@ unfolding idSlot
 id-placed n x ea eb er = er ∙ rw (eb, ea)
 
 module _ (n m : ℕ) where
-  pub number-own : m < n / 2 → m ≡ numberSlot n m
+  pub number-own : m < n / 4 → m ≡ numberSlot n m
   unfolding numberSlot
-  number-own l = rw (numberSlot, lt-ltb m (n / 2) l)
+  number-own l = rw (numberSlot, lt-ltb m (n / 4) l)
 
-  pub number-shared : n / 2 ≤ m → {a : ℕ} → a ≡ wideStep m 0 → {b : ℕ} → b ≡ wideStep a 0 → {r : ℕ} → r ≡ slotBy (n - n / 2) b → n / 2 + r ≡ numberSlot n m
+  pub number-shared : n / 4 ≤ m → {a : ℕ} → a ≡ wideStep m 0 → {b : ℕ} → b ≡ wideStep a 0 → {r : ℕ} → r ≡ slotBy (n - n / 4) b → n / 4 + r ≡ numberSlot n m
   unfolding numberSlot
-  number-shared l ea eb er = rw (numberSlot, le-ltb m (n / 2) l, er, eb, ea)
+  number-shared l ea eb er = rw (numberSlot, le-ltb m (n / 4) l, er, eb, ea)
 
 pub ruleset slotted = (slot-none, span-some, slot-some, slot-within, id-placed, number-own, number-shared)
 

@@ -37,9 +37,9 @@ slotBy n hash = elim (eqb n 0) [ true ↦ 0 | false ↦ hash % (n - n / 64) ]
 unfoldable pub idSlot : ℕ → Bytes → ℕ
 idSlot n x = slotBy n (wideStep (wideFrom wideBasis x) 0)
 
--- numbers below half of the slots have their own
+-- numbers below a quarter of the slots have their own
 unfoldable pub numberSlot : ℕ → ℕ → ℕ
-numberSlot n m = elim (ltb m (n / 2)) [ true ↦ m | false ↦ n / 2 + slotBy (n - n / 2) (wideStep (wideStep m 0) 0) ]
+numberSlot n m = elim (ltb m (n / 4)) [ true ↦ m | false ↦ n / 4 + slotBy (n - n / 4) (wideStep (wideStep m 0) 0) ]
 
 pub record AllOpen (slots : List ℕ) : Type 0 where
   pub is : (q : ℕ) → getD slots q 0 ≡ 0

@@ -187,7 +187,7 @@ fn number_many(h: &[u8], kept: &[u64], asked: Asked, out: &mut [u64]) -> Numberi
         (now (out .exit)) ⌝ }
 {
     let mut ids = [0u32; 32768];
-    let mut numbers = [0u32; 32768];
+    let mut numbers = [0u32; 65536];
     number_lines(h, kept, asked, out, &mut ids, &mut numbers)
 }
 
@@ -236,7 +236,7 @@ fn number_sized(
     let entries = table::count(kept, form);
     if entries < 768 {
         let mut own_ids = [0u32; 1024];
-        let mut own_numbers = [0u32; 1024];
+        let mut own_numbers = [0u32; 2048];
         return number_sized(h, kept, asked, out, &mut own_ids, &mut own_numbers);
     }
     if entries < 24576 {

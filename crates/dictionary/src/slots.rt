@@ -38,15 +38,15 @@ fn id_slot(slots: usize, id: &[u8], quoted: bool) -> usize
     slot_by(slots, hash::wide_step(hash, 0))
 }
 
-// Numbers that are small, as they are where none is left out, have slots to themselves; others share the upper half.
+// Numbers that are small, as they are where none is left out, have slots to themselves, a quarter of all; others share the rest.
 fn number_slot(slots: usize, n: u64) -> usize
     ensures { λ r. ⌜ r ≡ numberSlot slots n ⌝ }
 {
-    let half = slots / 2;
-    if n < (half as u64) {
+    let own = slots / 4;
+    if n < (own as u64) {
         return n as usize;
     }
-    half + slot_by(slots - half, hash::wide_step(hash::wide_step(n, 0), 0))
+    own + slot_by(slots - own, hash::wide_step(hash::wide_step(n, 0), 0))
 }
 
 fn wide(n: u32) -> usize

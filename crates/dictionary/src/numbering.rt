@@ -181,6 +181,16 @@ fn number_lines(
     Numbering::Pairs(count.pairs)
 }
 
+fn number_some(h: &[u8], kept: &[u64], asked: Asked, out: &mut [u64]) -> Numbering
+    ensures { λ r.
+        ⌜ NumbersLines (asked .dictionary) (asked .indexed) (tableLines (asked .dictionary) (asked .form) (now (h .entry)) (now (kept .entry))) (now (out .entry)) r
+        (now (out .exit)) ⌝ }
+{
+    let mut ids = [0u32; 4096];
+    let mut numbers = [0u32; 8192];
+    number_lines(h, kept, asked, out, &mut ids, &mut numbers)
+}
+
 fn number_many(h: &[u8], kept: &[u64], asked: Asked, out: &mut [u64]) -> Numbering
     ensures { λ r.
         ⌜ NumbersLines (asked .dictionary) (asked .indexed) (tableLines (asked .dictionary) (asked .form) (now (h .entry)) (now (kept .entry))) (now (out .entry)) r
@@ -234,10 +244,13 @@ fn number_sized(
     }
     let form = asked.form;
     let entries = table::count(kept, form);
-    if entries < 768 {
+    if entries < 512 {
         let mut own_ids = [0u32; 1024];
-        let mut own_numbers = [0u32; 2048];
+        let mut own_numbers = [0u32; 1024];
         return number_sized(h, kept, asked, out, &mut own_ids, &mut own_numbers);
+    }
+    if entries < 3072 {
+        return number_some(h, kept, asked, out);
     }
     if entries < 24576 {
         return number_many(h, kept, asked, out);

@@ -10,6 +10,7 @@ use Rattle.dictionary.proofs.numbering.number_counted.Reads as number-c
 use Rattle.dictionary.proofs.numbering.number_indexed.Reads as number-indexed-reads
 use Rattle.dictionary.proofs.numbering.number_lines.Reads as number-lines-reads
 use Rattle.dictionary.proofs.numbering.number_many.Reads as number-many-reads
+use Rattle.dictionary.proofs.numbering.number_some.Reads as number-some-reads
 use Rattle.entries.proofs.table.count.Reads as count-reads
 use Rattle.dictionary.proofs.numbering.+number_sized.{statement}
 use Rattle.dictionary.proofs.numbering.+number_sized.Tie.{close}
@@ -37,6 +38,8 @@ number-sized-number-lines-requires : (t : ℕ) → number-sized-lts.Need-number-
   count-reads.Learnt,
   number-sized-below t,
   number-sized.Post,
+  number-some-reads.Asked,
+  number-some-reads.Learnt,
   number-many-reads.Asked,
   number-many-reads.Learnt,
   number-indexed-reads.Asked,
@@ -53,6 +56,8 @@ number-sized-same-length : (t : ℕ) → number-sized-lts.Need-same-length (
   count-reads.Learnt,
   number-sized-below t,
   number-sized.Post,
+  number-some-reads.Asked,
+  number-some-reads.Learnt,
   number-many-reads.Asked,
   number-many-reads.Learnt,
   number-indexed-reads.Asked,
@@ -69,6 +74,8 @@ number-sized-same-length-2 : (t : ℕ) → number-sized-lts.Need-same-length-2 (
   count-reads.Learnt,
   number-sized-below t,
   number-sized.Post,
+  number-some-reads.Asked,
+  number-some-reads.Learnt,
   number-many-reads.Asked,
   number-many-reads.Learnt,
   number-indexed-reads.Asked,
@@ -85,6 +92,8 @@ number-sized-same-length-3 : (t : ℕ) → number-sized-lts.Need-same-length-3 (
   count-reads.Learnt,
   number-sized-below t,
   number-sized.Post,
+  number-some-reads.Asked,
+  number-some-reads.Learnt,
   number-many-reads.Asked,
   number-many-reads.Learnt,
   number-indexed-reads.Asked,
@@ -101,6 +110,8 @@ number-sized-returns : (t : ℕ) → number-sized-lts.Need-returns (
   count-reads.Learnt,
   number-sized-below t,
   number-sized.Post,
+  number-some-reads.Asked,
+  number-some-reads.Learnt,
   number-many-reads.Asked,
   number-many-reads.Learnt,
   number-indexed-reads.Asked,
@@ -117,6 +128,8 @@ number-sized-count-requires : (t : ℕ) → number-sized-lts.Need-count-requires
   count-reads.Learnt,
   number-sized-below t,
   number-sized.Post,
+  number-some-reads.Asked,
+  number-some-reads.Learnt,
   number-many-reads.Asked,
   number-many-reads.Learnt,
   number-indexed-reads.Asked,
@@ -134,6 +147,8 @@ number-sized-slice-aggregate-number-sized :
       count-reads.Learnt,
       number-sized-below t,
       number-sized.Post,
+      number-some-reads.Asked,
+      number-some-reads.Learnt,
       number-many-reads.Asked,
       number-many-reads.Learnt,
       number-indexed-reads.Asked,
@@ -151,6 +166,8 @@ number-sized-slice-aggregate-number-sized-2 :
       count-reads.Learnt,
       number-sized-below t,
       number-sized.Post,
+      number-some-reads.Asked,
+      number-some-reads.Learnt,
       number-many-reads.Asked,
       number-many-reads.Learnt,
       number-indexed-reads.Asked,
@@ -167,6 +184,8 @@ number-sized-number-sized-requires : (t : ℕ) → number-sized-lts.Need-number-
   count-reads.Learnt,
   number-sized-below t,
   number-sized.Post,
+  number-some-reads.Asked,
+  number-some-reads.Learnt,
   number-many-reads.Asked,
   number-many-reads.Learnt,
   number-indexed-reads.Asked,
@@ -183,6 +202,8 @@ number-sized-same-length-4 : (t : ℕ) → number-sized-lts.Need-same-length-4 (
   count-reads.Learnt,
   number-sized-below t,
   number-sized.Post,
+  number-some-reads.Asked,
+  number-some-reads.Learnt,
   number-many-reads.Asked,
   number-many-reads.Learnt,
   number-indexed-reads.Asked,
@@ -199,6 +220,8 @@ number-sized-returns-2 : (t : ℕ) → number-sized-lts.Need-returns-2 (
   count-reads.Learnt,
   number-sized-below t,
   number-sized.Post,
+  number-some-reads.Asked,
+  number-some-reads.Learnt,
   number-many-reads.Asked,
   number-many-reads.Learnt,
   number-indexed-reads.Asked,
@@ -208,13 +231,15 @@ number-sized-returns-2 : (t : ℕ) → number-sized-lts.Need-returns-2 (
 ) (number-sized-at t) number-sized.Post
 number-sized-returns-2 t c = search needs
 
-number-sized-number-many-requires : (t : ℕ) → number-sized-lts.Need-number-many-requires (
+number-sized-number-some-requires : (t : ℕ) → number-sized-lts.Need-number-some-requires (
   number-lines-reads.Asked,
   number-lines-reads.Learnt,
   count-reads.Asked,
   count-reads.Learnt,
   number-sized-below t,
   number-sized.Post,
+  number-some-reads.Asked,
+  number-some-reads.Learnt,
   number-many-reads.Asked,
   number-many-reads.Learnt,
   number-indexed-reads.Asked,
@@ -222,7 +247,7 @@ number-sized-number-many-requires : (t : ℕ) → number-sized-lts.Need-number-m
   number-counted-reads.Asked,
   number-counted-reads.Learnt,
 ) (number-sized-at t) number-sized.Post
-number-sized-number-many-requires t c κs = search needs
+number-sized-number-some-requires t c κs = search needs
 
 number-sized-same-length-5 : (t : ℕ) → number-sized-lts.Need-same-length-5 (
   number-lines-reads.Asked,
@@ -231,6 +256,8 @@ number-sized-same-length-5 : (t : ℕ) → number-sized-lts.Need-same-length-5 (
   count-reads.Learnt,
   number-sized-below t,
   number-sized.Post,
+  number-some-reads.Asked,
+  number-some-reads.Learnt,
   number-many-reads.Asked,
   number-many-reads.Learnt,
   number-indexed-reads.Asked,
@@ -247,6 +274,8 @@ number-sized-returns-3 : (t : ℕ) → number-sized-lts.Need-returns-3 (
   count-reads.Learnt,
   number-sized-below t,
   number-sized.Post,
+  number-some-reads.Asked,
+  number-some-reads.Learnt,
   number-many-reads.Asked,
   number-many-reads.Learnt,
   number-indexed-reads.Asked,
@@ -256,13 +285,15 @@ number-sized-returns-3 : (t : ℕ) → number-sized-lts.Need-returns-3 (
 ) (number-sized-at t) number-sized.Post
 number-sized-returns-3 t c = search needs
 
-number-sized-number-indexed-requires : (t : ℕ) → number-sized-lts.Need-number-indexed-requires (
+number-sized-number-many-requires : (t : ℕ) → number-sized-lts.Need-number-many-requires (
   number-lines-reads.Asked,
   number-lines-reads.Learnt,
   count-reads.Asked,
   count-reads.Learnt,
   number-sized-below t,
   number-sized.Post,
+  number-some-reads.Asked,
+  number-some-reads.Learnt,
   number-many-reads.Asked,
   number-many-reads.Learnt,
   number-indexed-reads.Asked,
@@ -270,7 +301,7 @@ number-sized-number-indexed-requires : (t : ℕ) → number-sized-lts.Need-numbe
   number-counted-reads.Asked,
   number-counted-reads.Learnt,
 ) (number-sized-at t) number-sized.Post
-number-sized-number-indexed-requires t c κs = search needs
+number-sized-number-many-requires t c κs = search needs
 
 number-sized-same-length-6 : (t : ℕ) → number-sized-lts.Need-same-length-6 (
   number-lines-reads.Asked,
@@ -279,6 +310,8 @@ number-sized-same-length-6 : (t : ℕ) → number-sized-lts.Need-same-length-6 (
   count-reads.Learnt,
   number-sized-below t,
   number-sized.Post,
+  number-some-reads.Asked,
+  number-some-reads.Learnt,
   number-many-reads.Asked,
   number-many-reads.Learnt,
   number-indexed-reads.Asked,
@@ -295,6 +328,8 @@ number-sized-returns-4 : (t : ℕ) → number-sized-lts.Need-returns-4 (
   count-reads.Learnt,
   number-sized-below t,
   number-sized.Post,
+  number-some-reads.Asked,
+  number-some-reads.Learnt,
   number-many-reads.Asked,
   number-many-reads.Learnt,
   number-indexed-reads.Asked,
@@ -304,13 +339,15 @@ number-sized-returns-4 : (t : ℕ) → number-sized-lts.Need-returns-4 (
 ) (number-sized-at t) number-sized.Post
 number-sized-returns-4 t c = search needs
 
-number-sized-number-counted-requires : (t : ℕ) → number-sized-lts.Need-number-counted-requires (
+number-sized-number-indexed-requires : (t : ℕ) → number-sized-lts.Need-number-indexed-requires (
   number-lines-reads.Asked,
   number-lines-reads.Learnt,
   count-reads.Asked,
   count-reads.Learnt,
   number-sized-below t,
   number-sized.Post,
+  number-some-reads.Asked,
+  number-some-reads.Learnt,
   number-many-reads.Asked,
   number-many-reads.Learnt,
   number-indexed-reads.Asked,
@@ -318,7 +355,7 @@ number-sized-number-counted-requires : (t : ℕ) → number-sized-lts.Need-numbe
   number-counted-reads.Asked,
   number-counted-reads.Learnt,
 ) (number-sized-at t) number-sized.Post
-number-sized-number-counted-requires t c κs = search needs
+number-sized-number-indexed-requires t c κs = search needs
 
 number-sized-same-length-7 : (t : ℕ) → number-sized-lts.Need-same-length-7 (
   number-lines-reads.Asked,
@@ -327,6 +364,8 @@ number-sized-same-length-7 : (t : ℕ) → number-sized-lts.Need-same-length-7 (
   count-reads.Learnt,
   number-sized-below t,
   number-sized.Post,
+  number-some-reads.Asked,
+  number-some-reads.Learnt,
   number-many-reads.Asked,
   number-many-reads.Learnt,
   number-indexed-reads.Asked,
@@ -343,6 +382,8 @@ number-sized-returns-5 : (t : ℕ) → number-sized-lts.Need-returns-5 (
   count-reads.Learnt,
   number-sized-below t,
   number-sized.Post,
+  number-some-reads.Asked,
+  number-some-reads.Learnt,
   number-many-reads.Asked,
   number-many-reads.Learnt,
   number-indexed-reads.Asked,
@@ -352,6 +393,60 @@ number-sized-returns-5 : (t : ℕ) → number-sized-lts.Need-returns-5 (
 ) (number-sized-at t) number-sized.Post
 number-sized-returns-5 t c = search needs
 
+number-sized-number-counted-requires : (t : ℕ) → number-sized-lts.Need-number-counted-requires (
+  number-lines-reads.Asked,
+  number-lines-reads.Learnt,
+  count-reads.Asked,
+  count-reads.Learnt,
+  number-sized-below t,
+  number-sized.Post,
+  number-some-reads.Asked,
+  number-some-reads.Learnt,
+  number-many-reads.Asked,
+  number-many-reads.Learnt,
+  number-indexed-reads.Asked,
+  number-indexed-reads.Learnt,
+  number-counted-reads.Asked,
+  number-counted-reads.Learnt,
+) (number-sized-at t) number-sized.Post
+number-sized-number-counted-requires t c κs = search needs
+
+number-sized-same-length-8 : (t : ℕ) → number-sized-lts.Need-same-length-8 (
+  number-lines-reads.Asked,
+  number-lines-reads.Learnt,
+  count-reads.Asked,
+  count-reads.Learnt,
+  number-sized-below t,
+  number-sized.Post,
+  number-some-reads.Asked,
+  number-some-reads.Learnt,
+  number-many-reads.Asked,
+  number-many-reads.Learnt,
+  number-indexed-reads.Asked,
+  number-indexed-reads.Learnt,
+  number-counted-reads.Asked,
+  number-counted-reads.Learnt,
+) (number-sized-at t) number-sized.Post
+number-sized-same-length-8 t c = search needs
+
+number-sized-returns-6 : (t : ℕ) → number-sized-lts.Need-returns-6 (
+  number-lines-reads.Asked,
+  number-lines-reads.Learnt,
+  count-reads.Asked,
+  count-reads.Learnt,
+  number-sized-below t,
+  number-sized.Post,
+  number-some-reads.Asked,
+  number-some-reads.Learnt,
+  number-many-reads.Asked,
+  number-many-reads.Learnt,
+  number-indexed-reads.Asked,
+  number-indexed-reads.Learnt,
+  number-counted-reads.Asked,
+  number-counted-reads.Learnt,
+) (number-sized-at t) number-sized.Post
+number-sized-returns-6 t c = search needs
+
 pub +number-sized-spec : {M : Type 1} → statement M
 +number-sized-spec = close μ-number-sized λ t. number-sized-lts.spec (
   number-lines-reads.Asked,
@@ -360,6 +455,8 @@ pub +number-sized-spec : {M : Type 1} → statement M
   count-reads.Learnt,
   number-sized-below t,
   number-sized.Post,
+  number-some-reads.Asked,
+  number-some-reads.Learnt,
   number-many-reads.Asked,
   number-many-reads.Learnt,
   number-indexed-reads.Asked,
@@ -380,12 +477,15 @@ pub +number-sized-spec : {M : Type 1} → statement M
     (number-sized-number-sized-requires t)
     (number-sized-same-length-4 t)
     (number-sized-returns-2 t)
-    (number-sized-number-many-requires t)
+    (number-sized-number-some-requires t)
     (number-sized-same-length-5 t)
     (number-sized-returns-3 t)
-    (number-sized-number-indexed-requires t)
+    (number-sized-number-many-requires t)
     (number-sized-same-length-6 t)
     (number-sized-returns-4 t)
-    (number-sized-number-counted-requires t)
+    (number-sized-number-indexed-requires t)
     (number-sized-same-length-7 t)
     (number-sized-returns-5 t)
+    (number-sized-number-counted-requires t)
+    (number-sized-same-length-8 t)
+    (number-sized-returns-6 t)

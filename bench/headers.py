@@ -22,8 +22,14 @@ def fields(kind, n):
     ]
 
 
-def indexed(lines, first):
-    return [f"{line[:-1]},IDX={n}>" for n, line in enumerate(lines, first)]
+def indexed(lines, first, apart=1):
+    return [f"{line[:-1]},IDX={n * apart}>" for n, line in enumerate(lines, first)]
+
+
+def kinds(n):
+    """IDs that each stand in three kinds."""
+    lines = (("FILTER", ""), ("INFO", TYPED), ("FORMAT", TYPED))
+    return [f'##{kind}=<ID=s{i}{rest},Description="d">' for kind, rest in lines for i in range(n)]
 
 
 TYPED = ",Number=1,Type=Integer"
@@ -37,6 +43,7 @@ HEADERS = {
     "contigs_indexed": header(indexed(contigs(10000), 0)),
     "strings_10000": header(STRINGS),
     "strings_indexed": header(indexed(STRINGS, 1)),
+    "strings_apart": header(indexed(STRINGS, 1, 65536)),
     "samples_2504": header(fields("FORMAT", 25), [f"HG{i:05}" for i in range(96, 2600)]),
     # much of one thing; from contigs_250000 on for the second form
     "contigs_45000": header([f"##contig=<ID=c{i}>" for i in range(45000)]),
@@ -48,7 +55,7 @@ HEADERS = {
     "mixed_40000": header([f"##m{i}=<ID=a>" if i % 2 else f"##t{i}=x" for i in range(40000)]),
     # other keys of two lines each; IDs of three kinds; a probe's cells among other maps; a SAM header
     "pairs_30000": header([f"##k{i}={x}" for x in "ab" for i in range(30000)]),
-    "kinds_3000": header([f'##{kind}=<ID=s{i}{rest},Description="d">' for kind, rest in (("FILTER", ""), ("INFO", TYPED), ("FORMAT", TYPED)) for i in range(3000)]),
+    "kinds_3000": header(kinds(3000)),
     "cells_40000": header([*(f"##cell=<ID=W{i:02},K=0.90>" for i in range(1, 41)), *(f"##well=<ID=a{i}>" for i in range(40000))]),
     "sam_40000": "".join(f"@SQ\tSN:ctg{i:06}\tLN:5\n" for i in range(40000)),
     "fields_17": header([f"##k=<ID=a{j}," + ",".join(f"{i:x}=" for i in range(16)) + ">" for j in range(10000)]),
@@ -56,6 +63,7 @@ HEADERS = {
     "contigs_100000": header([f"##contig=<ID=ctg{i:06},length=5>" for i in range(100000)]),
     "samples_100000": header([], [f"SAMPLE{i:06}" for i in range(100000)]),
     "fields_100000": header(["##x=<ID=a," + ",".join(f"f{i:x}=1" for i in range(100000)) + ">"]),
+    "kinds_30000": header(kinds(30000)),
     "contigs_480000": header([f"##contig=<ID=ctg{i:06},length=5>" for i in range(480000)]),
 }
 

@@ -1,22 +1,21 @@
 -- What is known of the lines before while a dictionary is numbered line by line, and what one line more does. Assumes nothing.
 use Prim.Native.Nat.{ℕ}
 use mathlib.Core.Path.{_≡_, refl, sym, ap, ap₂, subst, _∙_}
-use mathlib.Core.Bool.{Bool, true, false, not, _&&_, false≢true, or-false}
-use mathlib.Core.List.{List, [], _∷_, _++_, map-append}
+use mathlib.Core.Bool.{Bool, true, false, not, _&&_, false≢true}
+use mathlib.Core.List.{List, [], _∷_}
 use mathlib.Core.Option.{Option, none, some}
 use lib.Dec.{eqb}
 use borrow.Author.Tests.{eqb-true, eqb-false, eq-eqb, ne-eqb}
 use Rattle.values.specs.Bytes.{Bytes, same}
-use Rattle.values.specs.Marks.{isMarked, mark}
 use Rattle.values.proofs.Tests.{pass, fail, test, or-l, or-r, or-on, and-l, and-r}
 use Rattle.values.proofs.Sames.{same-sound, same-self, same-sym}
 use Rattle.values.proofs.Lists.{some-is, none-not}
-use Rattle.values.proofs.Markings.{mark-own, mark-kept}
 use Rattle.rules.specs.Known.{isIn}
 use Rattle.rules.specs.Map.{isSome}
-use Rattle.rules.proofs.Alls.{in-append}
 use Rattle.dictionary.specs.Dictionary.{Line, carries, anyOf, idNumber, Numbered, clashes, numberedLines}
-use Rattle.dictionary.specs.Places.{idxNamed, isIdx, numberSeen, markTwice, idxFound}
+use Rattle.dictionary.specs.Lines.{isIdx}
+use Rattle.dictionary.specs.Slots.{idxFirst}
+use Rattle.dictionary.specs.Places.{idxNamed, numberSeen}
 use Rattle.dictionary.specs.declared.line.Dictionary.{Dictionary}
 use Rattle.dictionary.proofs.Firsts.{ids, in-other, clash-equal, clash-other, clash-sym}
 use Rattle.rules.specs.Claims.{All}
@@ -24,15 +23,15 @@ use Rattle.rules.specs.Claims.{All}
 -- The ID among the lines before
 
 named-here : (x : Bytes) (l : Line) (ls : List Line) → same (l .id) x ≡ true → idxNamed x (l ∷ ls) ≡ some (l .idx)
-unfolding idxNamed
-named-here x l ls e = rw (idxNamed, e)
+unfolding idxFirst
+named-here x l ls e = rw (idxFirst, e)
 
 named-later : (x : Bytes) (l : Line) (ls : List Line) → same (l .id) x ≡ false → idxNamed x (l ∷ ls) ≡ idxNamed x ls
-unfolding idxNamed
-named-later x l ls e = rw (idxNamed, e)
+unfolding idxFirst
+named-later x l ls e = rw (idxFirst, e)
 
 named-out : (x : Bytes) (ls : List Line) → isIn x (ids ls) ≡ false → idxNamed x ls ≡ none
-unfolding isIn idxNamed
+unfolding isIn idxFirst
 named-out x [] h = refl
 named-out x (l ∷ ls) h = named-later x l ls (or-l (same (l .id) x) (isIn x (ids ls)) h) ∙ named-out x ls (or-r (same (l .id) x) (isIn x (ids ls)) h)
 
@@ -46,34 +45,6 @@ named-none x (l ∷ ls) h = elim (test (same (l .id) x)) [
 
 pub named-some : (x : Bytes) (ls : List Line) {m : Option ℕ} → idxNamed x ls ≡ some m → isIn x (ids ls) ≡ true
 named-some x ls h = elim (test (isIn x (ids ls))) [ pass e ↦ e | fail e ↦ none-not (sym (named-out x ls e) ∙ h) ]
-
--- these IDs are marked
-abbrev pub AllMarked : Bytes → List Line → Type 0
-AllMarked ms ls = (x : Bytes) → isIn x (ids ls) ≡ true → (isMarked ms 0 x ≡ true) × (isMarked ms 1 x ≡ true)
-
--- where all are marked, what is not marked is not among them
-pub found-named : (ms x : Bytes) (ls : List Line) → AllMarked ms ls → idxFound ms x ls ≡ idxNamed x ls
-unfolding idxFound
-found-named ms x ls a = elim (test (isIn x (ids ls))) [
-  | pass i ↦ let b = a x i in rw (idxFound, b .0, mark-kept ms 0 x 1 x (b .1))
-  | fail i ↦ elim (test (isMarked ms 0 x && isMarked (mark ms 0 x) 1 x)) [
-    | pass e ↦ rw (idxFound, e)
-    | fail e ↦ rw (idxFound, e) (sym (named-out x ls i))
-  ]
-]
-
-pub marked-more : (ms : Bytes) (ls : List Line) (l : Line) → AllMarked ms ls → AllMarked (markTwice ms (l .id)) (ls ++ l ∷ [])
-unfolding isIn
-marked-more ms ls l a x i =
-    let ns = mark ms 0 (l .id) in
-    elim (test (same (l .id) x)) [
-      | pass e ↦ subst (λ (y : Bytes). (isMarked (markTwice ms (l .id)) 0 y ≡ true) × (isMarked (markTwice ms (l .id)) 1 y ≡ true)) (same-sound (l .id) x e)
-          (mark-kept ns 1 (l .id) 0 (l .id) (mark-own ms 0 (l .id)), mark-own ns 1 (l .id))
-      | fail e ↦
-          let j : isIn x (ids ls) ≡ true = sym (in-append x (ids ls) (l .id ∷ []) ∙ rw e (or-false (isIn x (ids ls)))) ∙ ap (isIn x) (sym (map-append (λ (m : Line). m .id) ls (l ∷ []))) ∙ i in
-          let b = a x j in
-          (mark-kept ns 1 (l .id) 0 x (mark-kept ms 0 (l .id) 0 x (b .0)), mark-kept ns 1 (l .id) 1 x (mark-kept ms 0 (l .id) 1 x (b .1)))
-    ]
 
 -- Lists without a clash
 
@@ -141,7 +112,7 @@ module _ (d : Dictionary) (ls : List Line) where
 
   module _ (x : Bytes) (n : ℕ) where
     pub named-pair : (ms : List Line) {m : Option ℕ} → Carrying ms → idxNamed x ms ≡ some m → isIdx n m ≡ true → anyOf (isPair (x, n)) (numberedLines d ls ms) ≡ true
-    unfolding anyOf idxNamed
+    unfolding anyOf idxFirst
     named-pair [] a e i = none-not e
     named-pair (l ∷ ms) a e i = elim (test (same (l .id) x)) [
       | pass s ↦
@@ -151,7 +122,7 @@ module _ (d : Dictionary) (ls : List Line) where
     ]
 
     pub named-clash : (ms : List Line) {m : Option ℕ} → Carrying ms → idxNamed x ms ≡ some m → isIdx n m ≡ false → anyOf (clashes (x, n)) (numberedLines d ls ms) ≡ true
-    unfolding anyOf idxNamed
+    unfolding anyOf idxFirst
     named-clash [] a e i = none-not e
     named-clash (l ∷ ms) a e i = elim (test (same (l .id) x)) [
       | pass s ↦

@@ -1,16 +1,19 @@
--- The lines that a loop over the entries has left. Assumes nothing.
-use Prim.Native.Nat.{ℕ, _+_, _<_, _≤_}
-use mathlib.Core.Path.{_≡_, _∙_}
+-- The lines before an entry, and those that a loop over the entries has left. Assumes nothing.
+use Prim.Native.Nat.{ℕ, suc, _+_, _<_, _≤_}
+use native.Mathlib.Omega.{arith}
+use mathlib.Core.Path.{_≡_, sym, ap, _∙_}
 use mathlib.Core.Bool.{Bool, true, false}
-use mathlib.Core.List.{List, [], _∷_}
-use lib.ListN.{drop}
+use mathlib.Core.List.{List, [], _∷_, _++_, append-nil}
+use lib.ListN.{length, take, drop, take-append-drop}
+use lib.Seq.{take-add, length-take-le}
 use Rattle.values.specs.Bytes.{Bytes}
 use Rattle.entries.specs.declared.entry.Entry.{Entry as CodeEntry}
 use Rattle.entries.specs.Values.{entryOf}
 use Rattle.entries.specs.Tables.{room, entriesIn, entryIn}
-use Rattle.entries.proofs.Stored.{entries-here, entries-past}
+use Rattle.entries.proofs.Stored.{entries-here, entries-past, entries-count}
+use Rattle.rules.specs.Entry.{Entry}
 use Rattle.dictionary.specs.Dictionary.{Line, lineIf}
-use Rattle.dictionary.specs.Lines.{holds, lineOfEntry, entryLines}
+use Rattle.dictionary.specs.Lines.{holds, lineOfEntry, entryLines, tableLines, linesBefore}
 use Rattle.dictionary.specs.declared.line.Dictionary.{Dictionary}
 use Rattle.entries.specs.declared.form.Form.{Form}
 
@@ -34,3 +37,41 @@ module _ (d : Dictionary) (form : Form) (h : Bytes) (t : List ℕ) (k : ℕ) {n 
 
     pub left-take : q ≡ true → left d form h t k ≡ lineOfEntry h k (entryOf e) ∷ left d form h t (k + 1)
     left-take f = left-turn ∙ rw f
+
+-- Those before entry k
+
+lines-append : (d : Dictionary) (h : Bytes) (n : ℕ) (xs ys : List Entry) → entryLines d h n (xs ++ ys) ≡ entryLines d h n xs ++ entryLines d h (n + length xs) ys
+unfolding entryLines
+lines-append d h n [] ys = let e : n + 0 ≡ n = omega arith in rw e
+lines-append d h n (x ∷ xs) ys =
+    let e : n + 1 + length xs ≡ n + suc (length xs) = omega arith in
+    go (holds d (x .kind)) (lines-append d h (n + 1) xs ys ∙ rw e)
+  where
+    go : (q : Bool) → entryLines d h (n + 1) (xs ++ ys) ≡ entryLines d h (n + 1) xs ++ entryLines d h (n + suc (length xs)) ys
+        → lineIf q (lineOfEntry h n x) (entryLines d h (n + 1) (xs ++ ys)) ≡ lineIf q (lineOfEntry h n x) (entryLines d h (n + 1) xs) ++ entryLines d h (n + suc (length xs)) ys
+    go true e = ap (lineOfEntry h n x ∷_) e
+    go false e = e
+
+module _ (d : Dictionary) (form : Form) (h : Bytes) (t : List ℕ) (k : ℕ) where
+  taken : k ≤ room form t → length (take k (entriesIn form t)) ≡ k
+  taken l = length-take-le k (entriesIn form t) (rw (entries-count form t) l)
+
+  pub split-at : k ≤ room form t → tableLines d form h t ≡ linesBefore d form h t k ++ left d form h t k
+  split-at l =
+      let e : 0 + length (take k (entriesIn form t)) ≡ k = omega (arith, taken l) in
+      ap (entryLines d h 0) (sym (take-append-drop k (entriesIn form t))) ∙ lines-append d h 0 (take k (entriesIn form t)) (drop k (entriesIn form t)) ∙ rw e
+
+  module _ (l : k < room form t) {x : Entry} (ex : x ≡ entryIn form t k) {q : Bool} (eq : q ≡ holds d (x .kind)) where
+    before-turn : linesBefore d form h t (k + 1) ≡ linesBefore d form h t k ++ lineIf q (lineOfEntry h k x) []
+    unfolding entryLines
+    before-turn =
+        let here : drop k (entriesIn form t) ≡ x ∷ drop (k + 1) (entriesIn form t) = entries-here form t k l ∙ ap (_∷ drop (k + 1) (entriesIn form t)) (sym ex) in
+        let more : take (k + 1) (entriesIn form t) ≡ take k (entriesIn form t) ++ x ∷ [] = take-add k 1 (entriesIn form t) ∙ rw here in
+        let c : 0 + length (take k (entriesIn form t)) ≡ k = omega (arith, taken (omega arith)) in
+        ap (entryLines d h 0) more ∙ lines-append d h 0 (take k (entriesIn form t)) (x ∷ []) ∙ rw (c, eq)
+
+    pub before-skip : q ≡ false → linesBefore d form h t (k + 1) ≡ linesBefore d form h t k
+    before-skip f = before-turn ∙ rw f (append-nil (linesBefore d form h t k))
+
+    pub before-take : q ≡ true → linesBefore d form h t (k + 1) ≡ linesBefore d form h t k ++ lineOfEntry h k x ∷ []
+    before-take f = before-turn ∙ rw f

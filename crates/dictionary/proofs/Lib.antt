@@ -1,8 +1,8 @@
 pub mod Firsts
 pub mod Theorems
 pub mod Lines
-pub mod Meets
 pub mod Left
+pub mod Slotting
 pub mod Places
 pub mod Going
 pub mod Verdicts

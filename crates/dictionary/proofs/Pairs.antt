@@ -4,23 +4,22 @@ use native.Mathlib.Omega.{arith}
 use native.Mathlib.Numerals.{add-one}
 use mathlib.Core.Path.{_≡_, refl, sym, ap, subst, _∙_}
 use mathlib.Core.Bool.{Bool, true, false, _||_, true≢false, or-false}
-use mathlib.Core.List.{List, [], _∷_, _++_, append-nil}
+use mathlib.Core.List.{List, [], _∷_, _++_}
 use lib.Dec.{ltb}
-use lib.ListN.{length, take, drop, set, length-set, take-append-drop}
-use lib.Seq.{sets, length-sets, take-add, length-take-le}
+use lib.ListN.{length, set, length-set}
+use lib.Seq.{sets, length-sets}
 use borrow.Author.Tests.{lt-ltb, le-ltb}
 use Rattle.values.specs.Bytes.{Bytes}
-use Rattle.values.proofs.Tests.{pass, fail, test, both}
+use Rattle.values.proofs.Tests.{pass, fail, test}
 use Rattle.rules.specs.Known.{isIn}
-use Rattle.rules.specs.Entry.{Entry}
 use Rattle.entries.specs.declared.entry.Entry.{Entry as CodeEntry}
 use Rattle.entries.specs.Values.{entryOf}
-use Rattle.entries.specs.Tables.{room, firstEntries, entriesIn, entryIn}
+use Rattle.entries.specs.Tables.{room, entryIn}
 use Rattle.entries.proofs.Tables.{room-small}
-use Rattle.entries.proofs.Stored.{entries-here, entries-count, first-entries}
-use Rattle.dictionary.specs.Dictionary.{Line, lineIf, anyOf, carries, lacks, firstLines, idNumber, pairWords, pairs}
-use Rattle.dictionary.specs.Lines.{holds, idxMeant, lineOfEntry, entryLines, tableLines, idAt, idxAt}
-use Rattle.dictionary.specs.Places.{idxNamed, markTwice, isTaken, metBy, placeBy, placeAt}
+use Rattle.dictionary.specs.Dictionary.{Line, anyOf, carries, lacks, firstLines, idNumber, pairWords, pairs}
+use Rattle.dictionary.specs.Lines.{holds, idxMeant, lineOfEntry, entryLines, tableLines, linesBefore, idxAt}
+use Rattle.dictionary.specs.Places.{placeAt}
+use Rattle.dictionary.specs.Slots.{isNamed, isNumbered, idSlot, numberSlot, AllOpen, HeldAt, StandsAt}
 use Rattle.dictionary.specs.Pairs.{carriedBy, putPair, firstNumber, Counts, turnOf, turnOut, Uniform, numberingOf, NumbersLines}
 use Rattle.dictionary.specs.declared.line.Dictionary.{Dictionary}
 use Rattle.dictionary.specs.declared.line.Dictionary.the-variants.{Strings, Contigs}
@@ -34,8 +33,8 @@ use Rattle.dictionary.specs.declared.numbering.Turn.{Turn}
 use Rattle.dictionary.specs.declared.numbering.Turn.the-variants as turn
 use Rattle.dictionary.specs.declared.numbering.Numbering.the-variants as numbering
 use Rattle.dictionary.proofs.Firsts.{ids, first-new, first-old, onto, in-onto, onto-append}
-use Rattle.dictionary.proofs.Left.{left, left-end, left-skip, left-take}
-use Rattle.dictionary.proofs.Going.{AllMarked, found-named, marked-more}
+use Rattle.dictionary.proofs.Left.{left, left-end, left-skip, left-take, split-at, before-skip, before-take}
+use Rattle.dictionary.proofs.Slotting.{held-start, held-skip}
 use Rattle.dictionary.proofs.Verdicts.{Mode, VerdictIs, verdict, mode-start, mode-end}
 use Rattle.entries.specs.declared.form.Form.{Form}
 
@@ -104,19 +103,18 @@ put-length out pair entry number = elim (test (ltb pair (length out / 2))) [
 
 -- What is numbered of the lines before, and what is left to do
 
-pub record Going (d : Dictionary) (indexed : Bool) (ls before left : List Line) (out₀ out : List ℕ) (ms ns : Bytes) (n next : ℕ) : Type 0 where
-  pub marked : AllMarked ms before
+pub record Going (d : Dictionary) (indexed : Bool) (ls before left : List Line) (out₀ out : List ℕ) (n next : ℕ) : Type 0 where
   pub counted : length (firstLines [] ls) ≡ n + length (firstLines (onto before []) left)
   pub written : length (pairs d ls) ≤ length out₀ → sets out₀ 0 (pairs d ls) ≡ sets out (2 * n) (pairWords (idNumber d ls) (firstLines (onto before []) left))
-  pub mode : Mode indexed d ls before left ns next
+  pub mode : Mode indexed d ls before left next
 
 pub words-length : (f : Line → ℕ) (ls : List Line) → length (pairWords f ls) ≡ 2 * length ls
 unfolding pairWords
 words-length f [] = refl
 words-length f (l ∷ ls) = let ih = words-length f ls in omega arith
 
-module _ {d : Dictionary} {indexed : Bool} {ls before : List Line} (l : Line) {left : List Line} {out₀ out : List ℕ} {ms ns : Bytes} {n next : ℕ}
-    (g : Going d indexed ls before (l ∷ left) out₀ out ms ns n next) (ns′ : Bytes) (next′ : ℕ) (mode′ : Mode indexed d ls (before ++ l ∷ []) left ns′ next′) where
+module _ {d : Dictionary} {indexed : Bool} {ls before : List Line} (l : Line) {left : List Line} {out₀ out : List ℕ} {n next : ℕ}
+    (g : Going d indexed ls before (l ∷ left) out₀ out n next) (next′ : ℕ) (mode′ : Mode indexed d ls (before ++ l ∷ []) left next′) where
   onto-more : onto (before ++ l ∷ []) [] ≡ l .id ∷ onto before []
   onto-more = onto-append before (l ∷ []) []
 
@@ -124,25 +122,23 @@ module _ {d : Dictionary} {indexed : Bool} {ls before : List Line} (l : Line) {l
   unfolding isIn
   in-before = in-onto (l .id) before [] ∙ or-false (isIn (l .id) (ids before))
 
-  going-again : isIn (l .id) (ids before) ≡ true → Going d indexed ls (before ++ l ∷ []) left out₀ out (markTwice ms (l .id)) ns′ n next′
+  going-again : isIn (l .id) (ids before) ≡ true → Going d indexed ls (before ++ l ∷ []) left out₀ out n next′
   going-again i =
       let f : firstLines (onto before []) (l ∷ left) ≡ firstLines (onto (before ++ l ∷ []) []) left = first-old (onto before []) l left (in-before ∙ i) ∙ rw onto-more in
       record {
-        marked = marked-more ms before l (g .marked);
         counted = g .counted ∙ rw f;
         written = λ r. g .written r ∙ rw f;
         mode = mode′;
       }
 
   going-first : isIn (l .id) (ids before) ≡ false → {number : ℕ} → number ≡ idNumber d ls l → length out ≡ length out₀
-      → Going d indexed ls (before ++ l ∷ []) left out₀ (putPair out n (l .entry) number) (markTwice ms (l .id)) ns′ (n + 1) next′
+      → Going d indexed ls (before ++ l ∷ []) left out₀ (putPair out n (l .entry) number) (n + 1) next′
   unfolding pairWords pairs putPair
   going-first i {number} e size =
       let rest = firstLines (onto (before ++ l ∷ []) []) left in
       let f : firstLines (onto before []) (l ∷ left) ≡ l ∷ rest = first-new (onto before []) l left (in-before ∙ i) ∙ rw onto-more in
       let c : length (firstLines [] ls) ≡ n + suc (length rest) = g .counted ∙ rw f in
       record {
-        marked = marked-more ms before l (g .marked);
         counted = omega arith;
         written = λ r.
             let fits : n < length out / 2 = omega (arith, words-length (idNumber d ls) (firstLines [] ls)) in
@@ -150,41 +146,6 @@ module _ {d : Dictionary} {indexed : Bool} {ls before : List Line} (l : Line) {l
             g .written r ∙ rw (f, two, putPair, lt-ltb n (length out / 2) fits, e);
         mode = mode′;
       }
-
--- The lines before entry k
-
-abbrev pub before : Dictionary → Form → Bytes → List ℕ → ℕ → List Line
-before d form h t k = entryLines d h 0 (take k (entriesIn form t))
-
-lines-append : (d : Dictionary) (h : Bytes) (n : ℕ) (xs ys : List Entry) → entryLines d h n (xs ++ ys) ≡ entryLines d h n xs ++ entryLines d h (n + length xs) ys
-unfolding entryLines
-lines-append d h n [] ys = let e : n + 0 ≡ n = omega arith in rw e
-lines-append d h n (x ∷ xs) ys =
-    let e : n + 1 + length xs ≡ n + suc (length xs) = omega arith in
-    go (holds d (x .kind)) (lines-append d h (n + 1) xs ys ∙ rw e)
-  where
-    go : (q : Bool) → entryLines d h (n + 1) (xs ++ ys) ≡ entryLines d h (n + 1) xs ++ entryLines d h (n + suc (length xs)) ys
-        → lineIf q (lineOfEntry h n x) (entryLines d h (n + 1) (xs ++ ys)) ≡ lineIf q (lineOfEntry h n x) (entryLines d h (n + 1) xs) ++ entryLines d h (n + suc (length xs)) ys
-    go true e = ap (lineOfEntry h n x ∷_) e
-    go false e = e
-
-module _ (d : Dictionary) (form : Form) (h : Bytes) (t : List ℕ) (k : ℕ) where
-  taken : k ≤ room form t → length (take k (entriesIn form t)) ≡ k
-  taken l = length-take-le k (entriesIn form t) (rw (entries-count form t) l)
-
-  split-at : k ≤ room form t → tableLines d form h t ≡ before d form h t k ++ left d form h t k
-  split-at l =
-      let e : 0 + length (take k (entriesIn form t)) ≡ k = omega (arith, taken l) in
-      ap (entryLines d h 0) (sym (take-append-drop k (entriesIn form t))) ∙ lines-append d h 0 (take k (entriesIn form t)) (drop k (entriesIn form t)) ∙ rw e
-
-  module _ {n : ℕ} (en : n ≡ room form t) (l : k < n) {e : CodeEntry} (ee : entryOf e ≡ entryIn form t k) {q : Bool} (eq : q ≡ holds d (e .kind)) where
-    before-turn : before d form h t (k + 1) ≡ before d form h t k ++ lineIf q (lineOfEntry h k (entryOf e)) []
-    unfolding entryLines
-    before-turn =
-        let here : drop k (entriesIn form t) ≡ entryOf e ∷ drop (k + 1) (entriesIn form t) = entries-here form t k (rw (← en) l) ∙ ap (_∷ drop (k + 1) (entriesIn form t)) (sym ee) in
-        let more : take (k + 1) (entriesIn form t) ≡ take k (entriesIn form t) ++ entryOf e ∷ [] = take-add k 1 (entriesIn form t) ∙ rw here in
-        let c : 0 + length (take k (entriesIn form t)) ≡ k = omega (arith, taken (rw (← en) (omega arith))) in
-        ap (entryLines d h 0) more ∙ lines-append d h 0 (take k (entriesIn form t)) (entryOf e ∷ []) ∙ rw (c, eq)
 
 -- what answers the needs of `take_place`
 module _ (c : Count) (out : List ℕ) (entry : ℕ) (p : Placed) where
@@ -226,42 +187,49 @@ pub ruleset placings = (placed-turn, placed-out)
 
 -- The loop: the lines before entry k are numbered
 
-pub record Progress (d : Dictionary) (indexed : Bool) (form : Form) (h : Bytes) (t out₀ out : List ℕ) (ms₀ ms ns₀ ns : Bytes) (c : Count) (k : ℕ) : Type 0 where
+pub record Progress (d : Dictionary) (indexed : Bool) (form : Form) (h : Bytes) (t out₀ out ids₀ ids ns₀ ns : List ℕ) (c : Count) (k : ℕ) : Type 0 where
   pub size : length out ≡ length out₀
-  pub ids-size : length ms ≡ length ms₀
+  pub ids-size : length ids ≡ length ids₀
   pub numbers-size : length ns ≡ length ns₀
   pub few : c .pairs ≤ k
   pub due : c .next ≤ k + 1
-  pub is : Uniform indexed (tableLines d form h t) → Going d indexed (tableLines d form h t) (before d form h t k) (left d form h t k) out₀ out ms ns (c .pairs) (c .next)
+  pub ids-held : HeldAt true isNamed idSlot d form h t k ids
+  pub numbers-held : HeldAt indexed isNumbered numberSlot d form h t k ns
+  pub is : Uniform indexed (tableLines d form h t) → Going d indexed (tableLines d form h t) (linesBefore d form h t k) (left d form h t k) out₀ out (c .pairs) (c .next)
+
+pub stands-here : (d : Dictionary) (form : Form) (t : List ℕ) (k : ℕ) {n : ℕ} → n ≡ room form t → k < n → {e : CodeEntry} → entryOf e ≡ entryIn form t k → {q : Bool} → q ≡ holds d (e .kind) → q ≡ true
+    → StandsAt d form t k e
+stands-here d form t k en l ee eq f = record { inside = rw (← en) l; held = sym eq ∙ f; is = ee }
 
 first-small : (d : Dictionary) → firstNumber d ≤ 1
 first-small Strings = omega arith
 first-small Contigs = omega arith
 
-pub progress-start : (d : Dictionary) (indexed : Bool) (form : Form) (h : Bytes) (t out : List ℕ) (ms ns : Bytes) {next : ℕ} → next ≡ firstNumber d
-    → Progress d indexed form h t out out ms ms ns ns (record { pairs = 0; next = next }) 0
+pub progress-start : (d : Dictionary) (indexed : Bool) (form : Form) (h : Bytes) (t out : List ℕ) {ids ns : List ℕ} → AllOpen ids → AllOpen ns → {next : ℕ} → next ≡ firstNumber d
+    → Progress d indexed form h t out out ids ids ns ns (record { pairs = 0; next = next }) 0
 unfolding entryLines isIn pairs
-progress-start d indexed form h t out ms ns e = record {
+progress-start d indexed form h t out oi on e = record {
   size = refl;
   ids-size = refl;
   numbers-size = refl;
   few = omega arith;
   due = omega (arith, first-small d);
+  ids-held = held-start isNamed idSlot d form h t oi;
+  numbers-held = held-start isNumbered numberSlot d form h t on;
   is = λ u. record {
-    marked = λ x i. both i refl;
     counted = omega arith;
     written = λ r. refl;
-    mode = rw e (mode-start indexed d (tableLines d form h t) ns);
+    mode = rw e (mode-start indexed d (tableLines d form h t));
   };
 }
 
-module _ {d : Dictionary} {indexed : Bool} {form : Form} {h : Bytes} {t out₀ out : List ℕ} {ms₀ ms ns₀ ns : Bytes} {c : Count} {k : ℕ} (g : Progress d indexed form h t out₀ out ms₀ ms ns₀ ns c k)
+module _ {d : Dictionary} {indexed : Bool} {form : Form} {h : Bytes} {t out₀ out ids₀ ids ns₀ ns : List ℕ} {c : Count} {k : ℕ} (g : Progress d indexed form h t out₀ out ids₀ ids ns₀ ns c k)
     {n : ℕ} (en : n ≡ room form t) where
   abbrev ls : List Line
   ls = tableLines d form h t
 
-  abbrev Goes : List Line → List Line → List ℕ → Bytes → Bytes → ℕ → ℕ → Type 0
-  Goes bs rs o ms′ ns′ m′ next′ = Going d indexed ls bs rs out₀ o ms′ ns′ m′ next′
+  abbrev Goes : List Line → List Line → List ℕ → ℕ → ℕ → Type 0
+  Goes bs rs o m′ next′ = Going d indexed ls bs rs out₀ o m′ next′
 
   pub progress-end : n ≤ k → NumbersLines d indexed ls out₀ (numbering.Pairs (c .pairs)) out
   unfolding numberingOf firstLines pairWords
@@ -269,10 +237,10 @@ module _ {d : Dictionary} {indexed : Bool} {form : Form} {h : Bytes} {t out₀ o
       let e = left-end d form h t k en l in
       record {
         is = λ u.
-            let x = subst (λ (rs : List Line). Goes (before d form h t k) rs out ms ns (c .pairs) (c .next)) e (g .is u) in
+            let x = subst (λ (rs : List Line). Goes (linesBefore d form h t k) rs out (c .pairs) (c .next)) e (g .is u) in
             let m : length (firstLines [] ls) ≡ c .pairs = omega (arith, x .counted) in
-            rw (mode-end indexed d ls (before d form h t k) ns (c .next) u (x .mode), m);
-        output = λ u f r. sym (subst (λ (rs : List Line). Goes (before d form h t k) rs out ms ns (c .pairs) (c .next)) e (g .is u) .written r);
+            rw (mode-end indexed d ls (linesBefore d form h t k) (c .next) u (x .mode), m);
+        output = λ u f r. sym (subst (λ (rs : List Line). Goes (linesBefore d form h t k) rs out (c .pairs) (c .next)) e (g .is u) .written r);
       }
 
   module _ (l : k < n) where
@@ -280,54 +248,52 @@ module _ {d : Dictionary} {indexed : Bool} {form : Form} {h : Bytes} {t out₀ o
     counts-few small = let r = room-small form t in record { pairs-small = omega (arith, g .few, en); next-small = omega (arith, g .due, en) }
 
     module _ {e : CodeEntry} (ee : entryOf e ≡ entryIn form t k) {q : Bool} (eq : q ≡ holds d (e .kind)) where
-      pub progress-skip : q ≡ false → Progress d indexed form h t out₀ out ms₀ ms ns₀ ns c (k + 1)
+      pub progress-skip : q ≡ false → Progress d indexed form h t out₀ out ids₀ ids ns₀ ns c (k + 1)
       progress-skip f =
-          let b : before d form h t (k + 1) ≡ before d form h t k = before-turn d form h t k en l ee eq ∙ rw f (append-nil (before d form h t k)) in
+          let b : linesBefore d form h t (k + 1) ≡ linesBefore d form h t k = before-skip d form h t k (rw (← en) l) ee eq f in
           record {
             size = g .size;
             ids-size = g .ids-size;
             numbers-size = g .numbers-size;
             few = omega (arith, g .few);
             due = omega (arith, g .due);
+            ids-held = held-skip b (g .ids-held);
+            numbers-held = held-skip b (g .numbers-held);
             is = λ u. rw (b, ← left-skip d form h t k en l ee eq f) (g .is u);
           }
 
-      module _ (f : q ≡ true) {ahead : List ℕ} (ea : ahead ≡ firstEntries form t k) where
+      module _ (f : q ≡ true) where
         abbrev line : Line
         line = lineOfEntry h k (entryOf e)
 
         abbrev placed : Placed
-        placed = placeAt indexed d form h ahead ms ns e
+        placed = placeAt indexed d form h t k e
 
-        before-more : before d form h t (k + 1) ≡ before d form h t k ++ line ∷ []
-        before-more = before-turn d form h t k en l ee eq ∙ rw f
+        before-more : linesBefore d form h t (k + 1) ≡ linesBefore d form h t k ++ line ∷ []
+        before-more = before-take d form h t k (rw (← en) l) ee eq f
 
         left-is : left d form h t k ≡ line ∷ left d form h t (k + 1)
         left-is = left-take d form h t k en l ee eq f
 
         module _ (u : Uniform indexed ls) where
-          going : Goes (before d form h t k) (line ∷ left d form h t (k + 1)) out ms ns (c .pairs) (c .next)
-          going = subst (λ (rs : List Line). Goes (before d form h t k) rs out ms ns (c .pairs) (c .next)) left-is (g .is u)
+          going : Goes (linesBefore d form h t k) (line ∷ left d form h t (k + 1)) out (c .pairs) (c .next)
+          going = subst (λ (rs : List Line). Goes (linesBefore d form h t k) rs out (c .pairs) (c .next)) left-is (g .is u)
 
-          ahead-is : tableLines d form h ahead ≡ before d form h t k
-          ahead-is = ap (entryLines d h 0) (ap (entriesIn form) ea ∙ first-entries form t k)
-
-          split : ls ≡ before d form h t k ++ line ∷ left d form h t (k + 1)
+          split : ls ≡ linesBefore d form h t k ++ line ∷ left d form h t (k + 1)
           split = split-at d form h t k (rw (← en) (omega arith)) ∙ rw left-is
 
-          told : VerdictIs indexed d ls (before d form h t k) line (left d form h t (k + 1)) (metBy indexed ns (idxAt h e)) (c .next) placed
-          told =
-              let p : placed ≡ placeBy indexed d (idAt h e) (idxAt h e) (idxNamed (idAt h e) (before d form h t k)) (isTaken ns (before d form h t k))
-              = rw (ahead-is, found-named ms (idAt h e) (before d form h t k) (going .marked)) in
-              rw p (verdict d ls (before d form h t k) line (left d form h t (k + 1)) indexed u split ns (c .next) (going .mode))
+          told : VerdictIs indexed d ls (linesBefore d form h t k) line (left d form h t (k + 1)) (c .next) placed
+          told = verdict d ls (linesBefore d form h t k) line (left d form h t (k + 1)) indexed u split (c .next) (going .mode)
 
         -- what the turn leaves, by the line's place
-        abbrev Leaves : Placed → Turn → List ℕ → Type 0
-        Leaves p (turn.Next c′) o = Progress d indexed form h t out₀ o ms₀ (markTwice ms (idAt h e)) ns₀ (metBy indexed ns (idxAt h e)) c′ (k + 1)
-        Leaves p turn.Clash o = NumbersLines d indexed ls out₀ numbering.Clash o
+        abbrev Leaves : List ℕ → List ℕ → Placed → Turn → List ℕ → Type 0
+        Leaves ids′ ns′ p (turn.Next c′) o = Progress d indexed form h t out₀ o ids₀ ids′ ns₀ ns′ c′ (k + 1)
+        Leaves ids′ ns′ p turn.Clash o = NumbersLines d indexed ls out₀ numbering.Clash o
 
-        module _ (ids-kept : length (markTwice ms (idAt h e)) ≡ length ms) (numbers-kept : length (metBy indexed ns (idxAt h e)) ≡ length ns) where
-          leaves : (p : Placed) → placed ≡ p → Leaves p (turnOf c p) (turnOut out k c p)
+        -- with the slots that the code was left with
+        module _ {ids′ : List ℕ} (hi : HeldAt true isNamed idSlot d form h t (k + 1) ids′) (ids-kept : length ids′ ≡ length ids)
+            {ns′ : List ℕ} (hn : HeldAt indexed isNumbered numberSlot d form h t (k + 1) ns′) (numbers-kept : length ns′ ≡ length ns) where
+          leaves : (p : Placed) → placed ≡ p → Leaves ids′ ns′ p (turnOf c p) (turnOut out k c p)
           unfolding numberingOf
           leaves (Given x) i = record {
             size = put-length out (c .pairs) k x ∙ g .size;
@@ -335,7 +301,9 @@ module _ {d : Dictionary} {indexed : Bool} {form : Form} {h : Bytes} {t out₀ o
             numbers-size = numbers-kept ∙ g .numbers-size;
             few = omega (arith, g .few);
             due = omega (arith, g .due);
-            is = λ w. let v = rw i at (told w) in rw before-more (going-first line (going w) (metBy indexed ns (idxAt h e)) (c .next) (v .2) (v .0) (v .1) (g .size));
+            ids-held = hi;
+            numbers-held = hn;
+            is = λ w. let v = rw i at (told w) in rw before-more (going-first line (going w) (c .next) (v .2) (v .0) (v .1) (g .size));
           }
           leaves Due i = record {
             size = put-length out (c .pairs) k (c .next) ∙ g .size;
@@ -343,7 +311,9 @@ module _ {d : Dictionary} {indexed : Bool} {form : Form} {h : Bytes} {t out₀ o
             numbers-size = numbers-kept ∙ g .numbers-size;
             few = omega (arith, g .few);
             due = omega (arith, g .due);
-            is = λ w. let v = rw i at (told w) in rw before-more (going-first line (going w) (metBy indexed ns (idxAt h e)) (c .next + 1) (v .2) (v .0) (v .1) (g .size));
+            ids-held = hi;
+            numbers-held = hn;
+            is = λ w. let v = rw i at (told w) in rw before-more (going-first line (going w) (c .next + 1) (v .2) (v .0) (v .1) (g .size));
           }
           leaves Again i = record {
             size = g .size;
@@ -351,20 +321,21 @@ module _ {d : Dictionary} {indexed : Bool} {form : Form} {h : Bytes} {t out₀ o
             numbers-size = numbers-kept ∙ g .numbers-size;
             few = omega (arith, g .few);
             due = omega (arith, g .due);
-            is = λ w. let v = rw i at (told w) in rw before-more (going-again line (going w) (metBy indexed ns (idxAt h e)) (c .next) (v .1) (v .0));
+            ids-held = hi;
+            numbers-held = hn;
+            is = λ w. let v = rw i at (told w) in rw before-more (going-again line (going w) (c .next) (v .1) (v .0));
           }
           leaves Clash i = record { is = λ w. let v = rw i at (told w) in rw v; output = λ w z. let v = rw i at (told w) in absurd (true≢false (sym v ∙ z)) }
 
-        -- r, o, ms′ and ns′ are what the code was left with
-        module _ {r : Turn} (er : r ≡ turnOf c placed) {o : List ℕ} (eo : o ≡ turnOut out k c placed) {ms′ : Bytes} (em : ms′ ≡ markTwice ms (idAt h e)) (lm : length ms′ ≡ length ms)
-            {ns′ : Bytes} (es : ns′ ≡ metBy indexed ns (idxAt h e)) (ln : length ns′ ≡ length ns) where
-          left-with : Leaves placed r o
-          left-with = rw (er, eo) (leaves (rw em at lm) (rw es at ln) placed refl)
+          -- r and o are what it was left with
+          module _ {r : Turn} (er : r ≡ turnOf c placed) {o : List ℕ} (eo : o ≡ turnOut out k c placed) where
+            left-with : Leaves ids′ ns′ placed r o
+            left-with = rw (er, eo) (leaves placed refl)
 
-          pub progress-clash : r ≡ turn.Clash → NumbersLines d indexed ls out₀ numbering.Clash o
-          progress-clash i = rw i at left-with
+            pub progress-clash : r ≡ turn.Clash → NumbersLines d indexed ls out₀ numbering.Clash o
+            progress-clash i = rw i at left-with
 
-          pub progress-next : {c′ : Count} → r ≡ turn.Next c′ → Progress d indexed form h t out₀ o ms₀ ms′ ns₀ ns′ c′ (k + 1)
-          progress-next i = rw (em, es) (rw i at left-with)
+            pub progress-next : {c′ : Count} → r ≡ turn.Next c′ → Progress d indexed form h t out₀ o ids₀ ids′ ns₀ ns′ c′ (k + 1)
+            progress-next i = rw i at left-with
 
-pub ruleset progresses = (progress-start, progress-end, counts-few, progress-skip, progress-clash, progress-next)
+pub ruleset progresses = (progress-start, progress-end, counts-few, progress-skip, stands-here, progress-clash, progress-next)

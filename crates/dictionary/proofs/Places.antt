@@ -1,24 +1,22 @@
 -- Searches among the lines before, and what they answer. Assumes nothing.
 use Prim.Native.Nat.{ℕ, _+_, _<_, _≤_}
 use mathlib.Core.Path.{_≡_, refl, sym, ap, _∙_}
-use mathlib.Core.Bool.{Bool, true, false, not, _||_, _&&_, or-false}
+use mathlib.Core.Bool.{Bool, true, false, not, _||_, or-false}
 use mathlib.Core.List.{List}
 use mathlib.Core.Option.{Option, none, some}
 use lib.Dec.{eqb}
 use Rattle.values.specs.Bytes.{Bytes, ascii, same}
 use Rattle.values.specs.Value.{meaning}
-use Rattle.values.specs.Marks.{isMarked, mark}
-use Rattle.values.proofs.Tests.{not-true, not-false}
 use Rattle.values.proofs.Sames.{same-sym}
 use Rattle.rules.specs.Known.{isIn}
 use Rattle.rules.specs.Shown.{idIn}
 use Rattle.entries.specs.declared.entry.Entry.{Entry as CodeEntry}
 use Rattle.entries.specs.Values.{entryOf}
 use Rattle.entries.specs.Tables.{room, entryIn}
-use Rattle.dictionary.specs.Dictionary.{Line, anyOf, impliedNumbers, clashes, differ}
-use Rattle.dictionary.specs.Numbers.{isMet, metAlso}
-use Rattle.dictionary.specs.Lines.{holds, idxMeant, isImplied, tableLines, idAt, idxAt}
-use Rattle.dictionary.specs.Places.{idxNamed, earlierMeant, isIdx, numberSeen, markTwice, idxFound, isTaken, metIdx, metBy, placeBeside, indexedPlace, countedPlace, placeBy}
+use Rattle.dictionary.specs.Dictionary.{anyOf, impliedNumbers, clashes, differ}
+use Rattle.dictionary.specs.Lines.{holds, idxMeant, isImplied, tableLines, idAt, idxAt, isIdx}
+use Rattle.dictionary.specs.Slots.{idxFirst}
+use Rattle.dictionary.specs.Places.{idxNamed, earlierMeant, numberSeen, placeBeside, indexedPlace, countedPlace, placeBy}
 use Rattle.dictionary.specs.declared.line.Dictionary.{Dictionary}
 use Rattle.dictionary.specs.declared.line.Dictionary.the-variants.{Strings, Contigs}
 use Rattle.dictionary.specs.declared.line.IdxRead.{IdxRead}
@@ -40,7 +38,7 @@ find-start = record { still = refl }
 
 module _ {d : Dictionary} {form : Form} {h : Bytes} {t : List ℕ} {y : CodeEntry} {k : ℕ} (g : Finding d form h t y k) {n : ℕ} (en : n ≡ room form t) where
   pub find-end : n ≤ k → none ≡ idxNamed (idAt h y) (tableLines d form h t)
-  unfolding idxNamed
+  unfolding idxFirst
   find-end l = sym (g .still ∙ ap (idxNamed (idAt h y)) (left-end d form h t k en l))
 
   module _ (l : k < n) {e : CodeEntry} (ee : entryOf e ≡ entryIn form t k) {q : Bool} (eq : q ≡ holds d (e .kind)) where
@@ -50,8 +48,8 @@ module _ {d : Dictionary} {form : Form} {h : Bytes} {t : List ℕ} {y : CodeEntr
     module _ (f : q ≡ true) {p : Bytes} (ep : p ≡ idIn h (entryOf e)) {i : Bytes} (ei : i ≡ idIn h (entryOf y))
         {s : Bool} (es : s ≡ same (meaning (e .quoted) p) (meaning (y .quoted) i)) where
       find-turn : idxNamed (idAt h y) (tableLines d form h t) ≡ elim s [ true ↦ some (idxAt h e) | false ↦ idxNamed (idAt h y) (left d form h t (k + 1)) ]
-      unfolding idxNamed
-      find-turn = let i : same (idAt h e) (idAt h y) ≡ s = sym (es ∙ rw (ep, ei)) in g .still ∙ ap (idxNamed (idAt h y)) (left-take d form h t k en l ee eq f) ∙ rw (idxNamed, i)
+      unfolding idxFirst
+      find-turn = let i : same (idAt h e) (idAt h y) ≡ s = sym (es ∙ rw (ep, ei)) in g .still ∙ ap (idxNamed (idAt h y)) (left-take d form h t k en l ee eq f) ∙ rw (idxFirst, i)
 
       pub find-other : s ≡ false → Finding d form h t y (k + 1)
       find-other u = record { still = find-turn ∙ rw u }
@@ -101,29 +99,6 @@ module _ {d : Dictionary} {form : Form} {h : Bytes} {t : List ℕ} {m k : ℕ} (
 
 pub ruleset counts = (count-start, count-end, count-skip, count-other, count-here)
 
--- what answers the needs of `find_earlier`
-module _ (h ms : Bytes) (x : CodeEntry) {p : Bytes} (ep : p ≡ idIn h (entryOf x)) {ns : Bytes} (en : ns ≡ mark ms 0 (meaning (x .quoted) p)) where
-  pub twice-marked : {os : Bytes} → os ≡ mark ns 1 (meaning (x .quoted) p) → os ≡ markTwice ms (idAt h x)
-  twice-marked eo = eo ∙ rw (en, ep)
-
-  module _ (ls : List Line) {q : Bool} (eq : q ≡ isMarked ms 0 (meaning (x .quoted) p)) {s : Bool} (es : s ≡ isMarked ns 1 (meaning (x .quoted) p)) where
-    tested : (isMarked ms 0 (idAt h x) && isMarked (mark ms 0 (idAt h x)) 1 (idAt h x)) ≡ (q && s)
-    tested = rw (eq, es, en, ep)
-
-    pub unmet : not q ≡ true → none ≡ idxFound ms (idAt h x) ls
-    unfolding idxFound
-    unmet f = rw (idxFound, tested, not-true q f)
-
-    pub unmet-again : not q ≡ false → not s ≡ true → none ≡ idxFound ms (idAt h x) ls
-    unfolding idxFound
-    unmet-again f g = rw (idxFound, tested, not-false q f, not-true s g)
-
-    pub looked-for : not q ≡ false → not s ≡ false → {r : Option (Option ℕ)} → r ≡ idxNamed (idAt h x) ls → r ≡ idxFound ms (idAt h x) ls
-    unfolding idxFound
-    looked-for f g er = er ∙ rw (idxFound, tested, not-false q f, not-false s g)
-
-pub ruleset earliers = (twice-marked, unmet, unmet-again, looked-for)
-
 -- what answers the needs of `clashes_implied`
 module _ (h : Bytes) (d : Dictionary) (e : CodeEntry) (n : ℕ) where
   pub contig-free : d ≡ Contigs → false ≡ anyOf (clashes (idAt h e, n)) (impliedNumbers d)
@@ -148,47 +123,36 @@ module _ (h : Bytes) (d : Dictionary) (e : CodeEntry) (n : ℕ) where
 pub ruleset implieds = (contig-free, pass-other, zero-other)
 
 -- what answers the needs of `place_beside`
-module _ (h : Bytes) (n : ℕ) (met : Bool) (seen : Bool) {o : Earlier} where
+module _ (h : Bytes) (n : ℕ) (taken : Bool) {o : Earlier} where
   module _ {x : CodeEntry} (eo : o ≡ earlier.Found x) {q : Bool} (eq : q ≡ isIdx n (idxAt h x)) where
-    pub placed-again : q ≡ true → Again ≡ placeBeside n (earlierMeant h o) (met && seen)
+    pub placed-again : q ≡ true → Again ≡ placeBeside n (earlierMeant h o) taken
     placed-again f = rw (eo, ← eq, f)
 
-    pub placed-otherwise : q ≡ false → Clash ≡ placeBeside n (earlierMeant h o) (met && seen)
+    pub placed-otherwise : q ≡ false → Clash ≡ placeBeside n (earlierMeant h o) taken
     placed-otherwise f = rw (eo, ← eq, f)
 
   module _ (eo : o ≡ earlier.Missing) where
-    pub placed-unmet : not met ≡ true → Numbered n ≡ placeBeside n (earlierMeant h o) (met && seen)
-    placed-unmet f = rw (eo, not-true met f)
+    pub placed-taken : taken ≡ true → Clash ≡ placeBeside n (earlierMeant h o) taken
+    placed-taken f = rw (eo, f)
 
-    pub placed-taken : not met ≡ false → {q : Bool} → q ≡ seen → q ≡ true → Clash ≡ placeBeside n (earlierMeant h o) (met && seen)
-    placed-taken f eq g = rw (eo, not-false met f, ← eq, g)
+    pub placed-free : taken ≡ false → Numbered n ≡ placeBeside n (earlierMeant h o) taken
+    placed-free f = rw (eo, f)
 
-    pub placed-free : not met ≡ false → {q : Bool} → q ≡ seen → q ≡ false → Numbered n ≡ placeBeside n (earlierMeant h o) (met && seen)
-    placed-free f eq g = rw (eo, not-false met f, ← eq, g)
+pub ruleset besides = (placed-again, placed-otherwise, placed-taken, placed-free)
 
-pub ruleset besides = (placed-again, placed-otherwise, placed-unmet, placed-taken, placed-free)
-
--- what answers the needs of `place_indexed`
-module _ (h : Bytes) (d : Dictionary) (e : CodeEntry) (ns : Bytes) {r : IdxRead} (er : idxMeant r ≡ idxAt h e) where
+-- what answers the needs of `place_indexed`, but for the slots
+module _ (h : Bytes) (d : Dictionary) (e : CodeEntry) {r : IdxRead} (er : idxMeant r ≡ idxAt h e) where
   pub index-missing : r ≡ idx.Missing → (o : Option (Option ℕ)) (taken : ℕ → Bool) → Clash ≡ indexedPlace d (idAt h e) (idxAt h e) o taken
   index-missing q o taken = rw (← er, q)
 
-  pub none-marked : r ≡ idx.Missing → ns ≡ metIdx ns (idxAt h e)
-  none-marked q = rw (← er, q)
+  module _ {n : ℕ} (q : r ≡ idx.Idx n) (o : Option (Option ℕ)) (taken : ℕ → Bool) {c : Bool} (ec : c ≡ anyOf (clashes (idAt h e, n)) (impliedNumbers d)) where
+    pub index-implied : c ≡ true → Clash ≡ indexedPlace d (idAt h e) (idxAt h e) o taken
+    index-implied f = rw (← er, q, indexedPlace, ← ec, f)
 
-  module _ {n : ℕ} (q : r ≡ idx.Idx n) where
-    pub one-marked : {ms : Bytes} → ms ≡ metAlso ns n → ms ≡ metIdx ns (idxAt h e)
-    one-marked em = em ∙ rw (← er, q)
+    pub index-placed : c ≡ false → {met : Bool} → met ≡ taken n → {p : Placed} → p ≡ placeBeside n o met → p ≡ indexedPlace d (idAt h e) (idxAt h e) o taken
+    index-placed f em ep = ep ∙ rw (← er, q, indexedPlace, ← ec, f, em)
 
-    module _ (o : Option (Option ℕ)) (ls : List Line) {c : Bool} (ec : c ≡ anyOf (clashes (idAt h e, n)) (impliedNumbers d)) where
-      pub index-implied : c ≡ true → Clash ≡ indexedPlace d (idAt h e) (idxAt h e) o (isTaken ns ls)
-      index-implied f = rw (← er, q, indexedPlace, ← ec, f)
-
-      pub index-placed : c ≡ false → {met : Bool} → met ≡ isMet ns n → {p : Placed} → p ≡ placeBeside n o (met && numberSeen n ls) → p ≡ indexedPlace d (idAt h e) (idxAt h e) o (isTaken ns ls)
-      unfolding isTaken
-      index-placed f em ep = ep ∙ rw (← er, q, indexedPlace, ← ec, f, em)
-
-pub ruleset indexeds = (index-missing, none-marked, one-marked, index-implied, index-placed)
+pub ruleset indexeds = (index-missing, index-implied, index-placed)
 
 -- what answers the needs of `place_counted`
 module _ (h : Bytes) (i : Bool) {o : Earlier} where
@@ -213,11 +177,4 @@ module _ (d : Dictionary) (h : Bytes) (e : CodeEntry) (indexed : Bool) (o : Earl
   unfolding isImplied
   place-by-count f ep = ep ∙ rw (f, eo)
 
-module _ (indexed : Bool) (ns : Bytes) (i : Option ℕ) where
-  pub met-by-idx : indexed ≡ true → {ms : Bytes} → ms ≡ metIdx ns i → ms ≡ metBy indexed ns i
-  met-by-idx f em = em ∙ rw f
-
-  pub met-none : indexed ≡ false → ns ≡ metBy indexed ns i
-  met-none f = rw f
-
-pub ruleset lines = (place-by-idx, place-by-count, met-by-idx, met-none)
+pub ruleset lines = (place-by-idx, place-by-count)

@@ -4,18 +4,15 @@ use mathlib.Core.Path.{_≡_, refl, sym, ap, subst, _∙_}
 use mathlib.Core.Bool.{Bool, true, false, not, _||_, true≢false, false≢true, or-comm, or-false}
 use mathlib.Core.List.{List, [], _∷_, _++_, append-assoc, append-nil, map-append}
 use mathlib.Core.Option.{Option, none, some}
-use lib.Dec.{eqb}
 use lib.ListN.{length, length-append}
-use borrow.Author.Tests.{eqb-true}
 use Rattle.values.specs.Bytes.{Bytes, ascii, same}
 use Rattle.values.proofs.Tests.{pass, fail, test, or-l, or-r, or-on, not-false}
-use Rattle.values.proofs.Markings.{sure}
 use Rattle.rules.specs.Known.{isIn}
 use Rattle.rules.specs.Map.{isSome}
 use Rattle.rules.proofs.Alls.{in-append}
 use Rattle.dictionary.specs.Dictionary.{Line, carries, lacks, anyOf, implied, firstLines, idsOf, place, idNumber, Numbered, impliedNumbers, clashes, clashed, numberedLines, dictionaryClash}
-use Rattle.dictionary.specs.Numbers.{isMet, metAlso}
-use Rattle.dictionary.specs.Places.{idxNamed, isIdx, numberSeen, isTaken, metIdx, metBy, newPlace, againPlace, placeBeside, indexedPlace, countedPlace, placeBy}
+use Rattle.dictionary.specs.Places.{idxNamed, numberSeen, newPlace, againPlace, placeBeside, indexedPlace, countedPlace, placeBy}
+use Rattle.dictionary.specs.Lines.{isIdx}
 use Rattle.dictionary.specs.Pairs.{Uniform, firstNumber}
 use Rattle.dictionary.specs.declared.line.Dictionary.{Dictionary}
 use Rattle.dictionary.specs.declared.line.Dictionary.the-variants.{Strings, Contigs}
@@ -23,35 +20,33 @@ use Rattle.dictionary.specs.declared.place.Placed.{Placed}
 use Rattle.dictionary.specs.declared.place.Placed.the-variants.{Numbered as Given, Due, Again, Clash}
 use Rattle.dictionary.proofs.Firsts.{any-append, ids, first-new, first-old, first-ids, onto, in-onto, first-append, place-same, place-new}
 use Rattle.dictionary.proofs.Theorems.{placed-number, counted-free}
-use Rattle.dictionary.proofs.Meets.{met-own, met-kept}
 use Rattle.dictionary.proofs.Going.{named-none, named-some, Free, isPair, free-has, idx-number, clashes-new, named-pair, named-clash, Carrying}
 
 -- Where lines carry IDX: `book` are the numbers before
-pub record Indexed (d : Dictionary) (ls before left : List Line) (ns : Bytes) : Type 0 where
+pub record Indexed (d : Dictionary) (ls before left : List Line) : Type 0 where
   pub book : List Numbered
   pub alike : (t : Numbered → Bool) → anyOf t book ≡ anyOf t (numberedLines d ls before)
   pub free : Free book
-  pub met : (n : ℕ) → numberSeen n before ≡ true → isMet ns n ≡ true
   pub rest : dictionaryClash d ls ≡ clashed (book ++ impliedNumbers d) (numberedLines d ls left)
 
 -- where they don't, the next number is due
-abbrev pub Mode : Bool → Dictionary → List Line → List Line → List Line → Bytes → ℕ → Type 0
-Mode true d ls before left ns next = Indexed d ls before left ns
-Mode false d ls before left ns next = next ≡ length (idsOf d before)
+abbrev pub Mode : Bool → Dictionary → List Line → List Line → List Line → ℕ → Type 0
+Mode true d ls before left next = Indexed d ls before left
+Mode false d ls before left next = next ≡ length (idsOf d before)
 
--- what a place tells of the line l; the marks of numbers after it are ms
-abbrev pub VerdictIs : Bool → Dictionary → List Line → List Line → Line → List Line → Bytes → ℕ → Placed → Type 0
-VerdictIs i d ls before l left ms next (Given n) =
-    (isIn (l .id) (ids before) ≡ false) × (n ≡ idNumber d ls l) × Mode i d ls (before ++ l ∷ []) left ms next
-VerdictIs i d ls before l left ms next Due =
-    (isIn (l .id) (ids before) ≡ false) × (next ≡ idNumber d ls l) × Mode i d ls (before ++ l ∷ []) left ms (next + 1)
-VerdictIs i d ls before l left ms next Again = (isIn (l .id) (ids before) ≡ true) × Mode i d ls (before ++ l ∷ []) left ms next
-VerdictIs i d ls before l left ms next Clash = dictionaryClash d ls ≡ true
+-- what a place tells of the line l
+abbrev pub VerdictIs : Bool → Dictionary → List Line → List Line → Line → List Line → ℕ → Placed → Type 0
+VerdictIs i d ls before l left next (Given n) =
+    (isIn (l .id) (ids before) ≡ false) × (n ≡ idNumber d ls l) × Mode i d ls (before ++ l ∷ []) left next
+VerdictIs i d ls before l left next Due =
+    (isIn (l .id) (ids before) ≡ false) × (next ≡ idNumber d ls l) × Mode i d ls (before ++ l ∷ []) left (next + 1)
+VerdictIs i d ls before l left next Again = (isIn (l .id) (ids before) ≡ true) × Mode i d ls (before ++ l ∷ []) left next
+VerdictIs i d ls before l left next Clash = dictionaryClash d ls ≡ true
 
 module _ (d : Dictionary) (ls before : List Line) (l : Line) (left : List Line) where
   -- With IDX
 
-  module _ (ns : Bytes) (g : Indexed d ls before (l ∷ left) ns) {n : ℕ} (en : l .idx ≡ some n) where
+  module _ (g : Indexed d ls before (l ∷ left)) {n : ℕ} (en : l .idx ≡ some n) where
     abbrev p : Numbered
     p = (l .id, n)
 
@@ -68,7 +63,7 @@ module _ (d : Dictionary) (ls before : List Line) (l : Line) (left : List Line) 
     by-book : anyOf (clashes p) (numberedLines d ls before) ≡ true → dictionaryClash d ls ≡ true
     by-book h = opened ∙ rw (g .alike (clashes p) ∙ h)
 
-    onward : anyOf (clashes p) (impliedNumbers d) ≡ false → anyOf (clashes p) (g .book) ≡ false → Indexed d ls (before ++ l ∷ []) left (metIdx ns (l .idx))
+    onward : anyOf (clashes p) (impliedNumbers d) ≡ false → anyOf (clashes p) (g .book) ≡ false → Indexed d ls (before ++ l ∷ []) left
     unfolding anyOf
     onward h k = record {
       book = p ∷ g .book;
@@ -77,32 +72,23 @@ module _ (d : Dictionary) (ls before : List Line) (l : Line) (left : List Line) 
           = ap (anyOf t) (map-append (λ (m : Line). (m .id, idNumber d ls m)) before (l ∷ [])) ∙ any-append t (numberedLines d ls before) (numberedLines d ls (l ∷ [])) ∙ rw (p-is, or-false (t p)) in
           rw (g .alike t) (or-comm (t p) (anyOf t (numberedLines d ls before)) ∙ sym a);
       free = (k, g .free);
-      met = λ m s.
-          let a : numberSeen m (before ++ l ∷ []) ≡ numberSeen m before || eqb n m = any-append (λ (x : Line). isIdx m (x .idx)) before (l ∷ []) ∙ rw (en, or-false (eqb n m)) in
-          rw en (elim (test (numberSeen m before)) [
-            | pass e ↦ met-kept ns n m (g .met m e)
-            | fail e ↦
-                let b : eqb n m ≡ true = sym (a ∙ rw e) ∙ s in
-                subst (λ (y : ℕ). isMet (metAlso ns n) y ≡ true) (eqb-true n m b) (met-own ns n)
-          ]);
       rest = opened ∙ rw (h, k);
     }
 
     module _ (carry : Carrying d ls before) (next : ℕ) where
-      taken-is : isTaken ns before n ≡ numberSeen n before
-      unfolding isTaken
-      taken-is = sure (isMet ns n) (numberSeen n before) (g .met n)
+      abbrev taken : ℕ → Bool
+      taken m = numberSeen m before
 
       abbrev Tells : Placed → Type 0
-      Tells r = VerdictIs true d ls before l left (metIdx ns (l .idx)) next r
+      Tells r = VerdictIs true d ls before l left next r
 
-      beside-none : idxNamed (l .id) before ≡ none → anyOf (clashes p) (impliedNumbers d) ≡ false → Tells (newPlace n (isTaken ns before n))
+      beside-none : idxNamed (l .id) before ≡ none → anyOf (clashes p) (impliedNumbers d) ≡ false → Tells (newPlace n (taken n))
       beside-none e h =
           let out = named-none (l .id) before e in
           let c = clashes-new d ls (l .id) n before carry out in
           elim (test (numberSeen n before)) [
-            | pass s ↦ rw (taken-is ∙ s) (by-book (c ∙ s))
-            | fail s ↦ rw (taken-is ∙ s) (out, sym (idx-number d ls l en), onward h (g .alike (clashes p) ∙ c ∙ s))
+            | pass s ↦ rw s (by-book (c ∙ s))
+            | fail s ↦ rw s (out, sym (idx-number d ls l en), onward h (g .alike (clashes p) ∙ c ∙ s))
           ]
 
       beside-some : {m : Option ℕ} → idxNamed (l .id) before ≡ some m → anyOf (clashes p) (impliedNumbers d) ≡ false → Tells (againPlace (isIdx n m))
@@ -111,22 +97,22 @@ module _ (d : Dictionary) (ls before : List Line) (l : Line) (left : List Line) 
         | fail s ↦ rw s (by-book (named-clash d ls (l .id) n before carry e s))
       ]
 
-      beside : (o : Option (Option ℕ)) → idxNamed (l .id) before ≡ o → anyOf (clashes p) (impliedNumbers d) ≡ false → Tells (placeBeside n o (isTaken ns before n))
+      beside : (o : Option (Option ℕ)) → idxNamed (l .id) before ≡ o → anyOf (clashes p) (impliedNumbers d) ≡ false → Tells (placeBeside n o (taken n))
       beside none e h = beside-none e h
       beside (some m) e h = beside-some e h
 
-      pub indexed-tells : Tells (indexedPlace d (l .id) (l .idx) (idxNamed (l .id) before) (isTaken ns before))
+      pub indexed-tells : Tells (indexedPlace d (l .id) (l .idx) (idxNamed (l .id) before) taken)
       indexed-tells = elim (test (anyOf (clashes p) (impliedNumbers d))) [
         | pass h ↦
-            let i : indexedPlace d (l .id) (some n) (idxNamed (l .id) before) (isTaken ns before) ≡ Clash = rw (indexedPlace, h) in
+            let i : indexedPlace d (l .id) (some n) (idxNamed (l .id) before) taken ≡ Clash = rw (indexedPlace, h) in
             subst Tells (sym (place-is ∙ i)) (by-implied h)
         | fail h ↦
-            let i : indexedPlace d (l .id) (some n) (idxNamed (l .id) before) (isTaken ns before) ≡ placeBeside n (idxNamed (l .id) before) (isTaken ns before n) = rw (indexedPlace, h) in
+            let i : indexedPlace d (l .id) (some n) (idxNamed (l .id) before) taken ≡ placeBeside n (idxNamed (l .id) before) (taken n) = rw (indexedPlace, h) in
             subst Tells (sym (place-is ∙ i)) (beside (idxNamed (l .id) before) refl h)
       ]
         where
-          place-is : indexedPlace d (l .id) (l .idx) (idxNamed (l .id) before) (isTaken ns before) ≡ indexedPlace d (l .id) (some n) (idxNamed (l .id) before) (isTaken ns before)
-          place-is = ap (λ (o : Option ℕ). indexedPlace d (l .id) o (idxNamed (l .id) before) (isTaken ns before)) en
+          place-is : indexedPlace d (l .id) (l .idx) (idxNamed (l .id) before) taken ≡ indexedPlace d (l .id) (some n) (idxNamed (l .id) before) taken
+          place-is = ap (λ (o : Option ℕ). indexedPlace d (l .id) o (idxNamed (l .id) before) taken) en
 
   -- Without IDX
 
@@ -165,8 +151,8 @@ module _ (d : Dictionary) (ls before : List Line) (l : Line) (left : List Line) 
     number-zero : isIn (l .id) (implied d) ≡ true → idNumber d ls l ≡ 0
     number-zero h = placed-number d ls l bare ∙ zero-place d (ids (firstLines (implied d) ls)) h
 
-    module _ (ns : Bytes) {next : ℕ} (en : next ≡ length (idsOf d before)) where
-      counted-by : (o : Option (Option ℕ)) → idxNamed (l .id) before ≡ o → VerdictIs false d ls before l left ns next (countedPlace (isIn (l .id) (implied d)) o)
+    module _ {next : ℕ} (en : next ≡ length (idsOf d before)) where
+      counted-by : (o : Option (Option ℕ)) → idxNamed (l .id) before ≡ o → VerdictIs false d ls before l left next (countedPlace (isIn (l .id) (implied d)) o)
       unfolding firstLines
       counted-by (some m) e = let i = named-some (l .id) before e in (i, en ∙ sym (ap length (ids-kept (rw i))))
       counted-by none e = let out = named-none (l .id) before e in elim (test (isIn (l .id) (implied d))) [
@@ -177,7 +163,7 @@ module _ (d : Dictionary) (ls before : List Line) (l : Line) (left : List Line) 
           one-more : length (idsOf d (before ++ l ∷ [])) ≡ length (idsOf d before ++ l .id ∷ ids (firstLines (l .id ∷ onto before (implied d)) [])) → next + 1 ≡ length (idsOf d (before ++ l ∷ []))
           one-more q = sym (q ∙ length-append (idsOf d before) (l .id ∷ []) ∙ ap (_+ 1) (sym en))
 
-      pub counted-tells : VerdictIs false d ls before l left ns next (countedPlace (isIn (l .id) (implied d)) (idxNamed (l .id) before))
+      pub counted-tells : VerdictIs false d ls before l left next (countedPlace (isIn (l .id) (implied d)) (idxNamed (l .id) before))
       counted-tells = counted-by (idxNamed (l .id) before) refl
 
   -- Either way
@@ -201,13 +187,13 @@ module _ (d : Dictionary) (ls before : List Line) (l : Line) (left : List Line) 
   no-idx none e h = e
   no-idx (some n) e h = absurd (true≢false h)
 
-  pub verdict : (indexed : Bool) → Uniform indexed ls → ls ≡ before ++ l ∷ left → (ns : Bytes) (next : ℕ) → Mode indexed d ls before (l ∷ left) ns next
-      → VerdictIs indexed d ls before l left (metBy indexed ns (l .idx)) next (placeBy indexed d (l .id) (l .idx) (idxNamed (l .id) before) (isTaken ns before))
-  verdict true u e ns next g =
+  pub verdict : (indexed : Bool) → Uniform indexed ls → ls ≡ before ++ l ∷ left → (next : ℕ) → Mode indexed d ls before (l ∷ left) next
+      → VerdictIs indexed d ls before l left next (placeBy indexed d (l .id) (l .idx) (idxNamed (l .id) before) (λ (m : ℕ). numberSeen m before))
+  verdict true u e next g =
       let a = uniform-here lacks e u in
       let i = the-idx (l .idx) refl (a .1) in
-      indexed-tells ns g (i .1) (lacking-none before (a .0)) next
-  verdict false u e ns next g = let a = uniform-here carries e u in counted-tells e (no-idx (l .idx) refl (a .1)) ns g
+      indexed-tells g (i .1) (lacking-none before (a .0)) next
+  verdict false u e next g = let a = uniform-here carries e u in counted-tells e (no-idx (l .idx) refl (a .1)) g
 
 -- Nothing is known of the lines before where there are none
 
@@ -215,13 +201,13 @@ first-number : (d : Dictionary) → firstNumber d ≡ length (implied d ++ [])
 first-number Strings = refl
 first-number Contigs = refl
 
-pub mode-start : (indexed : Bool) (d : Dictionary) (ls : List Line) (ns : Bytes) → Mode indexed d ls [] ls ns (firstNumber d)
+pub mode-start : (indexed : Bool) (d : Dictionary) (ls : List Line) → Mode indexed d ls [] ls (firstNumber d)
 unfolding anyOf dictionaryClash firstLines
-mode-start true d ls ns = record { book = []; alike = λ t. refl; free = tt; met = λ n s. absurd (false≢true s); rest = refl }
-mode-start false d ls ns = first-number d
+mode-start true d ls = record { book = []; alike = λ t. refl; free = tt; rest = refl }
+mode-start false d ls = first-number d
 
 -- where no line is left there is no clash
-pub mode-end : (indexed : Bool) (d : Dictionary) (ls before : List Line) (ns : Bytes) (next : ℕ) → Uniform indexed ls → Mode indexed d ls before [] ns next → dictionaryClash d ls ≡ false
+pub mode-end : (indexed : Bool) (d : Dictionary) (ls before : List Line) (next : ℕ) → Uniform indexed ls → Mode indexed d ls before [] next → dictionaryClash d ls ≡ false
 unfolding clashed
-mode-end true d ls before ns next u g = g .rest
-mode-end false d ls before ns next u g = counted-free d ls u
+mode-end true d ls before next u g = g .rest
+mode-end false d ls before next u g = counted-free d ls u

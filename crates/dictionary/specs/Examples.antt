@@ -3,11 +3,13 @@ use Prim.Native.Nat.{ℕ}
 use Prim.Native.String.{String}
 use mathlib.Core.Path.{_≡_, refl}
 use mathlib.Core.List.{List, [], _∷_, _++_, map}
-use mathlib.Core.Option.{none}
+use mathlib.Core.Option.{none, some}
 use Rattle.values.specs.Bytes.{Bytes, ascii}
+use Rattle.values.specs.Hash.{wideStep, wideFrom}
 use Rattle.rules.specs.Sizes.{limits}
 use Rattle.rules.specs.Examples.{opened}
-use Rattle.dictionary.specs.Dictionary.{linesOf, anyOf, firstLines, place, idNumber, clashed, dictionaryClash, pairWords, pairs, refusal, numbering, dictionaries}
+use Rattle.dictionary.specs.Dictionary.{Line, linesOf, anyOf, firstLines, place, idNumber, clashed, dictionaryClash, pairWords, pairs, refusal, numbering, dictionaries}
+use Rattle.dictionary.specs.Slots.{idxFirst, isNamed, isNumbered, slotBy, idSlot, numberSlot}
 
 -- Lines, by their ID and what stands after the required fields
 
@@ -87,3 +89,21 @@ cases =
 computed : map (λ (c : Case × Answer). answer (c .0)) cases ≡ map (λ (c : Case × Answer). c .1) cases
 unfolding numbered
 computed = refl
+
+-- of 1,024 slots: numbers below a quarter of them have their own, and numbers that are 65,536 apart do not share one
+number-slots : map (numberSlot 1024) (0 ∷ 255 ∷ 256 ∷ 65536 ∷ 131072 ∷ []) ≡ (0 ∷ 255 ∷ 446 ∷ 926 ∷ 277 ∷ [])
+unfolding slotBy numberSlot wideStep
+number-slots = refl
+
+id-slots : (idSlot 1024 (ascii "DP") ∷ idSlot 1024 (ascii "AF") ∷ idSlot 0 (ascii "DP") ∷ []) ≡ (863 ∷ 29 ∷ 0 ∷ [])
+unfolding slotBy idSlot wideStep wideFrom
+id-slots = refl
+
+-- the IDX of the first line of an ID, or of a number
+abbrev pub lines : List Line
+lines = record { entry = 1; id = ascii "q"; idx = some 7 } ∷ record { entry = 2; id = ascii "DP"; idx = some 2 } ∷ record { entry = 4; id = ascii "q"; idx = some 2 } ∷ []
+
+firsts : (idxFirst (isNamed (ascii "q")) lines ∷ idxFirst (isNamed (ascii "r")) lines ∷ idxFirst (isNumbered 2) lines ∷ idxFirst (isNumbered 3) lines ∷ [])
+    ≡ (some (some 7) ∷ none ∷ some (some 2) ∷ none ∷ [])
+unfolding opened idxFirst
+firsts = refl

@@ -1,7 +1,7 @@
 pub mod Dictionary
 pub mod Examples
 pub mod Lines
-pub mod Numbers
+pub mod Slots
 pub mod Places
 pub mod Pairs
 pub mod Answers

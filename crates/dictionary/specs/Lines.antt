@@ -4,6 +4,7 @@ use mathlib.Core.Bool.{Bool, true, false, _&&_}
 use mathlib.Core.List.{List, [], _∷_}
 use mathlib.Core.Option.{Option, none, some}
 use lib.Dec.{eqb, leb}
+use lib.ListN.{take}
 use Rattle.values.specs.Bytes.{Bytes, ascii}
 use Rattle.rules.specs.Known.{isIn}
 use Rattle.rules.specs.Entry.{Entry}
@@ -57,6 +58,14 @@ idAt h e = idMeaning h (entryOf e)
 
 abbrev pub idxAt : Bytes → CodeEntry → Option ℕ
 idxAt h e = entryIdx h (entryOf e)
+
+abbrev pub isIdx : ℕ → Option ℕ → Bool
+isIdx n none = false
+isIdx n (some m) = eqb m n
+
+-- the lines before entry k
+abbrev pub linesBefore : Dictionary → Form → Bytes → List ℕ → ℕ → List Line
+linesBefore d form h t k = entryLines d h 0 (take k (entriesIn form t))
 
 -- both dictionaries of the entries in a table
 abbrev pub stringLines : Form → Bytes → List ℕ → List Line

@@ -1,17 +1,15 @@
 -- The number of a line beside the lines before it, as the code works it out. Assumes nothing.
 use Prim.Native.Nat.{ℕ}
-use mathlib.Core.Bool.{Bool, true, false, _&&_}
-use mathlib.Core.List.{List, [], _∷_}
+use mathlib.Core.Bool.{Bool, true, false}
+use mathlib.Core.List.{List}
 use mathlib.Core.Option.{Option, none, some}
-use lib.Dec.{eqb}
-use Rattle.values.specs.Bytes.{Bytes, same}
-use Rattle.values.specs.Marks.{isMarked, mark}
+use Rattle.values.specs.Bytes.{Bytes}
 use Rattle.rules.specs.Known.{isIn}
 use Rattle.entries.specs.declared.form.Form.{Form}
 use Rattle.dictionary.specs.Dictionary.{Line, anyOf, implied, impliedNumbers, clashes}
-use Rattle.dictionary.specs.Numbers.{isMet, metAlso}
 use Rattle.entries.specs.declared.entry.Entry.{Entry as CodeEntry}
-use Rattle.dictionary.specs.Lines.{tableLines, idAt, idxAt}
+use Rattle.dictionary.specs.Lines.{linesBefore, idAt, idxAt, isIdx}
+use Rattle.dictionary.specs.Slots.{idxFirst, isNamed, isNumbered}
 use Rattle.dictionary.specs.declared.line.Dictionary.{Dictionary}
 use Rattle.dictionary.specs.declared.place.Earlier.{Earlier}
 use Rattle.dictionary.specs.declared.place.Earlier.the-variants as earlier
@@ -19,41 +17,16 @@ use Rattle.dictionary.specs.declared.place.Placed.{Placed}
 use Rattle.dictionary.specs.declared.place.Placed.the-variants.{Numbered, Due, Again, Clash}
 
 -- the IDX of the first of these lines that has this ID
-unfoldable pub idxNamed : Bytes → List Line → Option (Option ℕ)
-idxNamed x [] = none
-idxNamed x (l ∷ ls) = elim (same (l .id) x) [ true ↦ some (l .idx) | false ↦ idxNamed x ls ]
+abbrev pub idxNamed : Bytes → List Line → Option (Option ℕ)
+idxNamed x ls = idxFirst (isNamed x) ls
 
 abbrev pub earlierMeant : Bytes → Earlier → Option (Option ℕ)
 earlierMeant h (earlier.Found e) = some (idxAt h e)
 earlierMeant h earlier.Missing = none
 
-abbrev pub isIdx : ℕ → Option ℕ → Bool
-isIdx n none = false
-isIdx n (some m) = eqb m n
-
 -- one of these lines carries this number
 abbrev pub numberSeen : ℕ → List Line → Bool
-numberSeen n ls = anyOf (λ (l : Line). isIdx n (l .idx)) ls
-
--- What is found of a line: nothing is looked for where the marks tell that it isn't there
-
-abbrev pub markTwice : Bytes → Bytes → Bytes
-markTwice ms x = mark (mark ms 0 x) 1 x
-
-unfoldable pub idxFound : Bytes → Bytes → List Line → Option (Option ℕ)
-idxFound ms x ls = elim (isMarked ms 0 x && isMarked (mark ms 0 x) 1 x) [ true ↦ idxNamed x ls | false ↦ none ]
-
-unfoldable pub isTaken : Bytes → List Line → ℕ → Bool
-isTaken ns ls n = isMet ns n && numberSeen n ls
-
--- the numbers that are marked after a line
-abbrev pub metIdx : Bytes → Option ℕ → Bytes
-metIdx ns none = ns
-metIdx ns (some n) = metAlso ns n
-
-abbrev pub metBy : Bool → Bytes → Option ℕ → Bytes
-metBy true ns idx = metIdx ns idx
-metBy false ns idx = ns
+numberSeen n ls = anyOf (isNumbered n) ls
 
 -- a new ID with the number n, which may be taken; an ID that was met, with the same number or another
 abbrev pub newPlace : ℕ → Bool → Placed
@@ -83,13 +56,13 @@ abbrev pub placeBy : Bool → Dictionary → Bytes → Option ℕ → Option (Op
 placeBy true d x idx before taken = indexedPlace d x idx before taken
 placeBy false d x idx before taken = countedPlace (isIn x (implied d)) before
 
--- The same of an entry, where those of the table t stand before it
+-- The same of entry k of a table, beside the lines before it
 
-abbrev pub earlierAt : Dictionary → Form → Bytes → List ℕ → Bytes → CodeEntry → Option (Option ℕ)
-earlierAt d form h t ms e = idxFound ms (idAt h e) (tableLines d form h t)
+abbrev pub takenBefore : Dictionary → Form → Bytes → List ℕ → ℕ → ℕ → Bool
+takenBefore d form h t k n = numberSeen n (linesBefore d form h t k)
 
-abbrev pub indexedAt : Dictionary → Form → Bytes → List ℕ → Bytes → CodeEntry → Earlier → Placed
-indexedAt d form h t ns e o = indexedPlace d (idAt h e) (idxAt h e) (earlierMeant h o) (isTaken ns (tableLines d form h t))
+abbrev pub indexedAt : Dictionary → Form → Bytes → List ℕ → ℕ → CodeEntry → Earlier → Placed
+indexedAt d form h t k e o = indexedPlace d (idAt h e) (idxAt h e) (earlierMeant h o) (takenBefore d form h t k)
 
-abbrev pub placeAt : Bool → Dictionary → Form → Bytes → List ℕ → Bytes → Bytes → CodeEntry → Placed
-placeAt indexed d form h t ms ns e = placeBy indexed d (idAt h e) (idxAt h e) (earlierAt d form h t ms e) (isTaken ns (tableLines d form h t))
+abbrev pub placeAt : Bool → Dictionary → Form → Bytes → List ℕ → ℕ → CodeEntry → Placed
+placeAt indexed d form h t k e = placeBy indexed d (idAt h e) (idxAt h e) (idxNamed (idAt h e) (linesBefore d form h t k)) (takenBefore d form h t k)

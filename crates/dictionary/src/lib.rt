@@ -1,6 +1,6 @@
 // The dictionaries of BCF: a number for each string and each contig.
 mod line;
 mod numbering;
-mod numbers;
 mod place;
+mod slots;
 pub mod string_maps;

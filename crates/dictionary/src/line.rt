@@ -10,7 +10,7 @@ use values::integer::IntegerRead;
 use values::string;
 ghost use mathlib.Core.Path.{_≡_};
 ghost use Rattle.entries.specs.Values.{entryOf};
-ghost use Rattle.dictionary.specs.Lines.{holds, fieldsPlace, idxMeant, entryIdx, isImplied};
+ghost use Rattle.dictionary.specs.Lines.{holds, fieldsPlace, idxMeant, entryIdx, isImplied, isIdx, idxAt};
 
 // FILTER, INFO and FORMAT lines; contig lines.
 pub enum Dictionary {
@@ -62,6 +62,16 @@ pub fn line_idx(h: &[u8], e: Entry) -> IdxRead
         return IdxRead::Missing;
     };
     IdxRead::Idx(n)
+}
+
+// Whether an entry carries this number.
+pub fn has_idx(h: &[u8], e: Entry, n: u64) -> bool
+    ensures { λ r. ⌜ r ≡ isIdx n (idxAt (now (h .entry)) e) ⌝ }
+{
+    let IdxRead::Idx(m) = line_idx(h, e) else {
+        return false;
+    };
+    m == n
 }
 
 // Whether the ID stands in the dictionary unwritten.

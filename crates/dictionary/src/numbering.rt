@@ -8,8 +8,11 @@ use entries::entry::Entry;
 use entries::form::Form;
 use entries::table;
 ghost use mathlib.Core.Path.{_≡_};
-ghost use Rattle.dictionary.specs.Lines.{tableLines, idAt, idxAt};
-ghost use Rattle.dictionary.specs.Places.{markTwice, metBy, placeAt};
+ghost use mathlib.Core.Bool.{true};
+ghost use Prim.Native.Nat.{_+_};
+ghost use Rattle.dictionary.specs.Lines.{tableLines};
+ghost use Rattle.dictionary.specs.Places.{placeAt};
+ghost use Rattle.dictionary.specs.Slots.{isNamed, isNumbered, idSlot, numberSlot, StandsAt, HeldAt, AllOpen};
 ghost use Rattle.dictionary.specs.Pairs.{carriedBy, putPair, firstNumber, Counts, turnOf, turnOut, NumbersLines};
 
 // Whether some lines carry IDX, and whether some don't.
@@ -114,40 +117,45 @@ fn take_place(count: Count, placed: Placed, entry: u64, out: &mut [u64]) -> Turn
 // The line of an entry, numbered beside those before it.
 fn number_line(
     h: &[u8],
-    ahead: &[u64],
+    kept: &[u64],
     asked: Asked,
     e: Entry,
     count: Count,
-    entry: u64,
+    entry: usize,
     out: &mut [u64],
-    marks: &mut [u64],
-    numbers: &mut [u8],
+    ids: &mut [u32],
+    numbers: &mut [u32],
 ) -> Turn
     requires { ⌜ Counts count ⌝ }
+    requires { ⌜ StandsAt (asked .dictionary) (asked .form) (now kept) entry e ⌝ }
+    requires { ⌜ HeldAt true isNamed idSlot (asked .dictionary) (asked .form) (now h) (now kept) entry (now ids) ⌝ }
+    requires { ⌜ HeldAt (asked .indexed) isNumbered numberSlot (asked .dictionary) (asked .form) (now h) (now kept) entry (now numbers) ⌝ }
     ensures turn { λ r.
-        ⌜ r ≡ turnOf count (placeAt (asked .indexed) (asked .dictionary) (asked .form) (now (h .entry)) (now (ahead .entry)) (now (marks .entry)) (now (numbers .entry)) e) ⌝ }
+        ⌜ r ≡ turnOf count (placeAt (asked .indexed) (asked .dictionary) (asked .form) (now (h .entry)) (now (kept .entry)) entry e) ⌝ }
     ensures out { λ _.
         ⌜ now (out .exit) ≡ turnOut (now (out .entry)) entry count
-        (placeAt (asked .indexed) (asked .dictionary) (asked .form) (now (h .entry)) (now (ahead .entry)) (now (marks .entry)) (now (numbers .entry)) e) ⌝ }
-    ensures marks { λ _. ⌜ now (marks .exit) ≡ markTwice (now (marks .entry)) (idAt (now (h .entry)) e) ⌝ }
-    ensures numbers { λ _. ⌜ now (numbers .exit) ≡ metBy (asked .indexed) (now (numbers .entry)) (idxAt (now (h .entry)) e) ⌝ }
+        (placeAt (asked .indexed) (asked .dictionary) (asked .form) (now (h .entry)) (now (kept .entry)) entry e) ⌝ }
+    ensures ids { λ _. ⌜ HeldAt true isNamed idSlot (asked .dictionary) (asked .form) (now (h .entry)) (now (kept .entry)) (entry + 1) (now (ids .exit)) ⌝ }
+    ensures numbers { λ _.
+        ⌜ HeldAt (asked .indexed) isNumbered numberSlot (asked .dictionary) (asked .form) (now (h .entry)) (now (kept .entry)) (entry + 1) (now (numbers .exit)) ⌝ }
 {
     let form = asked.form;
     let dictionary = asked.dictionary;
     let indexed = asked.indexed;
-    let placed = place::place_line(h, ahead, form, dictionary, indexed, e, marks, numbers);
-    take_place(count, placed, entry, out)
+    let placed = place::place_line(h, kept, form, dictionary, indexed, e, entry, ids, numbers);
+    take_place(count, placed, entry as u64, out)
 }
 
-// What stands in the marks before is no matter.
 fn number_lines(
     h: &[u8],
     kept: &[u64],
     asked: Asked,
     out: &mut [u64],
-    marks: &mut [u64],
-    numbers: &mut [u8],
+    ids: &mut [u32],
+    numbers: &mut [u32],
 ) -> Numbering
+    requires { ⌜ AllOpen (now ids) ⌝ }
+    requires { ⌜ AllOpen (now numbers) ⌝ }
     ensures { λ r.
         ⌜ NumbersLines (asked .dictionary) (asked .indexed) (tableLines (asked .dictionary) (asked .form) (now (h .entry)) (now (kept .entry))) (now (out .entry)) r
         (now (out .exit)) ⌝ }
@@ -161,17 +169,97 @@ fn number_lines(
     let mut k = 0;
     while k < table::count(kept, form) {
         let e = table::get(kept, form, k);
-        let ahead = table::kept(kept, form, k);
-        let entry = k as u64;
+        let entry = k;
         k += 1;
         if line::has_kind(dictionary, e.kind) {
-            match number_line(h, ahead, asked, e, count, entry, out, marks, numbers) {
+            match number_line(h, kept, asked, e, count, entry, out, ids, numbers) {
                 Turn::Next(c) => count = c,
                 Turn::Clash => return Numbering::Clash,
             }
         }
     }
     Numbering::Pairs(count.pairs)
+}
+
+fn number_some(h: &[u8], kept: &[u64], asked: Asked, out: &mut [u64]) -> Numbering
+    ensures { λ r.
+        ⌜ NumbersLines (asked .dictionary) (asked .indexed) (tableLines (asked .dictionary) (asked .form) (now (h .entry)) (now (kept .entry))) (now (out .entry)) r
+        (now (out .exit)) ⌝ }
+{
+    let mut ids = [0u32; 4096];
+    let mut numbers = [0u32; 8192];
+    number_lines(h, kept, asked, out, &mut ids, &mut numbers)
+}
+
+fn number_many(h: &[u8], kept: &[u64], asked: Asked, out: &mut [u64]) -> Numbering
+    ensures { λ r.
+        ⌜ NumbersLines (asked .dictionary) (asked .indexed) (tableLines (asked .dictionary) (asked .form) (now (h .entry)) (now (kept .entry))) (now (out .entry)) r
+        (now (out .exit)) ⌝ }
+{
+    let mut ids = [0u32; 32768];
+    let mut numbers = [0u32; 65536];
+    number_lines(h, kept, asked, out, &mut ids, &mut numbers)
+}
+
+// Where lines carry IDX.
+fn number_indexed(h: &[u8], kept: &[u64], asked: Asked, out: &mut [u64]) -> Numbering
+    ensures { λ r.
+        ⌜ NumbersLines (asked .dictionary) (asked .indexed) (tableLines (asked .dictionary) (asked .form) (now (h .entry)) (now (kept .entry))) (now (out .entry)) r
+        (now (out .exit)) ⌝ }
+{
+    let mut ids = [0u32; 98304];
+    let mut numbers = [0u32; 98304];
+    number_lines(h, kept, asked, out, &mut ids, &mut numbers)
+}
+
+// Where they don't.
+fn number_counted(h: &[u8], kept: &[u64], asked: Asked, out: &mut [u64]) -> Numbering
+    ensures { λ r.
+        ⌜ NumbersLines (asked .dictionary) (asked .indexed) (tableLines (asked .dictionary) (asked .form) (now (h .entry)) (now (kept .entry))) (now (out .entry)) r
+        (now (out .exit)) ⌝ }
+{
+    let mut ids = [0u32; 196608];
+    let mut numbers = [0u32; 0];
+    number_lines(h, kept, asked, out, &mut ids, &mut numbers)
+}
+
+// With slots of its own where none are lent: few entries need few, and clearing more costs more than it spares. It calls itself so that the
+// compiler leaves the large slots in functions of their own, and a call that needs few does not touch the stack of all.
+fn number_sized(
+    h: &[u8],
+    kept: &[u64],
+    asked: Asked,
+    out: &mut [u64],
+    ids: &mut [u32],
+    numbers: &mut [u32],
+) -> Numbering
+    requires { ⌜ AllOpen (now ids) ⌝ }
+    requires { ⌜ AllOpen (now numbers) ⌝ }
+    ensures { λ r.
+        ⌜ NumbersLines (asked .dictionary) (asked .indexed) (tableLines (asked .dictionary) (asked .form) (now (h .entry)) (now (kept .entry))) (now (out .entry)) r
+        (now (out .exit)) ⌝ }
+{
+    if 0 < ids.len() {
+        return number_lines(h, kept, asked, out, ids, numbers);
+    }
+    let form = asked.form;
+    let entries = table::count(kept, form);
+    if entries < 512 {
+        let mut own_ids = [0u32; 1024];
+        let mut own_numbers = [0u32; 1024];
+        return number_sized(h, kept, asked, out, &mut own_ids, &mut own_numbers);
+    }
+    if entries < 3072 {
+        return number_some(h, kept, asked, out);
+    }
+    if entries < 24576 {
+        return number_many(h, kept, asked, out);
+    }
+    let indexed = asked.indexed;
+    if indexed {
+        return number_indexed(h, kept, asked, out);
+    }
+    number_counted(h, kept, asked, out)
 }
 
 pub fn number_dictionary(
@@ -189,13 +277,7 @@ pub fn number_dictionary(
         dictionary,
         indexed,
     };
-    // A short header has few lines, and clearing more marks than they need costs more than it spares.
-    if h.len() < 65536 {
-        let mut marks = [0u64; 512];
-        let mut numbers = [0u8; 4096];
-        return number_lines(h, kept, asked, out, &mut marks, &mut numbers);
-    }
-    let mut marks = [0u64; 8192];
-    let mut numbers = [0u8; 65536];
-    number_lines(h, kept, asked, out, &mut marks, &mut numbers)
+    let mut no_ids = [0u32; 0];
+    let mut no_numbers = [0u32; 0];
+    number_sized(h, kept, asked, out, &mut no_ids, &mut no_numbers)
 }

@@ -2,20 +2,21 @@
 use crate::line;
 use crate::line::Dictionary;
 use crate::line::IdxRead;
-use crate::numbers;
+use crate::slots;
+use crate::slots::Looked;
 use entries::entry::Entry;
 use entries::form::Form;
 use entries::part;
 use entries::table;
-use values::marks;
 use values::string;
 ghost use mathlib.Core.Path.{_≡_};
-ghost use mathlib.Core.Bool.{_&&_};
+ghost use mathlib.Core.Bool.{true};
+ghost use Prim.Native.Nat.{_+_};
 ghost use Rattle.entries.specs.Values.{entryOf};
 ghost use Rattle.dictionary.specs.Dictionary.{anyOf, clashes, impliedNumbers};
-ghost use Rattle.dictionary.specs.Lines.{idAt, idxAt, isImplied, tableLines};
-ghost use Rattle.dictionary.specs.Places.{idxNamed, earlierMeant, isIdx, numberSeen, markTwice, metIdx, metBy};
-ghost use Rattle.dictionary.specs.Places.{placeBeside, countedPlace, earlierAt, indexedAt, placeAt};
+ghost use Rattle.dictionary.specs.Lines.{idAt, isImplied, tableLines, linesBefore};
+ghost use Rattle.dictionary.specs.Places.{idxNamed, earlierMeant, numberSeen, placeBeside, countedPlace, indexedAt, placeAt};
+ghost use Rattle.dictionary.specs.Slots.{isNamed, isNumbered, idSlot, numberSlot, Stands, StandsAt, HeldAt};
 
 // A line before with the same ID.
 pub enum Earlier {
@@ -48,16 +49,6 @@ fn find_id(h: &[u8], ahead: &[u64], form: Form, dictionary: Dictionary, e: Entry
     Earlier::Missing
 }
 
-// Whether an entry carries this number.
-fn has_idx(h: &[u8], e: Entry, n: u64) -> bool
-    ensures { λ r. ⌜ r ≡ isIdx n (idxAt (now (h .entry)) e) ⌝ }
-{
-    let IdxRead::Idx(m) = line::line_idx(h, e) else {
-        return false;
-    };
-    m == n
-}
-
 fn has_number(h: &[u8], ahead: &[u64], form: Form, dictionary: Dictionary, n: u64) -> bool
     ensures { λ r. ⌜ r ≡ numberSeen n (tableLines dictionary form (now (h .entry)) (now (ahead .entry))) ⌝ }
 {
@@ -66,7 +57,7 @@ fn has_number(h: &[u8], ahead: &[u64], form: Form, dictionary: Dictionary, n: u6
         let x = table::get(ahead, form, k);
         k += 1;
         if line::has_kind(dictionary, x.kind) {
-            if has_idx(h, x, n) {
+            if line::has_idx(h, x, n) {
                 return true;
             }
         }
@@ -74,30 +65,62 @@ fn has_number(h: &[u8], ahead: &[u64], form: Form, dictionary: Dictionary, n: u6
     false
 }
 
-// The line before with the same ID, where the marks don't tell already that there is none; the ID is marked by that. Two marks for
-// an ID leave hardly a search in vain.
+// The first line before entry k that has the ID of e. Where there is none, the line of entry k is that from now on.
 fn find_earlier(
     h: &[u8],
-    ahead: &[u64],
+    kept: &[u64],
     form: Form,
     dictionary: Dictionary,
     e: Entry,
-    marks: &mut [u64],
+    k: usize,
+    ids: &mut [u32],
 ) -> Earlier
-    ensures found { λ r.
-        ⌜ earlierMeant (now (h .entry)) r ≡ earlierAt dictionary form (now (h .entry)) (now (ahead .entry)) (now (marks .entry)) e ⌝ }
-    ensures marks { λ _. ⌜ now (marks .exit) ≡ markTwice (now (marks .entry)) (idAt (now (h .entry)) e) ⌝ }
+    requires { ⌜ Stands isNamed dictionary form (now h) (now kept) k (idAt (now h) e) ⌝ }
+    requires { ⌜ HeldAt true isNamed idSlot dictionary form (now h) (now kept) k (now ids) ⌝ }
+    ensures earlier { λ r.
+        ⌜ earlierMeant (now (h .entry)) r ≡ idxNamed (idAt (now (h .entry)) e) (linesBefore dictionary form (now (h .entry)) (now (kept .entry)) k) ⌝ }
+    ensures ids { λ _. ⌜ HeldAt true isNamed idSlot dictionary form (now (h .entry)) (now (kept .entry)) (k + 1) (now (ids .exit)) ⌝ }
 {
-    let id = part::id_part(h, e);
-    let met = marks::meet(marks, 0, id, e.quoted);
-    let met_again = marks::meet(marks, 1, id, e.quoted);
-    if !met {
-        return Earlier::Missing;
+    // A slot has no room for a larger number.
+    if 0xFFFF_FFFE < k {
+        return find_id(h, table::kept(kept, form, k), form, dictionary, e);
     }
-    if !met_again {
-        return Earlier::Missing;
+    match slots::look_id(h, kept, form, e, ids) {
+        Looked::Found(x) => Earlier::Found(x),
+        Looked::Open(at) => {
+            ids[at] = (k + 1) as u32;
+            Earlier::Missing
+        }
+        Looked::Full => find_id(h, table::kept(kept, form, k), form, dictionary, e),
     }
-    find_id(h, ahead, form, dictionary, e)
+}
+
+// Whether a line before entry k carries the number n. Where there is none, the line of entry k is the first that does.
+fn is_taken(
+    h: &[u8],
+    kept: &[u64],
+    form: Form,
+    dictionary: Dictionary,
+    n: u64,
+    k: usize,
+    numbers: &mut [u32],
+) -> bool
+    requires { ⌜ Stands isNumbered dictionary form (now h) (now kept) k n ⌝ }
+    requires { ⌜ HeldAt true isNumbered numberSlot dictionary form (now h) (now kept) k (now numbers) ⌝ }
+    ensures taken { λ r. ⌜ r ≡ numberSeen n (linesBefore dictionary form (now (h .entry)) (now (kept .entry)) k) ⌝ }
+    ensures numbers { λ _. ⌜ HeldAt true isNumbered numberSlot dictionary form (now (h .entry)) (now (kept .entry)) (k + 1) (now (numbers .exit)) ⌝ }
+{
+    if 0xFFFF_FFFE < k {
+        return has_number(h, table::kept(kept, form, k), form, dictionary, n);
+    }
+    match slots::look_number(h, kept, form, n, numbers) {
+        Looked::Found(_) => true,
+        Looked::Open(at) => {
+            numbers[at] = (k + 1) as u32;
+            false
+        }
+        Looked::Full => has_number(h, table::kept(kept, form, k), form, dictionary, n),
+    }
 }
 
 // Only PASS is 0.
@@ -115,31 +138,19 @@ fn clashes_implied(h: &[u8], dictionary: Dictionary, e: Entry, n: u64) -> bool
     }
 }
 
-// The line's number is n; `met`: it may have been met.
-fn place_beside(
-    h: &[u8],
-    ahead: &[u64],
-    form: Form,
-    dictionary: Dictionary,
-    earlier: Earlier,
-    n: u64,
-    met: bool,
-) -> Placed
-    ensures { λ r.
-        ⌜ r ≡ placeBeside n (earlierMeant (now (h .entry)) earlier) (met && numberSeen n (tableLines dictionary form (now (h .entry)) (now (ahead .entry)))) ⌝ }
+// The line's number is n; `taken`: a line before carries it.
+fn place_beside(h: &[u8], earlier: Earlier, n: u64, taken: bool) -> Placed
+    ensures { λ r. ⌜ r ≡ placeBeside n (earlierMeant (now (h .entry)) earlier) taken ⌝ }
 {
     match earlier {
         Earlier::Found(x) => {
-            if has_idx(h, x, n) {
+            if line::has_idx(h, x, n) {
                 return Placed::Again;
             }
             Placed::Clash
         }
         Earlier::Missing => {
-            if !met {
-                return Placed::Numbered(n);
-            }
-            if has_number(h, ahead, form, dictionary, n) {
+            if taken {
                 return Placed::Clash;
             }
             Placed::Numbered(n)
@@ -150,25 +161,28 @@ fn place_beside(
 // Where lines carry IDX.
 fn place_indexed(
     h: &[u8],
-    ahead: &[u64],
+    kept: &[u64],
     form: Form,
     dictionary: Dictionary,
     e: Entry,
+    entry: usize,
     earlier: Earlier,
-    numbers: &mut [u8],
+    numbers: &mut [u32],
 ) -> Placed
+    requires { ⌜ StandsAt dictionary form (now kept) entry e ⌝ }
+    requires { ⌜ HeldAt true isNumbered numberSlot dictionary form (now h) (now kept) entry (now numbers) ⌝ }
     ensures placed { λ r.
-        ⌜ r ≡ indexedAt dictionary form (now (h .entry)) (now (ahead .entry)) (now (numbers .entry)) e earlier ⌝ }
-    ensures numbers { λ _. ⌜ now (numbers .exit) ≡ metIdx (now (numbers .entry)) (idxAt (now (h .entry)) e) ⌝ }
+        ⌜ r ≡ indexedAt dictionary form (now (h .entry)) (now (kept .entry)) entry e earlier ⌝ }
+    ensures numbers { λ _. ⌜ HeldAt true isNumbered numberSlot dictionary form (now (h .entry)) (now (kept .entry)) (entry + 1) (now (numbers .exit)) ⌝ }
 {
     let IdxRead::Idx(n) = line::line_idx(h, e) else {
         return Placed::Clash;
     };
-    let met = numbers::meet(numbers, n);
+    let taken = is_taken(h, kept, form, dictionary, n, entry, numbers);
     if clashes_implied(h, dictionary, e, n) {
         return Placed::Clash;
     }
-    place_beside(h, ahead, form, dictionary, earlier, n, met)
+    place_beside(h, earlier, n, taken)
 }
 
 // Where they don't.
@@ -184,25 +198,29 @@ fn place_counted(h: &[u8], dictionary: Dictionary, e: Entry, earlier: Earlier) -
     Placed::Due
 }
 
-// The line of an entry, beside those before it, which are marked; it is marked too.
+// The line of an entry, beside those before it; it has its slots after that.
 pub fn place_line(
     h: &[u8],
-    ahead: &[u64],
+    kept: &[u64],
     form: Form,
     dictionary: Dictionary,
     indexed: bool,
     e: Entry,
-    marks: &mut [u64],
-    numbers: &mut [u8],
+    entry: usize,
+    ids: &mut [u32],
+    numbers: &mut [u32],
 ) -> Placed
+    requires { ⌜ StandsAt dictionary form (now kept) entry e ⌝ }
+    requires { ⌜ HeldAt true isNamed idSlot dictionary form (now h) (now kept) entry (now ids) ⌝ }
+    requires { ⌜ HeldAt indexed isNumbered numberSlot dictionary form (now h) (now kept) entry (now numbers) ⌝ }
     ensures placed { λ r.
-        ⌜ r ≡ placeAt indexed dictionary form (now (h .entry)) (now (ahead .entry)) (now (marks .entry)) (now (numbers .entry)) e ⌝ }
-    ensures marks { λ _. ⌜ now (marks .exit) ≡ markTwice (now (marks .entry)) (idAt (now (h .entry)) e) ⌝ }
-    ensures numbers { λ _. ⌜ now (numbers .exit) ≡ metBy indexed (now (numbers .entry)) (idxAt (now (h .entry)) e) ⌝ }
+        ⌜ r ≡ placeAt indexed dictionary form (now (h .entry)) (now (kept .entry)) entry e ⌝ }
+    ensures ids { λ _. ⌜ HeldAt true isNamed idSlot dictionary form (now (h .entry)) (now (kept .entry)) (entry + 1) (now (ids .exit)) ⌝ }
+    ensures numbers { λ _. ⌜ HeldAt indexed isNumbered numberSlot dictionary form (now (h .entry)) (now (kept .entry)) (entry + 1) (now (numbers .exit)) ⌝ }
 {
-    let earlier = find_earlier(h, ahead, form, dictionary, e, marks);
+    let earlier = find_earlier(h, kept, form, dictionary, e, entry, ids);
     if indexed {
-        return place_indexed(h, ahead, form, dictionary, e, earlier, numbers);
+        return place_indexed(h, kept, form, dictionary, e, entry, earlier, numbers);
     }
     place_counted(h, dictionary, e, earlier)
 }

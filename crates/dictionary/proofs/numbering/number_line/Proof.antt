@@ -1,22 +1,22 @@
-use borrow.Author.Needs.{needs}
 use Rattle.dictionary.proofs.numbering.number_line.Statement.{statement}
 use Rattle.dictionary.proofs.numbering.number_line.Tie as tie
+use borrow.Author.Needs.{needs}
 use Rattle.dictionary.proofs.Pairs.{placings}
 
 place-line-requires : tie.Need-place-line-requires
-place-line-requires c κs = search needs
+place-line-requires c κs = search (placings, needs)
 
 take-place-requires : tie.Need-take-place-requires
-take-place-requires c κs = search needs
+take-place-requires c κs = search (placings, needs)
 
 same-length : tie.Need-same-length
-same-length c = search needs
+same-length c = search (placings, needs)
 
 same-length-2 : tie.Need-same-length-2
-same-length-2 c = search needs
+same-length-2 c = search (placings, needs)
 
 same-length-3 : tie.Need-same-length-3
-same-length-3 c = search needs
+same-length-3 c = search (placings, needs)
 
 returns : tie.Need-returns
 returns c = (search (placings, needs), (search (placings, needs), (search (placings, needs), search (placings, needs))))

@@ -1,15 +1,15 @@
 use Rattle.dictionary.proofs.numbering.number_lines.Statement.{statement}
 use Rattle.dictionary.proofs.numbering.number_lines.Tie as tie
-use Prim.Native.Nat.{_-_}
-use Rattle.entries.specs.Tables.{room}
-use Rattle.dictionary.proofs.Pairs.{Progress, progresses}
 use borrow.Author.Needs.{needs}
+use Rattle.dictionary.proofs.Pairs.{Progress, progresses}
+use Rattle.entries.specs.Tables.{room}
+use Prim.Native.Nat.{_-_}
 
 abbrev Inv-loop : tie.InvT-loop
-Inv-loop h kept asked out₀ marks₀ numbers₀ form dictionary count₀ k₀ out marks numbers count k = Progress (asked .dictionary) (asked .indexed) (asked .form) h kept out₀ out marks₀ marks numbers₀ numbers count k
+Inv-loop h kept asked out₀ ids₀ numbers₀ form dictionary count₀ k₀ out ids numbers count k = Progress (asked .dictionary) (asked .indexed) (asked .form) h kept out₀ out ids₀ ids numbers₀ numbers count k
 
 abbrev μ-loop : tie.MeasureT-loop
-μ-loop h kept asked out₀ marks₀ numbers₀ form dictionary count₀ k₀ out marks numbers count k = room (asked .form) kept - k
+μ-loop h kept asked out₀ ids₀ numbers₀ form dictionary count₀ k₀ out ids numbers count k = room (asked .form) kept - k
 
 first-number-requires : tie.Need-first-number-requires Inv-loop μ-loop
 first-number-requires c κs = search (progresses, needs)
@@ -23,9 +23,6 @@ count-requires c κs = search (progresses, needs)
 get-requires : tie.Need-get-requires Inv-loop μ-loop
 get-requires c κs = search (progresses, needs)
 
-kept-requires : tie.Need-kept-requires Inv-loop μ-loop
-kept-requires c κs = search (progresses, needs)
-
 add-k : tie.Need-add-k Inv-loop μ-loop
 add-k c = search (progresses, needs)
 
@@ -33,7 +30,7 @@ has-kind-requires : tie.Need-has-kind-requires Inv-loop μ-loop
 has-kind-requires c κs = search (progresses, needs)
 
 number-line-requires : tie.Need-number-line-requires Inv-loop μ-loop
-number-line-requires c κs = search (progresses, needs)
+number-line-requires c κs = (search (progresses, needs), (search (progresses, needs), (search (progresses, needs), search (progresses, needs))))
 
 enum-known-c : tie.Need-enum-known-c Inv-loop μ-loop
 enum-known-c c = search (progresses, needs)
@@ -87,7 +84,6 @@ number-lines-spec =
     loop-holds
     count-requires
     get-requires
-    kept-requires
     add-k
     has-kind-requires
     number-line-requires

@@ -1,59 +1,85 @@
-use Rattle.dictionary.proofs.Places.{earliers}
-use borrow.Author.Needs.{needs}
 use Rattle.dictionary.proofs.place.find_earlier.Statement.{statement}
 use Rattle.dictionary.proofs.place.find_earlier.Tie as tie
+use borrow.Author.Needs.{needs}
+use Rattle.dictionary.proofs.Slotting.{meets}
 
--- src/place.rt:88:9
-id-part-requires : tie.Need-id-part-requires
-id-part-requires c κs = search (earliers, needs)
+kept-requires : tie.Need-kept-requires
+kept-requires c κs = search (meets, needs)
 
--- src/place.rt:89:9
-meet-requires : tie.Need-meet-requires
-meet-requires c κs = search (earliers, needs)
-
--- src/place.rt:90:9
-meet-requires-2 : tie.Need-meet-requires-2
-meet-requires-2 c κs = search (earliers, needs)
-
--- src/place.rt:92:9
-same-length : tie.Need-same-length
-same-length c = search (earliers, needs)
-
--- src/place.rt:92:9
-returns : tie.Need-returns
-returns c = search (earliers, needs)
-
--- src/place.rt:95:9
-same-length-2 : tie.Need-same-length-2
-same-length-2 c = search (earliers, needs)
-
--- src/place.rt:95:9
-returns-2 : tie.Need-returns-2
-returns-2 c = search (earliers, needs)
-
--- src/place.rt:97:5
 find-id-requires : tie.Need-find-id-requires
-find-id-requires c κs = search (earliers, needs)
+find-id-requires c κs = search (meets, needs)
 
--- src/place.rt:77:1
-same-length-3 : tie.Need-same-length-3
-same-length-3 c = search (earliers, needs)
+returns : tie.Need-returns
+returns c = (search (meets, needs), search (meets, needs))
 
--- src/place.rt:77:1
+look-id-requires : tie.Need-look-id-requires
+look-id-requires c κs = search (meets, needs)
+
+enum-known-x : tie.Need-enum-known-x
+enum-known-x c = search (meets, needs)
+
+enum-known-at : tie.Need-enum-known-at
+enum-known-at c = search (meets, needs)
+
+add-ids : tie.Need-add-ids
+add-ids c = search (meets, needs)
+
+cast-ids : tie.Need-cast-ids
+cast-ids c = search (meets, needs)
+
+mul-ids : tie.Need-mul-ids
+mul-ids c = search (meets, needs)
+
+slice-write-ids : tie.Need-slice-write-ids
+slice-write-ids c = search (meets, needs)
+
+enum-told : tie.Need-enum-told
+enum-told c = search (meets, needs)
+
+kept-requires-2 : tie.Need-kept-requires-2
+kept-requires-2 c κs = search (meets, needs)
+
+find-id-requires-2 : tie.Need-find-id-requires-2
+find-id-requires-2 c κs = search (meets, needs)
+
+same-length : tie.Need-same-length
+same-length c = search (meets, needs)
+
+returns-2 : tie.Need-returns-2
+returns-2 c = (search (meets, needs), search (meets, needs))
+
+same-length-2 : tie.Need-same-length-2
+same-length-2 c = search (meets, needs)
+
 returns-3 : tie.Need-returns-3
-returns-3 c = search (earliers, needs)
+returns-3 c = (search (meets, needs), search (meets, needs))
+
+same-length-3 : tie.Need-same-length-3
+same-length-3 c = search (meets, needs)
+
+returns-4 : tie.Need-returns-4
+returns-4 c = (search (meets, needs), search (meets, needs))
 
 pub find-earlier-spec : {M : Type 1} → statement M
 find-earlier-spec =
     tie.close
     (tie.spec
-    id-part-requires
-    meet-requires
-    meet-requires-2
-    same-length
-    returns
-    same-length-2
-    returns-2
+    kept-requires
     find-id-requires
+    returns
+    look-id-requires
+    enum-known-x
+    enum-known-at
+    add-ids
+    cast-ids
+    mul-ids
+    slice-write-ids
+    enum-told
+    kept-requires-2
+    find-id-requires-2
+    same-length
+    returns-2
+    same-length-2
+    returns-3
     same-length-3
-    returns-3)
+    returns-4)

@@ -1,39 +1,32 @@
-use Rattle.dictionary.proofs.Places.{lines}
-use borrow.Author.Needs.{needs}
 use Rattle.dictionary.proofs.place.place_line.Statement.{statement}
 use Rattle.dictionary.proofs.place.place_line.Tie as tie
+use borrow.Author.Needs.{needs}
+use Rattle.dictionary.proofs.Slotting.{numbered}
+use Rattle.dictionary.proofs.Places.{lines}
 
--- src/place.rt:197:9
 find-earlier-requires : tie.Need-find-earlier-requires
-find-earlier-requires c κs = search (lines, needs)
+find-earlier-requires c κs = search (lines, numbered, needs)
 
--- src/place.rt:199:9
 place-indexed-requires : tie.Need-place-indexed-requires
-place-indexed-requires c κs = search (lines, needs)
+place-indexed-requires c κs = search (lines, numbered, needs)
 
--- src/place.rt:199:9
 same-length : tie.Need-same-length
-same-length c = search (lines, needs)
+same-length c = search (lines, numbered, needs)
 
--- src/place.rt:199:9
 same-length-2 : tie.Need-same-length-2
-same-length-2 c = search (lines, needs)
+same-length-2 c = search (lines, numbered, needs)
 
--- src/place.rt:199:9
 returns : tie.Need-returns
-returns c = (search (lines, needs), (search (lines, needs), search (lines, needs)))
+returns c = (search (lines, numbered, needs), (search (lines, numbered, needs), search (lines, numbered, needs)))
 
--- src/place.rt:201:5
 place-counted-requires : tie.Need-place-counted-requires
-place-counted-requires c κs = search (lines, needs)
+place-counted-requires c κs = search (lines, numbered, needs)
 
--- src/place.rt:183:1
 same-length-3 : tie.Need-same-length-3
-same-length-3 c = search (lines, needs)
+same-length-3 c = search (lines, numbered, needs)
 
--- src/place.rt:183:1
 returns-2 : tie.Need-returns-2
-returns-2 c = (search (lines, needs), (search (lines, needs), search (lines, needs)))
+returns-2 c = (search (lines, numbered, needs), (search (lines, numbered, needs), search (lines, numbered, needs)))
 
 pub place-line-spec : {M : Type 1} → statement M
 place-line-spec =

@@ -1,7 +1,7 @@
 use Rattle.dictionary.proofs.Places.{idxs}
 use borrow.Author.Needs.{needs}
-use Rattle.dictionary.proofs.place.has_idx.Statement.{statement}
-use Rattle.dictionary.proofs.place.has_idx.Tie as tie
+use Rattle.dictionary.proofs.line.has_idx.Statement.{statement}
+use Rattle.dictionary.proofs.line.has_idx.Tie as tie
 
 -- src/place.rt:53:27
 line-idx-requires : tie.Need-line-idx-requires

@@ -359,7 +359,7 @@ fn put_others_doubled(
 ) -> Progress
     ensures { λ r. ⌜ PutsOthersMarked form (versionOf version) (now (h .entry)) (now (kept .entry)) (now (twice .entry)) (now (given .entry)) (now (out .entry)) s r (now (out .exit)) ⌝ }
 {
-    let mut heads = [0xFFFF_FFFFu32; 65536];
+    let mut heads = [0xFFFF_FFFFu32; 16384];
     let mut links = [0xFFFF_FFFFu32; 98304];
     put_others_linked(
         h,
@@ -387,7 +387,7 @@ fn put_others_marked(
 ) -> Progress
     ensures { λ r. ⌜ PutsOthers (versionOf version) (now (h .entry)) (entriesIn form (now (kept .entry))) (now (given .entry)) (now (out .entry)) s r (now (out .exit)) ⌝ }
 {
-    let mut twice = [0u64; 16384];
+    let mut twice = [0u64; 8192];
     doubles::mark_all(h, kept, form, &mut twice);
     put_others_doubled(h, kept, form, version, &twice, out, given, s)
 }

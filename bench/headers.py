@@ -56,6 +56,7 @@ HEADERS = {
     "contigs_100000": header([f"##contig=<ID=ctg{i:06},length=5>" for i in range(100000)]),
     "samples_100000": header([], [f"SAMPLE{i:06}" for i in range(100000)]),
     "fields_100000": header(["##x=<ID=a," + ",".join(f"f{i:x}=1" for i in range(100000)) + ">"]),
+    "keys_150000": header([f"##k{i}=x" for i in range(150000)]),
     "contigs_480000": header([f"##contig=<ID=ctg{i:06},length=5>" for i in range(480000)]),
 }
 

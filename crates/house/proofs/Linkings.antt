@@ -56,22 +56,32 @@ number-past ns at l = sym (List·getD-eq-default ns 0 l)
 pub ruleset slots = (slot-none, slot-unmet, slot-some, slot-typed, slot-other, number-past)
 
 -- what answers the needs of `take_place`
-module _ (h : Bytes) (twice : List ℕ) (e : Entry) (k : ℕ) (heads : List ℕ) {slot : ℕ} (z : slot ≡ slotIn h twice (length heads) e) where
-  pub place-past : length heads ≤ slot → {r : ℕ} → TakesPlace h twice e k heads r heads
-  place-past l = record { size = refl; link = λ f. absurd (omega (arith, z)); kept = λ s m a b. a; own = λ f. absurd (omega (arith, z)) }
+module _ (h : Bytes) (twice : List ℕ) (e : Entry) (k : ℕ) (heads : List ℕ) where
+  place-none : {slot : ℕ} → slot ≡ slotIn h twice (length heads) e → length heads ≤ slot → {r : ℕ} → TakesPlace h twice e k heads r heads
+  place-none z l = record { size = refl; link = λ f. absurd (omega (arith, z)); kept = λ s m a b. a; own = λ f. absurd (omega (arith, z)) }
 
-  pub place-taken : slot < length heads → {x : ℕ} → x ≤ k → TakesPlace h twice e k heads (getD heads slot 0) (set heads slot x)
-  place-taken l {x} c = record {
-    size = length-set heads slot x;
-    link = λ f. rw (← z) (omega arith);
-    kept = λ s m a b. elim (test (eqb s slot)) [
-      | pass f ↦ rw (eqb-true s slot f, getD-set-same heads slot x 0 l) (omega arith)
-      | fail f ↦ rw (getD-set-other heads slot s x 0 (eqb-false s slot f)) a
-    ];
-    own = λ f. rw (← z, getD-set-same heads slot x 0 l) c;
-  }
+  module _ {q : Bool} (o : q ≡ isOtherRecord e) where
+    pub place-typed : not q ≡ true → {r : ℕ} → TakesPlace h twice e k heads r heads
+    place-typed n = place-none (slot-typed h twice (length heads) e o n) (omega arith)
 
-pub ruleset places = (place-past, place-taken)
+    module _ (n : not q ≡ false) {p : Bytes} (i : p ≡ prefixIn h e) {slot : ℕ} (z : slot ≡ slotOf twice (length heads) p) where
+      pub place-past : length heads ≤ slot → {r : ℕ} → TakesPlace h twice e k heads r heads
+      place-past l = place-none (slot-other h twice (length heads) e o n i z) l
+
+      pub place-taken : slot < length heads → {x : ℕ} → x ≤ k → TakesPlace h twice e k heads (getD heads slot 0) (set heads slot x)
+      place-taken l {x} c =
+          let y = slot-other h twice (length heads) e o n i z in
+          record {
+            size = length-set heads slot x;
+            link = λ f. rw (← y) (omega arith);
+            kept = λ s m a b. elim (test (eqb s slot)) [
+              | pass f ↦ rw (eqb-true s slot f, getD-set-same heads slot x 0 l) (omega arith)
+              | fail f ↦ rw (getD-set-other heads slot s x 0 (eqb-false s slot f)) a
+            ];
+            own = λ f. rw (← y, getD-set-same heads slot x 0 l) c;
+          }
+
+pub ruleset places = (place-typed, place-past, place-taken)
 
 -- what answers the needs of `cell_of` and `lower`
 pub cell-own : (n k : ℕ) → k < n → k ≡ cellOf n k

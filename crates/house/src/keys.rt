@@ -346,36 +346,8 @@ fn put_others_linked(
     put_others_by(h, kept, form, version, twice, heads, links, out, given, s)
 }
 
-// The same, with as many heads and links as lie beside the marks; more entries than links share them.
-fn put_others_doubled(
-    h: &[u8],
-    kept: &[u64],
-    form: Form,
-    version: FileFormat,
-    twice: &[u64],
-    out: &mut [u8],
-    given: &[u8],
-    s: Progress,
-) -> Progress
-    ensures { λ r. ⌜ PutsOthersMarked form (versionOf version) (now (h .entry)) (now (kept .entry)) (now (twice .entry)) (now (given .entry)) (now (out .entry)) s r (now (out .exit)) ⌝ }
-{
-    let mut heads = [0xFFFF_FFFFu32; 16384];
-    let mut links = [0xFFFF_FFFFu32; 98304];
-    put_others_linked(
-        h,
-        kept,
-        form,
-        version,
-        twice,
-        &mut heads,
-        &mut links,
-        out,
-        given,
-        s,
-    )
-}
-
-// The other keys where there are more entries than links: only keys that several entries have are linked.
+// The other keys where there are more entries than links: only keys that several entries have are linked. All marks, heads and links together
+// take 896 KiB of the stack.
 fn put_others_marked(
     h: &[u8],
     kept: &[u64],
@@ -389,7 +361,20 @@ fn put_others_marked(
 {
     let mut twice = [0u64; 8192];
     doubles::mark_all(h, kept, form, &mut twice);
-    put_others_doubled(h, kept, form, version, &twice, out, given, s)
+    let mut heads = [0xFFFF_FFFFu32; 16384];
+    let mut links = [0xFFFF_FFFFu32; 98304];
+    put_others_linked(
+        h,
+        kept,
+        form,
+        version,
+        &twice,
+        &mut heads,
+        &mut links,
+        out,
+        given,
+        s,
+    )
 }
 
 fn put_others_many(

@@ -67,7 +67,10 @@ fn short_of(n: usize) -> u32
 fn take_place(h: &[u8], e: Entry, k: usize, twice: &[u64], heads: &mut [u32]) -> u32
     ensures { λ r. ⌜ TakesPlace (now (h .entry)) (now (twice .entry)) (entryOf e) k (now (heads .entry)) r (now (heads .exit)) ⌝ }
 {
-    let slot = slot_in(h, e, twice, heads);
+    if !keys::is_other(e) {
+        return 0xFFFF_FFFF;
+    }
+    let slot = slot_of(twice, heads, keys::prefix_part(h, e));
     if heads.len() <= slot {
         return 0xFFFF_FFFF;
     }

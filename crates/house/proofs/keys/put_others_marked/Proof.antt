@@ -9,11 +9,17 @@ slice-aggregate-mark-all c = search needs
 mark-all-requires : tie.Need-mark-all-requires
 mark-all-requires c κs = search needs
 
-slice-aggregate-put-others-doubled : tie.Need-slice-aggregate-put-others-doubled
-slice-aggregate-put-others-doubled c = search needs
+slice-aggregate-put-others-linked : tie.Need-slice-aggregate-put-others-linked
+slice-aggregate-put-others-linked c = search needs
 
-put-others-doubled-requires : tie.Need-put-others-doubled-requires
-put-others-doubled-requires c κs = search needs
+slice-aggregate-put-others-linked-2 : tie.Need-slice-aggregate-put-others-linked-2
+slice-aggregate-put-others-linked-2 c = search needs
+
+slice-aggregate-put-others-linked-3 : tie.Need-slice-aggregate-put-others-linked-3
+slice-aggregate-put-others-linked-3 c = search needs
+
+put-others-linked-requires : tie.Need-put-others-linked-requires
+put-others-linked-requires c κs = search needs
 
 same-length : tie.Need-same-length
 same-length c = search needs
@@ -27,7 +33,9 @@ put-others-marked-spec =
     (tie.spec
     slice-aggregate-mark-all
     mark-all-requires
-    slice-aggregate-put-others-doubled
-    put-others-doubled-requires
+    slice-aggregate-put-others-linked
+    slice-aggregate-put-others-linked-2
+    slice-aggregate-put-others-linked-3
+    put-others-linked-requires
     same-length
     returns)

@@ -1,8 +1,8 @@
 /* Reads one header over and over, by htslib or by vcfh in the first or the second form, or in pieces of 4,096, of 64 bytes or of one, or
-   writes its house form, its cells, or its dictionaries in either form, or holds it against its house form, or writes the contigs of a SAM
-   header: bench hts|read|second|fed4096|fed64|fed1|house|dictionaries|dictionaries-second|register|is-house|sam FILE TIMES. Or builds the
-   index of its IDs, or looks each of its contigs up once, at random, by htslib or in an index of twice as many places as entries, in either
-   form: bench index|hts-find|find|find-second FILE TIMES.
+   writes its house form or its dictionaries, in either form, its cells, or holds it against its house form, or writes the contigs of a SAM
+   header: bench hts|read|second|fed4096|fed64|fed1|house|house-second|dictionaries|dictionaries-second|register|is-house|sam FILE TIMES. Or
+   builds the index of its IDs, or looks each of its contigs up once, at random, by htslib or in an index of twice as many places as entries,
+   in either form: bench index|hts-find|find|find-second FILE TIMES.
    Prints the best round's nanoseconds for one header. */
 #include <stdio.h>
 #include <stdlib.h>
@@ -38,9 +38,12 @@ static int read_in(uint64_t form) {
 static int read_first(void) { return read_in(VCFH_FIRST); }
 static int read_second(void) { return read_in(VCFH_SECOND); }
 
-static int house(void) {
-    return vcfh_house((const uint8_t *)header, length, 0, 0, 0, VCFH_FIRST, table, WORDS, out, SIZE).number == 0;
+static int house_in(uint64_t form) {
+    return vcfh_house((const uint8_t *)header, length, 0, 0, 0, form, table, WORDS, out, SIZE).number == 0;
 }
+
+static int house(void) { return house_in(VCFH_FIRST); }
+static int house_second(void) { return house_in(VCFH_SECOND); }
 
 static int dictionaries_in(uint64_t form) {
     const uint8_t *bytes = (const uint8_t *)header;
@@ -159,6 +162,7 @@ int main(int count, char **words) {
     if (!file) return 2;
     length = fread(header, 1, SIZE, file);
     int (*call)(void) = strcmp(words[1], "hts") == 0 ? hts : strcmp(words[1], "house") == 0 ? house
+                        : strcmp(words[1], "house-second") == 0 ? house_second
                         : strcmp(words[1], "dictionaries") == 0 ? dictionaries_first
                         : strcmp(words[1], "dictionaries-second") == 0 ? dictionaries_second
                         : strcmp(words[1], "register") == 0 ? cells : strcmp(words[1], "sam") == 0 ? sam_contigs

@@ -64,6 +64,8 @@ HEADERS = {
     "samples_100000": header([], [f"SAMPLE{i:06}" for i in range(100000)]),
     "fields_100000": header(["##x=<ID=a," + ",".join(f"f{i:x}=1" for i in range(100000)) + ">"]),
     "kinds_30000": header(kinds(30000)),
+    "keys_150000": header([f"##k{i}=x" for i in range(150000)]),
+    "samples_500000": header([], [str(1000000 + 7 * i) for i in range(500000)]),
     "contigs_480000": header([f"##contig=<ID=ctg{i:06},length=5>" for i in range(480000)]),
 }
 

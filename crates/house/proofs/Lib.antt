@@ -1,6 +1,7 @@
 pub mod Writes
 pub mod Picks
 pub mod Looks
+pub mod Doublings
 pub mod Linkings
 pub mod Others
 pub mod Forms

@@ -1,6 +1,7 @@
 -- Heads and links, on plain values: they are made from the last entry to the first, and no entry of a key is passed over by them. Assumes nothing.
 use Prim.Native.Nat.{ℕ, zero, suc, _+_, _-_, _%_, _≤_, _<_}
 use native.Mathlib.Omega.{arith}
+use native.Mathlib.Nat.{mod-eq-of-lt}
 use mathlib.Core.Path.{_≡_, refl, sym, ap, subst, _∙_}
 use mathlib.Core.Bool.{Bool, true, false, not, _||_}
 use mathlib.Core.List.{List, [], _∷_, _++_}
@@ -10,7 +11,8 @@ use lib.Seq.{take-add, getD-set-same, getD-set-other}
 use borrow.Author.Tests.{eqb-true, eqb-false, ltb-true, ltb-false}
 use Rattle.values.specs.Bytes.{Bytes}
 use Rattle.values.specs.Hash.{wideBasis, wideStep, wideFrom}
-use Rattle.values.proofs.Tests.{pass, fail, test, or-l, or-r, not-true, both}
+use Rattle.values.specs.Marks.{isMet}
+use Rattle.values.proofs.Tests.{pass, fail, test, or-l, or-r, not-true, not-false}
 use Rattle.rules.specs.Version.{Version}
 use Rattle.rules.specs.Entry.{Entry}
 use Rattle.entries.specs.declared.entry.Entry.{Entry as CodeEntry}
@@ -19,162 +21,215 @@ use Rattle.entries.specs.Values.{entryOf}
 use Rattle.entries.specs.Tables.{room, entryIn, entriesIn}
 use Rattle.entries.proofs.Stored.{entries-here, entries-past}
 use Rattle.house.specs.Keys.{isUnder, isRecord, picked, Listed, AllListed, isOtherRecord, prefixIn, seenUnder}
-use Rattle.house.specs.Links.{slotOf, slotIn, TakesPlace, Links, NextIs, PassesOther, Linked}
+use Rattle.house.specs.Links.{slotOf, slotIn, cellOf, linkOf, TakesPlace, Lowers, Links, NextIs, PassesOther, Linked}
 use Rattle.house.proofs.Picks.{picked-no}
 use Rattle.house.proofs.Looks.{listed-at, own-key}
 
--- what answers the needs of `slot_of` and `number_at`
-pub slot-none : (n : ℕ) (p : Bytes) → n ≡ 0 → 0 ≡ slotOf n p
+-- what answers the needs of `slot_of`, `slot_in` and `number_at`
+pub slot-none : (twice : List ℕ) (n : ℕ) (p : Bytes) → n ≡ 0 → 0 ≡ slotOf twice n p
 unfolding slotOf
-slot-none zero p e = refl
-slot-none (suc n) p e = absurd (omega arith)
+slot-none twice zero p e = refl
+slot-none twice (suc n) p e = absurd (omega arith)
 
-pub slot-some : (n : ℕ) (p : Bytes) → (n ≡ 0 → ⊥) → {x : ℕ} → x ≡ wideFrom wideBasis p → {y : ℕ} → y ≡ wideStep x 0 → y % n ≡ slotOf n p
+pub slot-unmet : (twice : List ℕ) (n : ℕ) (p : Bytes) → (n ≡ 0 → ⊥) → {x : ℕ} → x ≡ wideFrom wideBasis p → {q : Bool} → q ≡ isMet twice x → not q ≡ true → n ≡ slotOf twice n p
 unfolding slotOf
-slot-some zero p f a b = absurd (f refl)
-slot-some (suc n) p f a b = rw (b, a)
+slot-unmet twice zero p f a b c = absurd (f refl)
+slot-unmet twice (suc n) p f a {q} b c = rw (slotOf, ← a, ← b, not-true q c)
+
+pub slot-some : (twice : List ℕ) (n : ℕ) (p : Bytes) → (n ≡ 0 → ⊥) → {x : ℕ} → x ≡ wideFrom wideBasis p → {q : Bool} → q ≡ isMet twice x → not q ≡ false → {y : ℕ} → y ≡ wideStep x 0 → y % n ≡ slotOf twice n p
+unfolding slotOf
+slot-some twice zero p f a b c d = absurd (f refl)
+slot-some twice (suc n) p f a {q} b c d = rw (slotOf, ← a, ← b, not-false q c, d) (rw a)
+
+module _ (h : Bytes) (twice : List ℕ) (n : ℕ) (e : Entry) {q : Bool} (o : q ≡ isOtherRecord e) where
+  pub slot-typed : not q ≡ true → n ≡ slotIn h twice n e
+  unfolding slotIn
+  slot-typed c = rw (slotIn, ← o, not-true q c)
+
+  pub slot-other : not q ≡ false → {p : Bytes} → p ≡ prefixIn h e → {s : ℕ} → s ≡ slotOf twice n p → s ≡ slotIn h twice n e
+  unfolding slotIn
+  slot-other c i z = rw (slotIn, ← o, not-false q c, ← i, z)
 
 pub number-past : (ns : List ℕ) (at : ℕ) → length ns ≤ at → 0 ≡ getD ns at 0
 number-past ns at l = sym (List·getD-eq-default ns 0 l)
 
-pub ruleset slots = (slot-none, slot-some, number-past)
+pub ruleset slots = (slot-none, slot-unmet, slot-some, slot-typed, slot-other, number-past)
 
 -- what answers the needs of `take_place`
-module _ (h : Bytes) (e : Entry) (k : ℕ) (heads : List ℕ) {q : Bool} (o : q ≡ isOtherRecord e) where
-  pub place-typed : not q ≡ true → TakesPlace h e k heads 0 heads
-  place-typed n = record { size = refl; link = omega arith; kept = λ s m a b. a; own = λ f. both f (sym o ∙ not-true q n) }
+module _ (h : Bytes) (twice : List ℕ) (e : Entry) (k : ℕ) (heads : List ℕ) where
+  place-none : {slot : ℕ} → slot ≡ slotIn h twice (length heads) e → length heads ≤ slot → {r : ℕ} → TakesPlace h twice e k heads r heads
+  place-none z l = record { size = refl; link = λ f. absurd (omega (arith, z)); kept = λ s m a b. a; own = λ f. absurd (omega (arith, z)) }
 
-  module _ {p : Bytes} (i : p ≡ prefixIn h e) {slot : ℕ} (z : slot ≡ slotOf (length heads) p) where
-    own-slot : slotIn h (length heads) e ≡ slot
-    own-slot = sym (z ∙ ap (slotOf (length heads)) i)
+  module _ {q : Bool} (o : q ≡ isOtherRecord e) where
+    pub place-typed : not q ≡ true → {r : ℕ} → TakesPlace h twice e k heads r heads
+    place-typed n = place-none (slot-typed h twice (length heads) e o n) (omega arith)
 
-    pub place-past : length heads ≤ slot → TakesPlace h e k heads 0 heads
-    place-past l = record { size = refl; link = omega arith; kept = λ s m a b. a; own = λ f. rw (own-slot, ← number-past heads slot l) (omega arith) }
+    module _ (n : not q ≡ false) {p : Bytes} (i : p ≡ prefixIn h e) {slot : ℕ} (z : slot ≡ slotOf twice (length heads) p) where
+      pub place-past : length heads ≤ slot → {r : ℕ} → TakesPlace h twice e k heads r heads
+      place-past l = place-none (slot-other h twice (length heads) e o n i z) l
 
-    pub place-taken : slot < length heads → {x : ℕ} → x ≤ k → TakesPlace h e k heads (getD heads slot 0) (set heads slot x)
-    place-taken l {x} c = record {
-      size = length-set heads slot x;
-      link = rw own-slot (omega arith);
-      kept = λ s m a b. elim (test (eqb s slot)) [
-        | pass f ↦ rw (eqb-true s slot f, getD-set-same heads slot x 0 l) (omega arith)
-        | fail f ↦ rw (getD-set-other heads slot s x 0 (eqb-false s slot f)) a
-      ];
-      own = λ f. rw (own-slot, getD-set-same heads slot x 0 l) c;
-    }
+      pub place-taken : slot < length heads → {x : ℕ} → x ≤ k → TakesPlace h twice e k heads (getD heads slot 0) (set heads slot x)
+      place-taken l {x} c =
+          let y = slot-other h twice (length heads) e o n i z in
+          record {
+            size = length-set heads slot x;
+            link = λ f. rw (← y) (omega arith);
+            kept = λ s m a b. elim (test (eqb s slot)) [
+              | pass f ↦ rw (eqb-true s slot f, getD-set-same heads slot x 0 l) (omega arith)
+              | fail f ↦ rw (getD-set-other heads slot s x 0 (eqb-false s slot f)) a
+            ];
+            own = λ f. rw (← y, getD-set-same heads slot x 0 l) c;
+          }
 
 pub ruleset places = (place-typed, place-past, place-taken)
 
+-- what answers the needs of `cell_of` and `lower`
+pub cell-own : (n k : ℕ) → k < n → k ≡ cellOf n k
+unfolding cellOf
+cell-own zero k l = absurd (omega arith)
+cell-own (suc n) k l = sym (mod-eq-of-lt l)
+
+pub cell-none : (n k : ℕ) → n ≡ 0 → 0 ≡ cellOf n k
+unfolding cellOf
+cell-none zero k e = refl
+cell-none (suc n) k e = absurd (omega arith)
+
+pub cell-shared : (n k : ℕ) → (n ≡ 0 → ⊥) → k % n ≡ cellOf n k
+unfolding cellOf
+cell-shared zero k f = absurd (f refl)
+cell-shared (suc n) k f = refl
+
+module _ (links : List ℕ) (k next : ℕ) {cell : ℕ} (z : cell ≡ cellOf (length links) k) where
+  pub lower-none : length links ≤ cell → Lowers links k next links
+  lower-none l = record { size = refl; kept = λ i. omega arith; own = rw (← z, ← number-past links cell l) (omega arith) }
+
+  pub lower-small : getD links cell 0 ≤ next → Lowers links k next links
+  lower-small l = record { size = refl; kept = λ i. omega arith; own = rw (← z) l }
+
+  pub lower-set : cell < length links → next < getD links cell 0 → Lowers links k next (set links cell next)
+  lower-set l a = record {
+    size = length-set links cell next;
+    kept = λ i. rw (length-set links cell next) (elim (test (eqb (cellOf (length links) i) cell)) [
+      | pass f ↦ rw (eqb-true (cellOf (length links) i) cell f, getD-set-same links cell next 0 l) (omega arith)
+      | fail f ↦ rw (getD-set-other links cell (cellOf (length links) i) next 0 (eqb-false (cellOf (length links) i) cell f)) (omega arith)
+    ]);
+    own = rw (length-set links cell next, ← z, getD-set-same links cell next 0 l) (omega arith);
+  }
+
+pub ruleset cells = (cell-own, cell-none, cell-shared, lower-none, lower-small, lower-set)
+
 -- The loop that links: the entries from number k on
 
-pub record Linking (form : Form) (h : Bytes) (t heads₀ links₀ heads links : List ℕ) (k : ℕ) : Type 0 where
+pub record Linking (form : Form) (h : Bytes) (t twice heads₀ links₀ heads links : List ℕ) (k : ℕ) : Type 0 where
   pub heads-size : length heads ≡ length heads₀
   pub links-size : length links ≡ length links₀
-  pub is : Links form h t heads links k
+  pub is : Links form h t twice heads links k
 
-pub link-start : (form : Form) (h : Bytes) (t heads links : List ℕ) {k : ℕ} → k ≡ room form t → Linking form h t heads links heads links k
-link-start form h t heads links e = record {
+pub link-start : (form : Form) (h : Bytes) (t twice heads links : List ℕ) {k : ℕ} → k ≡ room form t → Linking form h t twice heads links heads links k
+link-start form h t twice heads links e = record {
   heads-size = refl;
   links-size = refl;
   is = record { first = λ m a b o. absurd (omega arith); next = λ j m a b c o s. absurd (omega arith) };
 }
 
-module _ {form : Form} {h : Bytes} {t heads₀ links₀ heads links : List ℕ} {k : ℕ} (g : Linking form h t heads₀ links₀ heads links k) where
-  pub link-end : k ≤ 0 → Links form h t heads links 0
-  link-end l = let z : k ≡ 0 = omega arith in subst (Links form h t heads links) z (g .is)
+module _ {form : Form} {h : Bytes} {t twice heads₀ links₀ heads links : List ℕ} {k : ℕ} (g : Linking form h t twice heads₀ links₀ heads links k) where
+  pub link-end : k ≤ 0 → Links form h t twice heads links 0
+  link-end l = let z : k ≡ 0 = omega arith in subst (Links form h t twice heads links) z (g .is)
 
-  module _ (l : 0 < k) {e : CodeEntry} (ee : entryOf e ≡ entryIn form t (k - 1)) {r : ℕ} {heads′ : List ℕ} (p : TakesPlace h (entryOf e) (k - 1) heads r heads′) where
-    abbrev at : ℕ → Entry
-    at m = entryIn form t m
+  module _ (l : 0 < k) {e : CodeEntry} (ee : entryOf e ≡ entryIn form t (k - 1)) {r : ℕ} {heads′ : List ℕ} (p : TakesPlace h twice (entryOf e) (k - 1) heads r heads′)
+      {links′ : List ℕ} (w : Lowers links k r links′) where
+    abbrev slot : ℕ → ℕ
+    slot m = slotIn h twice (length heads) (entryIn form t m)
 
-    first-one : (m : ℕ) → k - 1 ≤ m → m < room form t → isOtherRecord (at m) ≡ true → getD heads′ (slotIn h (length heads′) (at m)) 0 ≤ m
-    first-one m a b o = rw (p .size) (elim (test (eqb m (k - 1))) [
-      | pass f ↦ let w = eqb-true m (k - 1) f in rw (w, ← ee) (p .own (ap isOtherRecord (ee ∙ ap at (sym w)) ∙ o))
+    own-slot : (m : ℕ) → m ≡ k - 1 → slotIn h twice (length heads) (entryOf e) ≡ slot m
+    own-slot m f = rw (ee, f)
+
+    first-one : (m : ℕ) → k - 1 ≤ m → m < room form t → slot m < length heads → getD heads′ (slot m) 0 ≤ m
+    first-one m a b o = elim (test (eqb m (k - 1))) [
+      | pass f ↦
+          let z = own-slot m (eqb-true m (k - 1) f) in
+          let y : getD heads′ (slot m) 0 ≤ k - 1 = rw (← z) (p .own (rw z o)) in omega (arith, eqb-true m (k - 1) f)
       | fail f ↦
-          let w = eqb-false m (k - 1) f in
-          let y : k ≤ m = omega (arith, w) in p .kept (slotIn h (length heads) (at m)) m (g .is .first m y b o) a
-    ])
+          let y : k ≤ m = omega (arith, eqb-false m (k - 1) f) in p .kept (slot m) m (g .is .first m y b o) a
+    ]
 
-    linked-one : {links′ : List ℕ} → getD links′ k 0 ≤ r → ((i : ℕ) → k < i → getD links′ i 0 ≡ getD links i 0) → Links form h t heads′ links′ (k - 1)
-    linked-one {links′} own kept = record {
-      first = first-one;
-      next = λ j m a b c o s.
-          let z : slotIn h (length heads) (at m) ≡ slotIn h (length heads) (at j) = rw (← p .size) s in
-          elim (test (eqb j (k - 1))) [
-            | pass f ↦
-                let w = eqb-true j (k - 1) f in
-                let y : j + 1 ≡ k = omega arith in
-                let x : getD heads (slotIn h (length heads) (at m)) 0 ≤ m = g .is .first m (omega arith) c o in
-                let u : r ≤ getD heads (slotIn h (length heads) (at m)) 0 = rw (z, w, ← ee) (p .link) in
-                rw y (omega (arith, own, u, x))
-            | fail f ↦
-                let w = eqb-false j (k - 1) f in
-                let y : k ≤ j = omega (arith, w) in
-                rw (kept (j + 1) (omega arith)) (g .is .next j m y b c o z)
-          ];
-    }
+    next-one : (j m : ℕ) → k - 1 ≤ j → j < m → m < room form t → slot m < length heads → slot m ≡ slot j → linkOf links′ (j + 1) ≤ m
+    next-one j m a b c o s = elim (test (eqb j (k - 1))) [
+      | pass f ↦
+          let y : j + 1 ≡ k = omega (arith, eqb-true j (k - 1) f) in
+          let z = own-slot j (eqb-true j (k - 1) f) in
+          let x : getD heads (slot m) 0 ≤ m = g .is .first m (omega arith) c o in
+          let u : r ≤ getD heads (slot m) 0 = rw (s, ← z) (p .link (rw (z, ← s) o)) in
+          rw y (omega (arith, w .own, u, x))
+      | fail f ↦
+          let y : k ≤ j = omega (arith, eqb-false j (k - 1) f) in omega (arith, w .kept (j + 1), g .is .next j m y b c o s)
+    ]
 
-    pub link-put : k < length links → Linking form h t heads₀ links₀ heads′ (set links k r) (k - 1)
-    link-put f = record {
+    pub link-more : Linking form h t twice heads₀ links₀ heads′ links′ (k - 1)
+    link-more = record {
       heads-size = p .size ∙ g .heads-size;
-      links-size = length-set links k r ∙ g .links-size;
-      is = linked-one (rw (getD-set-same links k r 0 f) (omega arith)) (λ i a. getD-set-other links k i r 0 (omega arith));
+      links-size = w .size ∙ g .links-size;
+      is = record { first = rw (p .size) first-one; next = rw (p .size) next-one };
     }
 
-    pub link-past : length links ≤ k → Linking form h t heads₀ links₀ heads′ links (k - 1)
-    link-past f = record {
-      heads-size = p .size ∙ g .heads-size;
-      links-size = g .links-size;
-      is = linked-one (rw (← number-past links k f) (omega arith)) (λ i a. refl);
-    }
-
-pub ruleset linkings = (link-start, link-end, link-put, link-past)
+pub ruleset linkings = (link-start, link-end, link-more)
 
 -- what answers the needs of `next_of` and `pass_other`
-module _ {links : List ℕ} {k : ℕ} where
-  pub next-here : NextIs links k k
+module _ {slot : ℕ} {heads links : List ℕ} {k : ℕ} where
+  pub next-here : NextIs slot heads links k k
   next-here = record { back = omega arith; is = λ m a b. a }
 
-  pub next-on : {r : ℕ} → r ≡ getD links k 0 → k ≤ r → NextIs links k r
-  next-on e l = record { back = l; is = λ m a b. rw e b }
+  pub next-on : slot < length heads → {c : ℕ} → c ≡ cellOf (length links) k → {r : ℕ} → r ≡ getD links c 0 → k ≤ r → NextIs slot heads links k r
+  next-on f {c} i e l = record { back = l; is = λ m a b. rw (e, i) (b f) }
 
 pub ruleset nexts = (next-here, next-on)
 
-module _ {h : Bytes} {e : Entry} {slot : ℕ} {heads links : List ℕ} {k : ℕ} where
-  pub pass-here : PassesOther h e slot heads links k k
+module _ {h : Bytes} {twice : List ℕ} {e : Entry} {slot : ℕ} {heads links : List ℕ} {k : ℕ} where
+  pub pass-here : PassesOther h twice e slot heads links k k
   pass-here = record { back = omega arith; is = λ m a b. a }
 
-  pub pass-on : {p : Bytes} → p ≡ prefixIn h e → {s : ℕ} → s ≡ slotOf (length heads) p → s ≡ slot → {r : ℕ} → NextIs links k r → PassesOther h e slot heads links k r
-  pass-on i a b n = record { back = n .back; is = λ m c d. n .is m c (d (sym (a ∙ ap (slotOf (length heads)) i) ∙ b)) }
+  pub pass-on : {s : ℕ} → s ≡ slotIn h twice (length heads) e → s ≡ slot → {r : ℕ} → NextIs slot heads links k r → PassesOther h twice e slot heads links k r
+  pass-on a b n = record { back = n .back; is = λ m c d. n .is m c (d (sym a ∙ b)) }
 
 pub ruleset passings = (pass-here, pass-on)
 
 -- Where the walk goes on, no entry of the key was passed over
 
-module _ {form : Form} {v : Version} {f : Bool} {h t prefix : Bytes} {slot : ℕ} {heads links : List ℕ} (g : Linked form v f h t prefix slot heads links) where
+module _ {form : Form} {v : Version} {f : Bool} {h t prefix : Bytes} {slot : ℕ} {twice heads links : List ℕ} (g : Linked form v f h t prefix slot twice heads links) where
   pub listed-in : (m : ℕ) → m < room form t → isRecord (entryIn form t m) ≡ true → Listed f v h (entryIn form t m)
   listed-in m l = listed-at f v h (take m (entriesIn form t)) (entryIn form t m) (drop (m + 1) (entriesIn form t))
       (subst (AllListed f v h) (sym (take-append-drop m (entriesIn form t)) ∙ ap (take m (entriesIn form t) ++_) (entries-here form t m l)) (g .listed))
 
-  -- an entry under the prefix has the key, and so its slot
-  pub own-is : (m : ℕ) → m < room form t → isUnder h prefix (entryIn form t m) ≡ true → (isOtherRecord (entryIn form t m) ≡ true) × (slotIn h (length heads) (entryIn form t m) ≡ slot)
+  -- an entry under the prefix has the key
+  pub own-is : (m : ℕ) → m < room form t → isUnder h prefix (entryIn form t m) ≡ true → (isOtherRecord (entryIn form t m) ≡ true) × (prefixIn h (entryIn form t m) ≡ prefix)
   own-is m l u =
       let k = g .key in
       let o = own-key f v h (entryIn form t m) (listed-in m l) (k .key) (k .plain) (k .untyped) (ap (λ (p : Bytes). isUnder h p (entryIn form t m)) (sym (k .is)) ∙ u) in
-      (o .0, ap (slotOf (length heads)) (o .1 ∙ sym (k .is)) ∙ sym (g .place))
+      (o .0, o .1 ∙ sym (k .is))
+
+  -- and so its slot
+  pub slot-is : (m : ℕ) → m < room form t → isUnder h prefix (entryIn form t m) ≡ true → slotIn h twice (length heads) (entryIn form t m) ≡ slot
+  unfolding slotIn
+  slot-is m l u = let o = own-is m l u in rw (slotIn, o .0, o .1) (sym (g .place))
 
   pub before-head : (m : ℕ) → m < getD heads slot 0 → m < room form t → isUnder h prefix (entryIn form t m) ≡ false
   before-head m a l = elim (test (isUnder h prefix (entryIn form t m))) [
     | fail q ↦ q
-    | pass q ↦ let o = own-is m l q in let y = g .chain .first m (omega arith) l (o .0) in let z : getD heads slot 0 ≤ m = rw (← o .1) y in absurd (omega arith)
+    | pass q ↦ elim (test (ltb slot (length heads))) [
+      | pass c ↦
+          let o = slot-is m l q in
+          let y = g .chain .first m (omega arith) l (rw o (ltb-true slot (length heads) c)) in let z : getD heads slot 0 ≤ m = rw (← o) y in absurd (omega arith)
+      | fail c ↦ let z = number-past heads slot (ltb-false slot (length heads) c) in absurd (omega arith)
+    ]
   ]
 
-  pub passed-over : (j r : ℕ) → ((m : ℕ) → j + 1 ≤ m → (slotIn h (length heads) (entryIn form t j) ≡ slot → getD links (j + 1) 0 ≤ m) → r ≤ m)
+  pub passed-over : (j r : ℕ) → ((m : ℕ) → j + 1 ≤ m → (slotIn h twice (length heads) (entryIn form t j) ≡ slot → slot < length heads → linkOf links (j + 1) ≤ m) → r ≤ m)
       → (m : ℕ) → j < m → m < r → m < room form t → isUnder h prefix (entryIn form t m) ≡ false
   passed-over j r n m a b l = elim (test (isUnder h prefix (entryIn form t m))) [
     | fail q ↦ q
     | pass q ↦
-        let o = own-is m l q in
-        let y = n m (omega arith) (λ s. g .chain .next j m (omega arith) a l (o .0) (o .1 ∙ sym s)) in absurd (omega arith)
+        let o = slot-is m l q in
+        let y = n m (omega arith) (λ s c. g .chain .next j m (omega arith) a l (rw o c) (o ∙ sym s)) in absurd (omega arith)
   ]
 
 -- From numbers to lists

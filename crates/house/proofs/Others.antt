@@ -1,16 +1,21 @@
 -- The keys that are not typed, by first appearance: a turn of each loop on plain values. Assumes nothing.
-use Prim.Native.Nat.{ℕ, _+_, _-_, _≤_, _<_}
+use Prim.Native.Nat.{ℕ, zero, suc, _+_, _-_, _%_, _≤_, _<_}
 use native.Mathlib.Omega.{arith}
+use native.Mathlib.Nat.{mod-lt}
 use mathlib.Core.Path.{_≡_, refl, sym, ap, subst, _∙_}
 use mathlib.Core.Bool.{Bool, true, false, not}
 use mathlib.Core.List.{List, [], _∷_, _++_, append-assoc, append-nil}
-use lib.Dec.{eqb, ltb}
+use lib.Dec.{eqb, leb, ltb}
 use lib.ListN.{length, getD, take, drop, take-append-drop}
 use lib.Seq.{take-all, take-add}
-use borrow.Author.Tests.{lt-ltb, le-ltb, eqb-true, eqb-false, ltb-true, ltb-false}
+use borrow.Author.Tests.{lt-ltb, le-ltb, eq-eqb, ne-eqb, eqb-true, eqb-false, ltb-true, ltb-false, leb-true}
 use Rattle.values.specs.Bytes.{Bytes, is, before, starts}
+use Rattle.values.specs.Hash.{wideBasis, wideStep, wideFrom}
+use Rattle.values.specs.Marks.{isMet}
 use Rattle.values.specs.Written.{last}
-use Rattle.values.proofs.Tests.{pass, fail, test, and-l, and-off, not-true, not-false}
+use Rattle.values.proofs.Tests.{pass, fail, test, and-l, and-r, and-off, not-true, not-false, both}
+use Rattle.values.proofs.Sames.{same-self}
+use Rattle.values.proofs.Markings.{none-met}
 use Rattle.rules.specs.Version.{Version}
 use Rattle.rules.specs.Known.{isTyped}
 use Rattle.rules.specs.Entry.{Entry}
@@ -24,11 +29,12 @@ use Rattle.forms.specs.Lines.{houseLine}
 use Rattle.house.specs.declared.progress.Progress.{Progress}
 use Rattle.house.specs.Writes.{WroteLines, PutsEntry}
 use Rattle.house.specs.Keys.{isRecord, isUnder, picked, Listed, AllListed, isOtherRecord, prefixIn, seenUnder, isFirst, linesIf, otherLines, PutsOthers}
-use Rattle.house.specs.Links.{slotOf, slotIn, Links, NextIs, PassesOther, Linked, SeesKey, PutsLinked, PutsFirst, PutsOthersBy}
+use Rattle.house.specs.Doubles.{hashIn, MarksTwice}
+use Rattle.house.specs.Links.{slotOf, slotIn, isPast, linkOf, Links, NextIs, PassesOther, Linked, SeesKey, PutsLinked, PutsFirst, PutsOthersBy, PutsOthersMarked}
 use Rattle.house.proofs.Writes.{wrote-no-lines, then-lines}
 use Rattle.house.proofs.Picks.{listed-on, picked-yes, picked-no}
 use Rattle.house.proofs.Looks.{listed-at, other-record}
-use Rattle.house.proofs.Linkings.{listed-in, own-is, before-head, passed-over, picked-skip, unseen-picked, seen-none, seen-some}
+use Rattle.house.proofs.Linkings.{listed-in, own-is, slot-is, before-head, passed-over, picked-skip, unseen-picked, seen-none, seen-some}
 
 -- what answers the needs of `prefix_part`
 module _ (h : Bytes) (e : CodeEntry) {line : Bytes} (el : line ≡ lineIn h (entryOf e)) {end : ℕ} (f : end ≡ 0 + length (before (is 61) (drop 0 line))) where
@@ -60,21 +66,21 @@ pub ruleset kinds = (other-low, other-high, other-is)
 
 -- The scan for a key: no entry before number k is under it
 
-pub record Seeing (form : Form) (h t prefix : Bytes) (slot : ℕ) (heads links : List ℕ) (k : ℕ) : Type 0 where
-  pub is : (f : Bool) (v : Version) → Linked form v f h t prefix slot heads links → (m : ℕ) → m < k → m < room form t → isUnder h prefix (entryIn form t m) ≡ false
+pub record Seeing (form : Form) (h t prefix : Bytes) (slot : ℕ) (twice heads links : List ℕ) (k : ℕ) : Type 0 where
+  pub is : (f : Bool) (v : Version) → Linked form v f h t prefix slot twice heads links → (m : ℕ) → m < k → m < room form t → isUnder h prefix (entryIn form t m) ≡ false
 
-pub see-start : {form : Form} {h t prefix : Bytes} {slot : ℕ} {heads links : List ℕ} {k : ℕ} → k ≡ getD heads slot 0 → Seeing form h t prefix slot heads links k
+pub see-start : {form : Form} {h t prefix : Bytes} {slot : ℕ} {twice heads links : List ℕ} {k : ℕ} → k ≡ getD heads slot 0 → Seeing form h t prefix slot twice heads links k
 see-start e = record { is = λ f v g m a b. before-head g m (rw (← e) a) b }
 
-module _ {form : Form} {h t prefix : Bytes} {slot : ℕ} {heads links : List ℕ} {k : ℕ} (g : Seeing form h t prefix slot heads links k) where
-  pub see-end : {end : ℕ} → end ≤ k → SeesKey form h t prefix slot heads links end false
+module _ {form : Form} {h t prefix : Bytes} {slot : ℕ} {twice heads links : List ℕ} {k : ℕ} (g : Seeing form h t prefix slot twice heads links k) where
+  pub see-end : {end : ℕ} → end ≤ k → SeesKey form h t prefix slot twice heads links end false
   see-end {end} l = record { is = λ f v x b. sym (seen-none form h t prefix end b (λ m a. g .is f v x m (omega arith) (omega arith))) }
 
   module _ {e : CodeEntry} (ee : entryOf e ≡ entryIn form t k) {q : Bool} (u : q ≡ isUnder h prefix (entryOf e)) where
-    pub see-here : {end : ℕ} → k < end → q ≡ true → SeesKey form h t prefix slot heads links end true
+    pub see-here : {end : ℕ} → k < end → q ≡ true → SeesKey form h t prefix slot twice heads links end true
     see-here {end} l o = record { is = λ f v x b. sym (seen-some form h t prefix end k l b (ap (isUnder h prefix) (sym ee) ∙ sym u ∙ o)) }
 
-    pub see-more : q ≡ false → {r : ℕ} → PassesOther h (entryOf e) slot heads links (k + 1) r → Seeing form h t prefix slot heads links r
+    pub see-more : q ≡ false → {r : ℕ} → PassesOther h twice (entryOf e) slot heads links (k + 1) r → Seeing form h t prefix slot twice heads links r
     see-more o {r} p = record {
       is = λ f v x m a b. elim (test (ltb m k)) [
         | pass y ↦ g .is f v x m (ltb-true m k y) b
@@ -85,40 +91,40 @@ module _ {form : Form} {h t prefix : Bytes} {slot : ℕ} {heads links : List ℕ
       ];
     }
 
-pub see-less : {h : Bytes} {e : Entry} {slot : ℕ} {heads links : List ℕ} {k r end : ℕ} → k < end → PassesOther h e slot heads links (k + 1) r → end - r < end - k
+pub see-less : {h : Bytes} {e : Entry} {slot : ℕ} {twice heads links : List ℕ} {k r end : ℕ} → k < end → PassesOther h twice e slot heads links (k + 1) r → end - r < end - k
 see-less l p = let b = p .back in omega arith
 
-pub next-less : {links : List ℕ} {k r end : ℕ} → k < end → NextIs links (k + 1) r → end - r < end - k
+pub next-less : {slot : ℕ} {heads links : List ℕ} {k r end : ℕ} → k < end → NextIs slot heads links (k + 1) r → end - r < end - k
 next-less l p = let b = p .back in omega arith
 
 pub ruleset sees = (see-start, see-end, see-here, see-more, see-less)
 
 -- The loop over the entries of a key: the lines of those before number k are written
 
-pub record Putting (form : Form) (v : Version) (h t prefix : Bytes) (slot : ℕ) (heads links : List ℕ) (first : ℕ) (given old : Bytes) (s₀ : Progress) (new : Bytes) (s : Progress) (k : ℕ) : Type 0 where
+pub record Putting (form : Form) (v : Version) (h t prefix : Bytes) (slot : ℕ) (twice heads links : List ℕ) (first : ℕ) (given old : Bytes) (s₀ : Progress) (new : Bytes) (s : Progress) (k : ℕ) : Type 0 where
   pub size : length new ≡ length old
-  pub is : Linked form v (s₀ .formed) h t prefix slot heads links → (ls : List Bytes) × ((picked v h prefix (drop first (entriesIn form t)) ≡ ls ++ picked v h prefix (drop k (entriesIn form t))) × WroteLines given old s₀ ls s new)
+  pub is : Linked form v (s₀ .formed) h t prefix slot twice heads links → (ls : List Bytes) × ((picked v h prefix (drop first (entriesIn form t)) ≡ ls ++ picked v h prefix (drop k (entriesIn form t))) × WroteLines given old s₀ ls s new)
 
-pub put-start : (form : Form) (v : Version) (h t prefix : Bytes) (slot : ℕ) (heads links : List ℕ) (first : ℕ) (given old : Bytes) (s : Progress) → s .next .at ≤ last → s .lines ≤ last → length old ≤ last
-    → Putting form v h t prefix slot heads links first given old s old s first
-put-start form v h t prefix slot heads links first given old s a b d = record { size = refl; is = λ g. ([], (refl, wrote-no-lines given old s a b d)) }
+pub put-start : (form : Form) (v : Version) (h t prefix : Bytes) (slot : ℕ) (twice heads links : List ℕ) (first : ℕ) (given old : Bytes) (s : Progress) → s .next .at ≤ last → s .lines ≤ last → length old ≤ last
+    → Putting form v h t prefix slot twice heads links first given old s old s first
+put-start form v h t prefix slot twice heads links first given old s a b d = record { size = refl; is = λ g. ([], (refl, wrote-no-lines given old s a b d)) }
 
-module _ {form : Form} {v : Version} {h t prefix : Bytes} {slot : ℕ} {heads links : List ℕ} {first : ℕ} {given old : Bytes} {s₀ : Progress} {new : Bytes} {s : Progress} {k : ℕ}
-    (g : Putting form v h t prefix slot heads links first given old s₀ new s k) {n : ℕ} (en : n ≡ room form t) where
+module _ {form : Form} {v : Version} {h t prefix : Bytes} {slot : ℕ} {twice heads links : List ℕ} {first : ℕ} {given old : Bytes} {s₀ : Progress} {new : Bytes} {s : Progress} {k : ℕ}
+    (g : Putting form v h t prefix slot twice heads links first given old s₀ new s k) {n : ℕ} (en : n ≡ room form t) where
   module _ (l : k < n) {e : CodeEntry} (ee : entryOf e ≡ entryIn form t k) {q : Bool} (u : q ≡ isUnder h prefix (entryOf e)) where
     inside : k < room form t
     inside = rw (← en) l
 
     -- the entries that are passed over
-    skipped : Linked form v (s₀ .formed) h t prefix slot heads links → (r : ℕ) → k + 1 ≤ r
-        → ((m : ℕ) → k + 1 ≤ m → (slotIn h (length heads) (entryIn form t k) ≡ slot → getD links (k + 1) 0 ≤ m) → r ≤ m)
+    skipped : Linked form v (s₀ .formed) h t prefix slot twice heads links → (r : ℕ) → k + 1 ≤ r
+        → ((m : ℕ) → k + 1 ≤ m → (slotIn h twice (length heads) (entryIn form t k) ≡ slot → slot < length heads → linkOf links (k + 1) ≤ m) → r ≤ m)
         → picked v h prefix (drop (k + 1) (entriesIn form t)) ≡ picked v h prefix (drop r (entriesIn form t))
     skipped x r b p =
         let z : k + 1 + (r - (k + 1)) ≡ r = omega arith in
         picked-skip form h t prefix v (r - (k + 1)) (k + 1) (λ m a c d. passed-over x k r p m (omega arith) (rw z at c) d) ∙ ap (λ (i : ℕ). picked v h prefix (drop i (entriesIn form t))) z
 
-    pub put-more : q ≡ true → {p : Progress} {o : Bytes} → PutsEntry v (lineIn h (entryOf e)) given new s p o → length o ≡ length new → {r : ℕ} → NextIs links (k + 1) r
-        → Putting form v h t prefix slot heads links first given old s₀ o p r
+    pub put-more : q ≡ true → {p : Progress} {o : Bytes} → PutsEntry v (lineIn h (entryOf e)) given new s p o → length o ≡ length new → {r : ℕ} → NextIs slot heads links (k + 1) r
+        → Putting form v h t prefix slot twice heads links first given old s₀ o p r
     unfolding isUnder
     put-more f {p} {o} a m {r} b = record {
       size = m ∙ g .size;
@@ -130,7 +136,7 @@ module _ {form : Form} {v : Version} {h t prefix : Bytes} {slot : ℕ} {heads li
           let z : Listed (s₀ .formed) v h (entryOf e) = rw ee y in
           let j : picked v h prefix (drop k (entriesIn form t)) ≡ line ∷ picked v h prefix (drop r (entriesIn form t))
           = ap (picked v h prefix) (entries-here form t k inside) ∙ picked-yes v h prefix (entryIn form t k) (drop (k + 1) (entriesIn form t)) w
-          ∙ rw (← ee) (ap (line ∷_) (skipped x r (b .back) (λ i c d. b .is i c (d (own-is x k inside w .1))))) in (
+          ∙ rw (← ee) (ap (line ∷_) (skipped x r (b .back) (λ i c d. b .is i c (d (slot-is x k inside w))))) in (
             d .0 ++ line ∷ [],
             (
               d .1 .0 ∙ ap (d .0 ++_) j ∙ sym (append-assoc (d .0) (line ∷ []) (picked v h prefix (drop r (entriesIn form t)))),
@@ -139,7 +145,7 @@ module _ {form : Form} {v : Version} {h t prefix : Bytes} {slot : ℕ} {heads li
           );
     }
 
-    pub put-other : q ≡ false → {r : ℕ} → PassesOther h (entryOf e) slot heads links (k + 1) r → Putting form v h t prefix slot heads links first given old s₀ new s r
+    pub put-other : q ≡ false → {r : ℕ} → PassesOther h twice (entryOf e) slot heads links (k + 1) r → Putting form v h t prefix slot twice heads links first given old s₀ new s r
     put-other f {r} b = record {
       size = g .size;
       is = λ x.
@@ -153,7 +159,7 @@ module _ {form : Form} {v : Version} {h t prefix : Bytes} {slot : ℕ} {heads li
           );
     }
 
-  pub put-end : n ≤ k → PutsLinked form v h t prefix slot heads links first given old s₀ s new
+  pub put-end : n ≤ k → PutsLinked form v h t prefix slot twice heads links first given old s₀ s new
   unfolding picked
   put-end l = record {
     is = λ x.
@@ -163,14 +169,35 @@ module _ {form : Form} {v : Version} {h t prefix : Bytes} {slot : ℕ} {heads li
 
 pub ruleset puttings = (put-more, put-other, put-end, see-less, next-less)
 
--- what answers the needs of `put_if_first`
-module _ {form : Form} (v : Version) {h : Bytes} {t heads links : List ℕ} {k : ℕ} {e : CodeEntry} (ee : entryOf e ≡ entryIn form t k) {q : Bool} (o : q ≡ isOtherRecord (entryOf e)) where
-  pub first-typed : not q ≡ true → (given old : Bytes) (s : Progress) → PutsFirst form v h t heads links k given old s s old
-  unfolding isFirst
-  first-typed n given old s = record { is = λ x y l out b ls w. rw (← ee, ← o, not-true q n, append-nil ls) w }
+-- a key that has no slot where there are some is not marked
+unmet : (twice : List ℕ) (n : ℕ) (p : Bytes) → isPast n (slotOf twice n p) ≡ true → isMet twice (wideFrom wideBasis p) ≡ false
+unfolding slotOf
+unmet twice zero p e = both e refl
+unmet twice (suc n) p e = elim (test (isMet twice (wideFrom wideBasis p))) [
+  | fail q ↦ q
+  | pass q ↦
+      let x = wideStep (wideFrom wideBasis p) 0 in
+      let y : leb (suc n) (x % suc n) ≡ true = and-r (not (eqb (suc n) 0)) (leb (suc n) (x % suc n)) (rw (slotOf, q) at e) in
+      absurd (omega (arith, leb-true (suc n) (x % suc n) y, mod-lt x {m = suc n} (omega arith)))
+]
 
-  module _ (n : not q ≡ false) {p : Bytes} (i : p ≡ prefixIn h (entryOf e)) {slot : ℕ} (z : slot ≡ slotOf (length heads) p) where
-    linked-here : (f : Bool) → AllListed f v h (entriesIn form t) → Links form h t heads links 0 → k < room form t → Linked form v f h t p slot heads links
+-- what answers the needs of `is_alone`
+pub alone-none : (n slot : ℕ) → n ≡ 0 → false ≡ isPast n slot
+alone-none n slot e = rw (eq-eqb n 0 e)
+
+pub alone-past : (n slot : ℕ) → (n ≡ 0 → ⊥) → leb n slot ≡ isPast n slot
+alone-past n slot f = rw (ne-eqb n 0 f)
+
+pub ruleset alones = (alone-none, alone-past)
+
+-- what answers the needs of `put_if_first`
+module _ {form : Form} (v : Version) {h : Bytes} {t twice heads links : List ℕ} {k : ℕ} {e : CodeEntry} (ee : entryOf e ≡ entryIn form t k) {q : Bool} (o : q ≡ isOtherRecord (entryOf e)) where
+  pub first-typed : not q ≡ true → (given old : Bytes) (s : Progress) → PutsFirst form v h t twice heads links k given old s s old
+  unfolding isFirst
+  first-typed n given old s = record { is = λ x tw y l out b ls w. rw (← ee, ← o, not-true q n, append-nil ls) w }
+
+  module _ (n : not q ≡ false) {p : Bytes} (i : p ≡ prefixIn h (entryOf e)) {slot : ℕ} (z : slot ≡ slotOf twice (length heads) p) where
+    linked-here : (f : Bool) → AllListed f v h (entriesIn form t) → Links form h t twice heads links 0 → k < room form t → Linked form v f h t p slot twice heads links
     linked-here f x y l =
         let other : isOtherRecord (entryOf e) ≡ true = sym o ∙ not-false q n in
         let g : Listed f v h (entryIn form t k) = listed-at f v h (take k (entriesIn form t)) (entryIn form t k) (drop (k + 1) (entriesIn form t))
@@ -188,17 +215,17 @@ module _ {form : Form} (v : Version) {h : Bytes} {t heads links : List ℕ} {k :
           place = z;
         }
 
-    module _ {r : Bool} (w : SeesKey form h t p slot heads links k r) where
-      first-is : (f : Bool) → AllListed f v h (entriesIn form t) → Links form h t heads links 0 → k < room form t → isFirst h (take k (entriesIn form t)) (entryIn form t k) ≡ not r
+    module _ {r : Bool} (w : SeesKey form h t p slot twice heads links k r) where
+      first-is : (f : Bool) → AllListed f v h (entriesIn form t) → Links form h t twice heads links 0 → k < room form t → isFirst h (take k (entriesIn form t)) (entryIn form t k) ≡ not r
       unfolding isFirst
       first-is f x y l = rw (← ee, ← o, not-false q n, ← i, ← w .is f v (linked-here f x y l) (omega arith))
 
-      pub first-seen : r ≡ true → (given old : Bytes) (s : Progress) → PutsFirst form v h t heads links k given old s s old
-      first-seen c given old s = record { is = λ x y l out b ls u. rw (first-is (s .formed) x y l, c, append-nil ls) u }
+      pub first-seen : r ≡ true → (given old : Bytes) (s : Progress) → PutsFirst form v h t twice heads links k given old s s old
+      first-seen c given old s = record { is = λ x tw y l out b ls u. rw (first-is (s .formed) x y l, c, append-nil ls) u }
 
-      pub first-put : r ≡ false → {given old : Bytes} {s u : Progress} {new : Bytes} → PutsLinked form v h t p slot heads links k given old s u new → PutsFirst form v h t heads links k given old s u new
+      pub first-put : r ≡ false → {given old : Bytes} {s u : Progress} {new : Bytes} → PutsLinked form v h t p slot twice heads links k given old s u new → PutsFirst form v h t twice heads links k given old s u new
       first-put c {given} {old} {s} {u} {new} a = record {
-        is = λ x y l out b ls d.
+        is = λ x tw y l out b ls d.
             let j = linked-here (s .formed) x y l in
             let none : seenUnder h p (take k (entriesIn form t)) ≡ false = sym (w .is (s .formed) v j (omega arith)) ∙ c in
             let all : picked v h p (entriesIn form t) ≡ picked v h p (drop k (entriesIn form t))
@@ -206,7 +233,48 @@ module _ {form : Form} (v : Version) {h : Bytes} {t heads links : List ℕ} {k :
             rw (first-is (s .formed) x y l, c, ← ee, ← i, all) (then-lines d (a .is j));
       }
 
-pub ruleset firsts = (first-typed, first-seen, first-put)
+    -- no other entry has a key that is not marked
+    module _ {r : Bool} (c : r ≡ isPast (length heads) slot) (past : r ≡ true) where
+      apart : (f : Bool) → AllListed f v h (entriesIn form t) → MarksTwice form h t twice → Links form h t twice heads links 0 → k < room form t
+          → (m : ℕ) → m < room form t → (m ≡ k → ⊥) → isUnder h p (entryIn form t m) ≡ false
+      apart f x tw y l m a d = elim (test (isUnder h p (entryIn form t m))) [
+        | fail u ↦ u
+        | pass u ↦
+            let w = own-is (linked-here f x y l) m a u in
+            let here : isOtherRecord (entryIn form t k) ≡ true = ap isOtherRecord (sym ee) ∙ sym o ∙ not-false q n in
+            let same : prefixIn h (entryIn form t k) ≡ p = ap (prefixIn h) (sym ee) ∙ sym i in
+            let off : isMet twice (wideFrom wideBasis p) ≡ false = unmet twice (length heads) p (ap (isPast (length heads)) (sym z) ∙ sym c ∙ past) in
+            elim (test (ltb m k)) [
+              | pass b ↦ both (tw .is m k (ltb-true m k b) l (w .0) here (ap (wideFrom wideBasis) (w .1 ∙ sym same))) (ap (λ (x : Bytes). isMet twice (wideFrom wideBasis x)) same ∙ off)
+              | fail b ↦
+                  let e : k < m = omega (arith, ltb-false m k b, d) in
+                  both (tw .is k m e a here (w .0) (ap (wideFrom wideBasis) (same ∙ sym (w .1)))) (ap (λ (x : Bytes). isMet twice (wideFrom wideBasis x)) (w .1) ∙ off)
+            ]
+      ]
+
+      pub first-alone : {given old : Bytes} {s u : Progress} {new : Bytes} → PutsEntry v (lineIn h (entryOf e)) given old s u new → PutsFirst form v h t twice heads links k given old s u new
+      unfolding isFirst picked
+      first-alone {given} {old} {s} {u} {new} a = record {
+        is = λ x tw y l out b ls d.
+            let j = linked-here (s .formed) x y l in
+            let away = apart (s .formed) x tw y l in
+            let other : isOtherRecord (entryIn form t k) ≡ true = ap isOtherRecord (sym ee) ∙ sym o ∙ not-false q n in
+            let g = listed-in j k l (other-record (entryIn form t k) other) in
+            let z : Listed (s .formed) v h (entryOf e) = rw ee g in
+            let under : isUnder h p (entryIn form t k) ≡ true = rw (i, ee, g .prefix) (g .under (g .key) (g .plain) ∙ same-self (g .key)) in
+            let none : seenUnder h p (take k (entriesIn form t)) ≡ false = seen-none form h t p k (omega arith) (λ m a. away m (omega arith) (λ e. omega (arith, e))) in
+            let line = houseLine v (lineIn h (entryOf e)) in
+            let rest : picked v h p (drop (k + 1) (entriesIn form t)) ≡ []
+            = picked-skip form h t p v (room form t - (k + 1)) (k + 1) (λ m a b c. away m c (λ e. omega (arith, e)))
+            ∙ ap (picked v h p) (entries-past form t (k + 1 + (room form t - (k + 1))) (omega arith)) in
+            let only : picked v h p (entriesIn form t) ≡ line ∷ []
+            = ap (picked v h p) (sym (take-append-drop k (entriesIn form t))) ∙ unseen-picked v h p (take k (entriesIn form t)) (drop k (entriesIn form t)) none
+            ∙ ap (picked v h p) (entries-here form t k l) ∙ picked-yes v h p (entryIn form t k) (drop (k + 1) (entriesIn form t)) under ∙ rw (← ee) (ap (line ∷_) rest) in
+            let first : isFirst h (take k (entriesIn form t)) (entryOf e) ≡ true = rw (← o, not-false q n, ← i, none) in
+            rw (← ee, first, ← i, only) (then-lines d (a .is (z .readable) (z .copied)));
+      }
+
+pub ruleset firsts = (first-typed, first-seen, first-put, first-alone)
 
 other-turn : (v : Version) (h : Bytes) (es : List Entry) (k : ℕ) (e : Entry) → drop k es ≡ e ∷ drop (k + 1) es → {q : Bool} → q ≡ isFirst h (take k es) e
     → otherLines v h es (take k es) (drop k es) ≡ linesIf q (picked v h (prefixIn h e) es) ++ otherLines v h es (take (k + 1) es) (drop (k + 1) es)
@@ -215,45 +283,55 @@ other-turn v h es k e here first = let more : take (k + 1) es ≡ take k es ++ e
 
 -- The loop over the keys: the lines of those that appear before number k are written
 
-pub record Othering (form : Form) (v : Version) (h : Bytes) (t heads links : List ℕ) (given old : Bytes) (s₀ : Progress) (new : Bytes) (s : Progress) (k : ℕ) : Type 0 where
+pub record Othering (form : Form) (v : Version) (h : Bytes) (t twice heads links : List ℕ) (given old : Bytes) (s₀ : Progress) (new : Bytes) (s : Progress) (k : ℕ) : Type 0 where
   pub size : length new ≡ length old
-  pub is : AllListed (s₀ .formed) v h (entriesIn form t) → Links form h t heads links 0
+  pub is : AllListed (s₀ .formed) v h (entriesIn form t) → MarksTwice form h t twice → Links form h t twice heads links 0
       → (ls : List Bytes) × ((otherLines v h (entriesIn form t) [] (entriesIn form t) ≡ ls ++ otherLines v h (entriesIn form t) (take k (entriesIn form t)) (drop k (entriesIn form t))) × WroteLines given old s₀ ls s new)
 
-pub other-start : (form : Form) (v : Version) (h : Bytes) (t heads links : List ℕ) (given old : Bytes) (s : Progress) → s .next .at ≤ last → s .lines ≤ last → length old ≤ last
-    → Othering form v h t heads links given old s old s 0
-other-start form v h t heads links given old s a b d = record { size = refl; is = λ g j. ([], (refl, wrote-no-lines given old s a b d)) }
+pub other-start : (form : Form) (v : Version) (h : Bytes) (t twice heads links : List ℕ) (given old : Bytes) (s : Progress) → s .next .at ≤ last → s .lines ≤ last → length old ≤ last
+    → Othering form v h t twice heads links given old s old s 0
+other-start form v h t twice heads links given old s a b d = record { size = refl; is = λ g tw j. ([], (refl, wrote-no-lines given old s a b d)) }
 
-module _ {form : Form} {v : Version} {h : Bytes} {t heads links : List ℕ} {given old : Bytes} {s₀ : Progress} {new : Bytes} {s : Progress} {k : ℕ} (g : Othering form v h t heads links given old s₀ new s k) {n : ℕ} (en : n ≡ room form t) where
+module _ {form : Form} {v : Version} {h : Bytes} {t twice heads links : List ℕ} {given old : Bytes} {s₀ : Progress} {new : Bytes} {s : Progress} {k : ℕ} (g : Othering form v h t twice heads links given old s₀ new s k) {n : ℕ} (en : n ≡ room form t) where
   abbrev es : List Entry
   es = entriesIn form t
 
-  pub other-more : k < n → {r : Progress} {o : Bytes} → PutsFirst form v h t heads links k given new s r o → length o ≡ length new → Othering form v h t heads links given old s₀ o r (k + 1)
+  pub other-more : k < n → {r : Progress} {o : Bytes} → PutsFirst form v h t twice heads links k given new s r o → length o ≡ length new → Othering form v h t twice heads links given old s₀ o r (k + 1)
   other-more l {r} {o} a m = record {
     size = m ∙ g .size;
-    is = λ x j.
-        let d = g .is x j in
+    is = λ x tw j.
+        let d = g .is x tw j in
         let e = entryIn form t k in
         let ls = linesIf (isFirst h (take k es) e) (picked v h (prefixIn h e) es) in (
           d .0 ++ ls,
           (
             d .1 .0 ∙ ap (d .0 ++_) (other-turn v h es k e (entries-here form t k (rw (← en) l)) refl) ∙ sym (append-assoc (d .0) ls (otherLines v h es (take (k + 1) es) (drop (k + 1) es))),
-            a .is (listed-on (d .1 .1) v h es x) j (rw (← en) l) old s₀ (d .0) (d .1 .1),
+            a .is (listed-on (d .1 .1) v h es x) tw j (rw (← en) l) old s₀ (d .0) (d .1 .1),
           ),
         );
   }
 
-  pub other-end : n ≤ k → PutsOthersBy form v h t heads links given old s₀ s new
+  pub other-end : n ≤ k → PutsOthersBy form v h t twice heads links given old s₀ s new
   unfolding otherLines
   other-end l = record {
-    is = λ x j.
-        let d = g .is x j in
+    is = λ x tw j.
+        let d = g .is x tw j in
         subst (λ (ls : List Bytes). WroteLines given old s₀ ls s new) (sym (d .1 .0 ∙ ap (d .0 ++_) (rw (entries-past form t k (rw (← en) l))) ∙ append-nil (d .0))) (d .1 .1);
   }
 
 pub ruleset others = (other-more, other-end)
 
--- what answers the needs of `put_others_linked`
-pub others-linked : {form : Form} {v : Version} {h : Bytes} {t heads links : List ℕ} {given old : Bytes} {s r : Progress} {new : Bytes} → Links form h t heads links 0
-    → PutsOthersBy form v h t heads links given old s r new → PutsOthers v h (entriesIn form t) given old s r new
-others-linked m p = record { is = λ a. p .is a m }
+-- what answers the needs of `put_others_linked` and its callers
+pub others-linked : {form : Form} {v : Version} {h : Bytes} {t twice heads links : List ℕ} {given old : Bytes} {s r : Progress} {new : Bytes} → Links form h t twice heads links 0
+    → PutsOthersBy form v h t twice heads links given old s r new → PutsOthersMarked form v h t twice given old s r new
+others-linked m p = record { is = λ a tw. p .is a tw m }
+
+module _ {form : Form} {v : Version} {h : Bytes} {t twice : List ℕ} {given old : Bytes} {s r : Progress} {new : Bytes} (p : PutsOthersMarked form v h t twice given old s r new) where
+  pub others-marked : MarksTwice form h t twice → PutsOthers v h (entriesIn form t) given old s r new
+  others-marked m = record { is = λ a. p .is a m }
+
+  -- where there are no marks, any key may be one of several entries
+  pub others-unmarked : length twice ≡ 0 → PutsOthers v h (entriesIn form t) given old s r new
+  others-unmarked z = others-marked (record { is = λ i j a b c d e. sym (none-met twice (hashIn h (entryIn form t j)) z) })
+
+pub ruleset markeds = (others-marked, others-unmarked)

@@ -5,8 +5,12 @@ use mathlib.Core.Bool.{Bool, true, false}
 use mathlib.Core.List.{[], _∷_, _++_, map}
 use mathlib.Core.Option.{none}
 use Rattle.values.specs.Bytes.{Bytes, ascii}
+use Rattle.values.specs.Hash.{wideBasis, wideStep, wideFrom}
+use Rattle.values.specs.Marks.{markWord, markBit, markBits, hasBits, isMet, meet}
 use Rattle.rules.specs.Sizes.{Limits, limits}
 use Rattle.rules.specs.Examples.{opened as rules}
+use Rattle.house.specs.Doubles.{partOf}
+use Rattle.house.specs.Links.{slotOf, cellOf}
 use Rattle.house.specs.IsHouse.{firstDifference, IsHouse, isHouse}
 
 unfoldable pub opened : Unit {0}
@@ -59,3 +63,16 @@ refusals : map (λ (h : Bytes). answer (isHouse few none 64 h)) (
     ) ≡ (27, 0, 0, false, 0) ∷ (0, 3, 86, false, 45) ∷ []
 unfolding opened
 refusals = refl
+
+-- the parts of hashes, and where links are kept that are more than there is room for
+remainders : (map (partOf 4) (0 ∷ 7 ∷ 8 ∷ []) ≡ 0 ∷ 3 ∷ 0 ∷ []) × (map (cellOf 3) (1 ∷ 2 ∷ 3 ∷ 7 ∷ []) ≡ 1 ∷ 2 ∷ 0 ∷ 1 ∷ [])
+unfolding partOf cellOf
+remainders = (refl, refl)
+
+-- a key's slot among 8: by its hash where it is marked or there are no marks, else none
+abbrev pub prefix : Bytes
+prefix = ascii "##cell="
+
+slotted : map (λ (twice : Bytes). slotOf twice 8 prefix) ([] ∷ meet (0 ∷ 0 ∷ []) (wideFrom wideBasis prefix) ∷ (0 ∷ 0 ∷ []) ∷ []) ≡ 5 ∷ 5 ∷ 8 ∷ []
+unfolding slotOf isMet meet hasBits markWord markBit markBits wideStep wideFrom
+slotted = refl

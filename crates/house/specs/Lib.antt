@@ -1,5 +1,6 @@
 pub mod Writes
 pub mod Keys
+pub mod Doubles
 pub mod Links
 pub mod Forms
 pub mod Answers

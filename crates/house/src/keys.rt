@@ -1,4 +1,5 @@
 // The entries of a key, as they follow one another in the header.
+use crate::doubles;
 use crate::links;
 use crate::progress;
 use crate::progress::Progress;
@@ -16,7 +17,8 @@ ghost use Rattle.rules.specs.Known.{typedKeys};
 ghost use Rattle.entries.specs.Values.{entryOf};
 ghost use Rattle.entries.specs.Tables.{entriesIn};
 ghost use Rattle.house.specs.Keys.{isRecord, isUnder, PutsKey, AreFormed, PutsKeys, laterKeys, isTypedRecord, anyTyped, prefixIn, isOtherRecord, PutsOthers};
-ghost use Rattle.house.specs.Links.{SeesKey, PutsLinked, PutsFirst, PutsOthersBy};
+ghost use lib.ListN.{length};
+ghost use Rattle.house.specs.Links.{isPast, SeesKey, PutsLinked, PutsFirst, PutsOthersBy, PutsOthersMarked};
 
 // Whether an entry is a map or a text.
 fn is_record(e: Entry) -> bool
@@ -179,11 +181,12 @@ fn is_seen(
     form: Form,
     prefix: &[u8],
     slot: usize,
+    twice: &[u64],
     heads: &[u32],
     links: &[u32],
     end: usize,
 ) -> bool
-    ensures { λ r. ⌜ SeesKey form (now (h .entry)) (now (kept .entry)) (now (prefix .entry)) slot (now (heads .entry)) (now (links .entry)) end r ⌝ }
+    ensures { λ r. ⌜ SeesKey form (now (h .entry)) (now (kept .entry)) (now (prefix .entry)) slot (now (twice .entry)) (now (heads .entry)) (now (links .entry)) end r ⌝ }
 {
     let mut k = links::number_at(heads, slot);
     while k < end {
@@ -192,7 +195,7 @@ fn is_seen(
         if is_under(h, e, prefix) {
             return true;
         }
-        k = links::pass_other(h, e, slot, heads, links, k);
+        k = links::pass_other(h, e, slot, twice, heads, links, k);
     }
     false
 }
@@ -204,6 +207,7 @@ fn put_linked(
     form: Form,
     prefix: &[u8],
     slot: usize,
+    twice: &[u64],
     heads: &[u32],
     links: &[u32],
     first: usize,
@@ -212,8 +216,8 @@ fn put_linked(
     given: &[u8],
     s: Progress,
 ) -> Progress
-    ensures { λ r. ⌜ PutsLinked form (versionOf version) (now (h .entry)) (now (kept .entry)) (now (prefix .entry)) slot (now (heads .entry)) (now (links .entry)) first (now (given .entry))
-        (now (out .entry)) s r (now (out .exit)) ⌝ }
+    ensures { λ r. ⌜ PutsLinked form (versionOf version) (now (h .entry)) (now (kept .entry)) (now (prefix .entry)) slot (now (twice .entry)) (now (heads .entry)) (now (links .entry)) first
+        (now (given .entry)) (now (out .entry)) s r (now (out .exit)) ⌝ }
 {
     let mut progress = s;
     let mut k = first;
@@ -222,12 +226,22 @@ fn put_linked(
         k += 1;
         if is_under(h, e, prefix) {
             progress = progress::put_entry(h, e, version, out, given, progress);
-            k = links::next_of(links, k);
+            k = links::next_of(slot, heads, links, k);
         } else {
-            k = links::pass_other(h, e, slot, heads, links, k);
+            k = links::pass_other(h, e, slot, twice, heads, links, k);
         }
     }
     progress
+}
+
+// Whether a key that has no slot is that of one entry only.
+fn is_alone(heads: &[u32], slot: usize) -> bool
+    ensures { λ r. ⌜ r ≡ isPast (length (now (heads .entry))) slot ⌝ }
+{
+    if heads.len() == 0 {
+        return false;
+    }
+    heads.len() <= slot
 }
 
 // The lines of the key of entry number k, if that is not typed and no entry before is under it.
@@ -235,6 +249,7 @@ fn put_if_first(
     h: &[u8],
     kept: &[u64],
     form: Form,
+    twice: &[u64],
     heads: &[u32],
     links: &[u32],
     k: usize,
@@ -243,7 +258,7 @@ fn put_if_first(
     given: &[u8],
     s: Progress,
 ) -> Progress
-    ensures { λ r. ⌜ PutsFirst form (versionOf version) (now (h .entry)) (now (kept .entry)) (now (heads .entry)) (now (links .entry)) k (now (given .entry)) (now (out .entry)) s r
+    ensures { λ r. ⌜ PutsFirst form (versionOf version) (now (h .entry)) (now (kept .entry)) (now (twice .entry)) (now (heads .entry)) (now (links .entry)) k (now (given .entry)) (now (out .entry)) s r
         (now (out .exit)) ⌝ }
 {
     let e = table::get(kept, form, k);
@@ -251,8 +266,11 @@ fn put_if_first(
         return s;
     }
     let prefix = prefix_part(h, e);
-    let slot = links::slot_of(heads, prefix);
-    if is_seen(h, kept, form, prefix, slot, heads, links, k) {
+    let slot = links::slot_of(twice, heads, prefix);
+    if is_alone(heads, slot) {
+        return progress::put_entry(h, e, version, out, given, s);
+    }
+    if is_seen(h, kept, form, prefix, slot, twice, heads, links, k) {
         return s;
     }
     put_linked(
@@ -261,6 +279,7 @@ fn put_if_first(
         form,
         prefix,
         slot,
+        twice,
         heads,
         links,
         k,
@@ -271,19 +290,21 @@ fn put_if_first(
     )
 }
 
-// The other keys, by first appearance, where the entries are linked.
+// The other keys, by first appearance, where the entries are linked and the keys of several are marked in `twice`.
 fn put_others_by(
     h: &[u8],
     kept: &[u64],
     form: Form,
     version: FileFormat,
+    twice: &[u64],
     heads: &[u32],
     links: &[u32],
     out: &mut [u8],
     given: &[u8],
     s: Progress,
 ) -> Progress
-    ensures { λ r. ⌜ PutsOthersBy form (versionOf version) (now (h .entry)) (now (kept .entry)) (now (heads .entry)) (now (links .entry)) (now (given .entry)) (now (out .entry)) s r (now (out .exit)) ⌝ }
+    ensures { λ r. ⌜ PutsOthersBy form (versionOf version) (now (h .entry)) (now (kept .entry)) (now (twice .entry)) (now (heads .entry)) (now (links .entry)) (now (given .entry)) (now (out .entry)) s r
+        (now (out .exit)) ⌝ }
 {
     let mut progress = s;
     let mut k = 0;
@@ -292,6 +313,7 @@ fn put_others_by(
             h,
             kept,
             form,
+            twice,
             heads,
             links,
             k,
@@ -311,16 +333,48 @@ fn put_others_linked(
     kept: &[u64],
     form: Form,
     version: FileFormat,
+    twice: &[u64],
     heads: &mut [u32],
     links: &mut [u32],
     out: &mut [u8],
     given: &[u8],
     s: Progress,
 ) -> Progress
+    ensures { λ r. ⌜ PutsOthersMarked form (versionOf version) (now (h .entry)) (now (kept .entry)) (now (twice .entry)) (now (given .entry)) (now (out .entry)) s r (now (out .exit)) ⌝ }
+{
+    links::link_all(h, kept, form, twice, heads, links);
+    put_others_by(h, kept, form, version, twice, heads, links, out, given, s)
+}
+
+// The other keys where there are more entries than links: only keys that several entries have are linked. All marks, heads and links together
+// take 896 KiB of the stack.
+fn put_others_marked(
+    h: &[u8],
+    kept: &[u64],
+    form: Form,
+    version: FileFormat,
+    out: &mut [u8],
+    given: &[u8],
+    s: Progress,
+) -> Progress
     ensures { λ r. ⌜ PutsOthers (versionOf version) (now (h .entry)) (entriesIn form (now (kept .entry))) (now (given .entry)) (now (out .entry)) s r (now (out .exit)) ⌝ }
 {
-    links::link_all(h, kept, form, heads, links);
-    put_others_by(h, kept, form, version, heads, links, out, given, s)
+    let mut twice = [0u64; 8192];
+    doubles::mark_all(h, kept, form, &mut twice);
+    let mut heads = [0xFFFF_FFFFu32; 16384];
+    let mut links = [0xFFFF_FFFFu32; 98304];
+    put_others_linked(
+        h,
+        kept,
+        form,
+        version,
+        &twice,
+        &mut heads,
+        &mut links,
+        out,
+        given,
+        s,
+    )
 }
 
 fn put_others_many(
@@ -335,12 +389,13 @@ fn put_others_many(
     ensures { λ r. ⌜ PutsOthers (versionOf version) (now (h .entry)) (entriesIn form (now (kept .entry))) (now (given .entry)) (now (out .entry)) s r (now (out .exit)) ⌝ }
 {
     let mut heads = [0xFFFF_FFFFu32; 16384];
-    let mut links = [0u32; 16384];
+    let mut links = [0xFFFF_FFFFu32; 16384];
     put_others_linked(
         h,
         kept,
         form,
         version,
+        &kept[..0],
         &mut heads,
         &mut links,
         out,
@@ -361,12 +416,13 @@ fn put_others_most(
     ensures { λ r. ⌜ PutsOthers (versionOf version) (now (h .entry)) (entriesIn form (now (kept .entry))) (now (given .entry)) (now (out .entry)) s r (now (out .exit)) ⌝ }
 {
     let mut heads = [0xFFFF_FFFFu32; 131072];
-    let mut links = [0u32; 98304];
+    let mut links = [0xFFFF_FFFFu32; 98304];
     put_others_linked(
         h,
         kept,
         form,
         version,
+        &kept[..0],
         &mut heads,
         &mut links,
         out,
@@ -391,17 +447,31 @@ fn put_others_sized(
     ensures { λ r. ⌜ PutsOthers (versionOf version) (now (h .entry)) (entriesIn form (now (kept .entry))) (now (given .entry)) (now (out .entry)) s r (now (out .exit)) ⌝ }
 {
     if 0 < links.len() {
-        return put_others_linked(h, kept, form, version, heads, links, out, given, s);
+        return put_others_linked(
+            h,
+            kept,
+            form,
+            version,
+            &kept[..0],
+            heads,
+            links,
+            out,
+            given,
+            s,
+        );
     }
     if kept.len() < 2048 {
         let mut one = [0xFFFF_FFFFu32; 1024];
-        let mut two = [0u32; 1024];
+        let mut two = [0xFFFF_FFFFu32; 1024];
         return put_others_sized(h, kept, form, version, &mut one, &mut two, out, given, s);
     }
     if kept.len() < 32768 {
         return put_others_many(h, kept, form, version, out, given, s);
     }
-    put_others_most(h, kept, form, version, out, given, s)
+    if table::count(kept, form) < 98304 {
+        return put_others_most(h, kept, form, version, out, given, s);
+    }
+    put_others_marked(h, kept, form, version, out, given, s)
 }
 
 // The other keys, by first appearance. Few entries are looked through in less time than it takes to link them.
@@ -424,6 +494,7 @@ pub fn put_others(
             kept,
             form,
             version,
+            &kept[..0],
             &mut heads,
             &mut links,
             out,

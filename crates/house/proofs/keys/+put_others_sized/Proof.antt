@@ -4,11 +4,15 @@ use borrow.Fn.PlainCycle.{Measures, is, falls, and}
 use Rattle.house.proofs.keys.put_others_sized.Reads as put-others-sized
 use Rattle.house.proofs.keys.put_others_sized.Kinds as put-others-sized-kinds
 use Rattle.house.proofs.keys.+put_others_sized.Lts-put_others_sized as put-others-sized-lts
+use Rattle.entries.proofs.table.count.Reads as count-reads
 use Rattle.house.proofs.keys.put_others_linked.Reads as put-others-linked-reads
 use Rattle.house.proofs.keys.put_others_many.Reads as put-others-many-reads
+use Rattle.house.proofs.keys.put_others_marked.Reads as put-others-marked-reads
 use Rattle.house.proofs.keys.put_others_most.Reads as put-others-most-reads
 use Rattle.house.proofs.keys.+put_others_sized.{statement}
 use Rattle.house.proofs.keys.+put_others_sized.Tie.{close}
+use Rattle.house.proofs.Others.{markeds}
+use mathlib.Core.Path.{refl}
 use lib.ListN.{length}
 use borrow.Author.Needs.{needs}
 
@@ -31,6 +35,23 @@ put-others-sized-below t =
     (falls 6 put-others-sized-kinds.ps _<_ μ-put-others-sized t)
     put-others-sized.Pre
 
+put-others-sized-slice-aggregate-put-others-linked :
+    (t : ℕ) → put-others-sized-lts.Need-slice-aggregate-put-others-linked (
+      put-others-linked-reads.Asked,
+      put-others-linked-reads.Learnt,
+      put-others-sized-below t,
+      put-others-sized.Post,
+      put-others-many-reads.Asked,
+      put-others-many-reads.Learnt,
+      count-reads.Asked,
+      count-reads.Learnt,
+      put-others-most-reads.Asked,
+      put-others-most-reads.Learnt,
+      put-others-marked-reads.Asked,
+      put-others-marked-reads.Learnt,
+    ) (put-others-sized-at t) put-others-sized.Post
+put-others-sized-slice-aggregate-put-others-linked t c = search needs
+
 put-others-sized-put-others-linked-requires :
     (t : ℕ) → put-others-sized-lts.Need-put-others-linked-requires (
       put-others-linked-reads.Asked,
@@ -39,8 +60,12 @@ put-others-sized-put-others-linked-requires :
       put-others-sized.Post,
       put-others-many-reads.Asked,
       put-others-many-reads.Learnt,
+      count-reads.Asked,
+      count-reads.Learnt,
       put-others-most-reads.Asked,
       put-others-most-reads.Learnt,
+      put-others-marked-reads.Asked,
+      put-others-marked-reads.Learnt,
     ) (put-others-sized-at t) put-others-sized.Post
 put-others-sized-put-others-linked-requires t c κs = search needs
 
@@ -51,8 +76,12 @@ put-others-sized-same-length : (t : ℕ) → put-others-sized-lts.Need-same-leng
   put-others-sized.Post,
   put-others-many-reads.Asked,
   put-others-many-reads.Learnt,
+  count-reads.Asked,
+  count-reads.Learnt,
   put-others-most-reads.Asked,
   put-others-most-reads.Learnt,
+  put-others-marked-reads.Asked,
+  put-others-marked-reads.Learnt,
 ) (put-others-sized-at t) put-others-sized.Post
 put-others-sized-same-length t c = search needs
 
@@ -63,8 +92,12 @@ put-others-sized-same-length-2 : (t : ℕ) → put-others-sized-lts.Need-same-le
   put-others-sized.Post,
   put-others-many-reads.Asked,
   put-others-many-reads.Learnt,
+  count-reads.Asked,
+  count-reads.Learnt,
   put-others-most-reads.Asked,
   put-others-most-reads.Learnt,
+  put-others-marked-reads.Asked,
+  put-others-marked-reads.Learnt,
 ) (put-others-sized-at t) put-others-sized.Post
 put-others-sized-same-length-2 t c = search needs
 
@@ -75,8 +108,12 @@ put-others-sized-same-length-3 : (t : ℕ) → put-others-sized-lts.Need-same-le
   put-others-sized.Post,
   put-others-many-reads.Asked,
   put-others-many-reads.Learnt,
+  count-reads.Asked,
+  count-reads.Learnt,
   put-others-most-reads.Asked,
   put-others-most-reads.Learnt,
+  put-others-marked-reads.Asked,
+  put-others-marked-reads.Learnt,
 ) (put-others-sized-at t) put-others-sized.Post
 put-others-sized-same-length-3 t c = search needs
 
@@ -87,10 +124,14 @@ put-others-sized-returns : (t : ℕ) → put-others-sized-lts.Need-returns (
   put-others-sized.Post,
   put-others-many-reads.Asked,
   put-others-many-reads.Learnt,
+  count-reads.Asked,
+  count-reads.Learnt,
   put-others-most-reads.Asked,
   put-others-most-reads.Learnt,
+  put-others-marked-reads.Asked,
+  put-others-marked-reads.Learnt,
 ) (put-others-sized-at t) put-others-sized.Post
-put-others-sized-returns t c = search needs
+put-others-sized-returns t c = search (markeds, refl, needs)
 
 put-others-sized-slice-aggregate-put-others-sized :
     (t : ℕ) → put-others-sized-lts.Need-slice-aggregate-put-others-sized (
@@ -100,8 +141,12 @@ put-others-sized-slice-aggregate-put-others-sized :
       put-others-sized.Post,
       put-others-many-reads.Asked,
       put-others-many-reads.Learnt,
+      count-reads.Asked,
+      count-reads.Learnt,
       put-others-most-reads.Asked,
       put-others-most-reads.Learnt,
+      put-others-marked-reads.Asked,
+      put-others-marked-reads.Learnt,
     ) (put-others-sized-at t) put-others-sized.Post
 put-others-sized-slice-aggregate-put-others-sized t c = search needs
 
@@ -113,8 +158,12 @@ put-others-sized-slice-aggregate-put-others-sized-2 :
       put-others-sized.Post,
       put-others-many-reads.Asked,
       put-others-many-reads.Learnt,
+      count-reads.Asked,
+      count-reads.Learnt,
       put-others-most-reads.Asked,
       put-others-most-reads.Learnt,
+      put-others-marked-reads.Asked,
+      put-others-marked-reads.Learnt,
     ) (put-others-sized-at t) put-others-sized.Post
 put-others-sized-slice-aggregate-put-others-sized-2 t c = search needs
 
@@ -126,8 +175,12 @@ put-others-sized-put-others-sized-requires :
       put-others-sized.Post,
       put-others-many-reads.Asked,
       put-others-many-reads.Learnt,
+      count-reads.Asked,
+      count-reads.Learnt,
       put-others-most-reads.Asked,
       put-others-most-reads.Learnt,
+      put-others-marked-reads.Asked,
+      put-others-marked-reads.Learnt,
     ) (put-others-sized-at t) put-others-sized.Post
 put-others-sized-put-others-sized-requires t c κs = search needs
 
@@ -138,8 +191,12 @@ put-others-sized-same-length-4 : (t : ℕ) → put-others-sized-lts.Need-same-le
   put-others-sized.Post,
   put-others-many-reads.Asked,
   put-others-many-reads.Learnt,
+  count-reads.Asked,
+  count-reads.Learnt,
   put-others-most-reads.Asked,
   put-others-most-reads.Learnt,
+  put-others-marked-reads.Asked,
+  put-others-marked-reads.Learnt,
 ) (put-others-sized-at t) put-others-sized.Post
 put-others-sized-same-length-4 t c = search needs
 
@@ -150,8 +207,12 @@ put-others-sized-returns-2 : (t : ℕ) → put-others-sized-lts.Need-returns-2 (
   put-others-sized.Post,
   put-others-many-reads.Asked,
   put-others-many-reads.Learnt,
+  count-reads.Asked,
+  count-reads.Learnt,
   put-others-most-reads.Asked,
   put-others-most-reads.Learnt,
+  put-others-marked-reads.Asked,
+  put-others-marked-reads.Learnt,
 ) (put-others-sized-at t) put-others-sized.Post
 put-others-sized-returns-2 t c = search needs
 
@@ -163,8 +224,12 @@ put-others-sized-put-others-many-requires :
       put-others-sized.Post,
       put-others-many-reads.Asked,
       put-others-many-reads.Learnt,
+      count-reads.Asked,
+      count-reads.Learnt,
       put-others-most-reads.Asked,
       put-others-most-reads.Learnt,
+      put-others-marked-reads.Asked,
+      put-others-marked-reads.Learnt,
     ) (put-others-sized-at t) put-others-sized.Post
 put-others-sized-put-others-many-requires t c κs = search needs
 
@@ -175,8 +240,12 @@ put-others-sized-same-length-5 : (t : ℕ) → put-others-sized-lts.Need-same-le
   put-others-sized.Post,
   put-others-many-reads.Asked,
   put-others-many-reads.Learnt,
+  count-reads.Asked,
+  count-reads.Learnt,
   put-others-most-reads.Asked,
   put-others-most-reads.Learnt,
+  put-others-marked-reads.Asked,
+  put-others-marked-reads.Learnt,
 ) (put-others-sized-at t) put-others-sized.Post
 put-others-sized-same-length-5 t c = search needs
 
@@ -187,10 +256,30 @@ put-others-sized-returns-3 : (t : ℕ) → put-others-sized-lts.Need-returns-3 (
   put-others-sized.Post,
   put-others-many-reads.Asked,
   put-others-many-reads.Learnt,
+  count-reads.Asked,
+  count-reads.Learnt,
   put-others-most-reads.Asked,
   put-others-most-reads.Learnt,
+  put-others-marked-reads.Asked,
+  put-others-marked-reads.Learnt,
 ) (put-others-sized-at t) put-others-sized.Post
 put-others-sized-returns-3 t c = search needs
+
+put-others-sized-count-requires : (t : ℕ) → put-others-sized-lts.Need-count-requires (
+  put-others-linked-reads.Asked,
+  put-others-linked-reads.Learnt,
+  put-others-sized-below t,
+  put-others-sized.Post,
+  put-others-many-reads.Asked,
+  put-others-many-reads.Learnt,
+  count-reads.Asked,
+  count-reads.Learnt,
+  put-others-most-reads.Asked,
+  put-others-most-reads.Learnt,
+  put-others-marked-reads.Asked,
+  put-others-marked-reads.Learnt,
+) (put-others-sized-at t) put-others-sized.Post
+put-others-sized-count-requires t c κs = search needs
 
 put-others-sized-put-others-most-requires :
     (t : ℕ) → put-others-sized-lts.Need-put-others-most-requires (
@@ -200,8 +289,12 @@ put-others-sized-put-others-most-requires :
       put-others-sized.Post,
       put-others-many-reads.Asked,
       put-others-many-reads.Learnt,
+      count-reads.Asked,
+      count-reads.Learnt,
       put-others-most-reads.Asked,
       put-others-most-reads.Learnt,
+      put-others-marked-reads.Asked,
+      put-others-marked-reads.Learnt,
     ) (put-others-sized-at t) put-others-sized.Post
 put-others-sized-put-others-most-requires t c κs = search needs
 
@@ -212,8 +305,12 @@ put-others-sized-same-length-6 : (t : ℕ) → put-others-sized-lts.Need-same-le
   put-others-sized.Post,
   put-others-many-reads.Asked,
   put-others-many-reads.Learnt,
+  count-reads.Asked,
+  count-reads.Learnt,
   put-others-most-reads.Asked,
   put-others-most-reads.Learnt,
+  put-others-marked-reads.Asked,
+  put-others-marked-reads.Learnt,
 ) (put-others-sized-at t) put-others-sized.Post
 put-others-sized-same-length-6 t c = search needs
 
@@ -224,10 +321,63 @@ put-others-sized-returns-4 : (t : ℕ) → put-others-sized-lts.Need-returns-4 (
   put-others-sized.Post,
   put-others-many-reads.Asked,
   put-others-many-reads.Learnt,
+  count-reads.Asked,
+  count-reads.Learnt,
   put-others-most-reads.Asked,
   put-others-most-reads.Learnt,
+  put-others-marked-reads.Asked,
+  put-others-marked-reads.Learnt,
 ) (put-others-sized-at t) put-others-sized.Post
 put-others-sized-returns-4 t c = search needs
+
+put-others-sized-put-others-marked-requires :
+    (t : ℕ) → put-others-sized-lts.Need-put-others-marked-requires (
+      put-others-linked-reads.Asked,
+      put-others-linked-reads.Learnt,
+      put-others-sized-below t,
+      put-others-sized.Post,
+      put-others-many-reads.Asked,
+      put-others-many-reads.Learnt,
+      count-reads.Asked,
+      count-reads.Learnt,
+      put-others-most-reads.Asked,
+      put-others-most-reads.Learnt,
+      put-others-marked-reads.Asked,
+      put-others-marked-reads.Learnt,
+    ) (put-others-sized-at t) put-others-sized.Post
+put-others-sized-put-others-marked-requires t c κs = search needs
+
+put-others-sized-same-length-7 : (t : ℕ) → put-others-sized-lts.Need-same-length-7 (
+  put-others-linked-reads.Asked,
+  put-others-linked-reads.Learnt,
+  put-others-sized-below t,
+  put-others-sized.Post,
+  put-others-many-reads.Asked,
+  put-others-many-reads.Learnt,
+  count-reads.Asked,
+  count-reads.Learnt,
+  put-others-most-reads.Asked,
+  put-others-most-reads.Learnt,
+  put-others-marked-reads.Asked,
+  put-others-marked-reads.Learnt,
+) (put-others-sized-at t) put-others-sized.Post
+put-others-sized-same-length-7 t c = search needs
+
+put-others-sized-returns-5 : (t : ℕ) → put-others-sized-lts.Need-returns-5 (
+  put-others-linked-reads.Asked,
+  put-others-linked-reads.Learnt,
+  put-others-sized-below t,
+  put-others-sized.Post,
+  put-others-many-reads.Asked,
+  put-others-many-reads.Learnt,
+  count-reads.Asked,
+  count-reads.Learnt,
+  put-others-most-reads.Asked,
+  put-others-most-reads.Learnt,
+  put-others-marked-reads.Asked,
+  put-others-marked-reads.Learnt,
+) (put-others-sized-at t) put-others-sized.Post
+put-others-sized-returns-5 t c = search needs
 
 pub +put-others-sized-spec : {M : Type 1} → statement M
 +put-others-sized-spec = close μ-put-others-sized λ t. put-others-sized-lts.spec (
@@ -237,11 +387,16 @@ pub +put-others-sized-spec : {M : Type 1} → statement M
   put-others-sized.Post,
   put-others-many-reads.Asked,
   put-others-many-reads.Learnt,
+  count-reads.Asked,
+  count-reads.Learnt,
   put-others-most-reads.Asked,
   put-others-most-reads.Learnt,
+  put-others-marked-reads.Asked,
+  put-others-marked-reads.Learnt,
 )
     (put-others-sized-at t)
     put-others-sized.Post
+    (put-others-sized-slice-aggregate-put-others-linked t)
     (put-others-sized-put-others-linked-requires t)
     (put-others-sized-same-length t)
     (put-others-sized-same-length-2 t)
@@ -255,6 +410,10 @@ pub +put-others-sized-spec : {M : Type 1} → statement M
     (put-others-sized-put-others-many-requires t)
     (put-others-sized-same-length-5 t)
     (put-others-sized-returns-3 t)
+    (put-others-sized-count-requires t)
     (put-others-sized-put-others-most-requires t)
     (put-others-sized-same-length-6 t)
     (put-others-sized-returns-4 t)
+    (put-others-sized-put-others-marked-requires t)
+    (put-others-sized-same-length-7 t)
+    (put-others-sized-returns-5 t)

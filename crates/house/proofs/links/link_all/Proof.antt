@@ -1,13 +1,13 @@
+use borrow.Author.Needs.{needs}
+use Rattle.house.proofs.Linkings.{Linking, linkings}
 use Rattle.house.proofs.links.link_all.Statement.{statement}
 use Rattle.house.proofs.links.link_all.Tie as tie
-use Rattle.house.proofs.Linkings.{Linking, linkings}
-use borrow.Author.Needs.{needs}
 
 abbrev Inv-loop : tie.InvT-loop
-Inv-loop h kept form heads₀ links₀ k₀ heads links k = Linking form h kept heads₀ links₀ heads links k
+Inv-loop h kept form twice heads₀ links₀ k₀ heads links k = Linking form h kept twice heads₀ links₀ heads links k
 
 abbrev μ-loop : tie.MeasureT-loop
-μ-loop h kept form heads₀ links₀ k₀ heads links k = k
+μ-loop h kept form twice heads₀ links₀ k₀ heads links k = k
 
 count-requires : tie.Need-count-requires Inv-loop μ-loop
 count-requires c κs = search (linkings, needs)
@@ -24,23 +24,14 @@ get-requires c κs = search (linkings, needs)
 take-place-requires : tie.Need-take-place-requires Inv-loop μ-loop
 take-place-requires c κs = search (linkings, needs)
 
-mul-links : tie.Need-mul-links Inv-loop μ-loop
-mul-links c = search (linkings, needs)
-
-slice-write-links : tie.Need-slice-write-links Inv-loop μ-loop
-slice-write-links c = search (linkings, needs)
+lower-requires : tie.Need-lower-requires Inv-loop μ-loop
+lower-requires c κs = search (linkings, needs)
 
 loop-less : tie.Need-loop-less Inv-loop μ-loop
 loop-less c = search (linkings, needs)
 
 loop-again : tie.Need-loop-again Inv-loop μ-loop
 loop-again c = search (linkings, needs)
-
-loop-less-2 : tie.Need-loop-less-2 Inv-loop μ-loop
-loop-less-2 c = search (linkings, needs)
-
-loop-again-2 : tie.Need-loop-again-2 Inv-loop μ-loop
-loop-again-2 c = search (linkings, needs)
 
 same-length : tie.Need-same-length Inv-loop μ-loop
 same-length c = search (linkings, needs)
@@ -62,12 +53,9 @@ link-all-spec =
     sub-k
     get-requires
     take-place-requires
-    mul-links
-    slice-write-links
+    lower-requires
     loop-less
     loop-again
-    loop-less-2
-    loop-again-2
     same-length
     same-length-2
     returns)

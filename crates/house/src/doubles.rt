@@ -58,7 +58,7 @@ fn mark_keys(
 fn mark_part(h: &[u8], kept: &[u64], form: Form, parts: u64, part: u64, twice: &mut [u64])
     ensures { λ _. ⌜ MarksPart form (now (h .entry)) (now (kept .entry)) parts part (now (twice .entry)) (now (twice .exit)) ⌝ }
 {
-    let mut met = [0u64; 49152];
+    let mut met = [0u64; 24576];
     mark_keys(h, kept, form, parts, part, &mut met, twice);
 }
 
@@ -66,7 +66,7 @@ fn mark_part(h: &[u8], kept: &[u64], form: Form, parts: u64, part: u64, twice: &
 pub fn mark_all(h: &[u8], kept: &[u64], form: Form, twice: &mut [u64])
     ensures { λ _. ⌜ MarksTwice form (now (h .entry)) (now (kept .entry)) (now (twice .exit)) ⌝ }
 {
-    let parts = (table::count(kept, form) / 131072 + 1) as u64;
+    let parts = (table::count(kept, form) / 81920 + 1) as u64;
     let mut part = 0;
     while part < parts {
         mark_part(h, kept, form, parts, part, twice);

@@ -234,7 +234,7 @@ fn put_linked(
     progress
 }
 
-// Whether a key that has no slot is that of one entry only.
+// Whether a key has no slot though there are some: one entry only has it.
 fn is_alone(heads: &[u32], slot: usize) -> bool
     ensures { λ r. ⌜ r ≡ isPast (length (now (heads .entry))) slot ⌝ }
 {
@@ -361,7 +361,7 @@ fn put_others_marked(
 {
     let mut twice = [0u64; 8192];
     doubles::mark_all(h, kept, form, &mut twice);
-    let mut heads = [0xFFFF_FFFFu32; 16384];
+    let mut heads = [0xFFFF_FFFFu32; 65536];
     let mut links = [0xFFFF_FFFFu32; 98304];
     put_others_linked(
         h,

@@ -104,7 +104,7 @@ four-small f g i j = omega arith
 
 pub ruleset fours = (four-is, four-small)
 
-pub hash-is : (h : Bytes) (end : ℕ) {a : ℕ} → a ≡ fourAt h (end - 8) → {b : ℕ} → b ≡ fourAt h (end - 4) → a * 1791398085 + b * 1540483477 ≡ tailHash h end
+pub hash-is : (h : Bytes) (end : ℕ) {a : ℕ} → a ≡ fourAt h (end - 8) → {b : ℕ} → b ≡ fourAt h (end - 4) → (a + b * 33) * 39084873 ≡ tailHash h end
 unfolding tailHash
 hash-is h end e f = rw (e, f)
 

@@ -423,8 +423,15 @@ module _ (h : Bytes) (from : ℕ) (es : List Entry) (ms : List ℕ) where
     pub ahead-many : q ≡ true → {ms′ : List ℕ} → ms′ ≡ markBy h from (replicate 8192 0) es ms → ms′ ≡ markAhead h from es ms
     ahead-many f e = e ∙ rw (← a, f)
 
-    pub ahead-few : q ≡ false → {ms′ : List ℕ} → ms′ ≡ markBy h from (replicate 512 0) es ms → ms′ ≡ markAhead h from es ms
-    ahead-few f e = e ∙ rw (← a, f)
+    module _ (f : q ≡ false) {z : Bool} (b : z ≡ not (hasEscape h from)) where
+      ahead-few : {ms′ : List ℕ} → ms′ ≡ markBy h from (replicate 512 0) es ms → ms′ ≡ markAhead h from es ms
+      ahead-few e = e ∙ rw (← a, f)
+
+      pub few-noted : z ≡ true → {ns : List ℕ} → ns ≡ notesAhead h from (replicate 512 0) → {ms′ : List ℕ} → ms′ ≡ markNoted h ns es ms → ms′ ≡ markAhead h from es ms
+      few-noted e i g = ahead-few (by-noted h from (replicate 512 0) es ms b e i g)
+
+      pub few-all : z ≡ false → {ms′ : List ℕ} → ms′ ≡ markAll h es ms → ms′ ≡ markAhead h from es ms
+      few-all e g = ahead-few (by-all h from (replicate 512 0) es ms b e g)
 
 pub far-past : (h : Bytes) (from : ℕ) → length h < from → false ≡ isFar h from
 far-past h from l = sym (lt-leb 16384 (length h - from) (omega arith))
@@ -435,6 +442,6 @@ ahead-none h from form t ms en z =
     let none : entriesIn form t ≡ [] = entries-past form t 0 (omega arith) in
     elim (test (hasEscape h from)) [ pass e ↦ rw (markBy, e, none) | fail e ↦ rw (markBy, e, none) ]
 
-pub ruleset aheads-marked = (ahead-none, ahead-few, ahead-many, ahead-long)
+pub ruleset aheads-marked = (ahead-none, ahead-many, few-noted, few-all, ahead-long)
 
 pub ruleset scans = (key-unmarked, key-looked, id-unmarked, id-looked, met-by)

@@ -40,7 +40,7 @@ fourAt h at = getD h at 0 + getD h (at + 1) 0 * 256 + getD h (at + 2) 0 * 65536 
 
 -- a hash of the eight bytes before a place
 unfoldable pub tailHash : Bytes → ℕ → ℕ
-tailHash h end = fourAt h (end - 8) * 1791398085 + fourAt h (end - 4) * 1540483477
+tailHash h end = (fourAt h (end - 8) + fourAt h (end - 4) * 33) * 39084873
 
 -- a place where an ID may end is noted by the bytes before it
 unfoldable pub noteEnd : Bytes → ℕ → List ℕ → List ℕ

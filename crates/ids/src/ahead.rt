@@ -67,7 +67,7 @@ fn tail_hash(h: &[u8], end: usize) -> u64
 {
     let a = four(h, end - 8);
     let b = four(h, end - 4);
-    a * 1791398085 + b * 1540483477
+    (a + b * 33) * 39084873
 }
 
 // Notes the bytes before a place where an ID may end.

@@ -373,6 +373,11 @@ pub fn mark_ahead(h: &[u8], from: usize, kept: &[u64], form: Form, marks: &mut [
         mark_by(h, from, kept, form, &mut many, marks);
         return;
     }
+    // Notes that are not handed on are looked up with a number of words that is known, which a header in many pieces gains by.
     let mut few = [0u64; 512];
-    mark_by(h, from, kept, form, &mut few, marks);
+    if ahead::look_ahead(h, from, &mut few) {
+        mark_noted(h, kept, form, &few, marks);
+        return;
+    }
+    mark_all(h, kept, form, marks);
 }

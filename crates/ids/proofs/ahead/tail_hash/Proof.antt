@@ -18,11 +18,11 @@ four-requires-2 c κs = search needs
 mul-result : tie.Need-mul-result
 mul-result c = search needs
 
-mul-result-2 : tie.Need-mul-result-2
-mul-result-2 c = search needs
-
 add-result : tie.Need-add-result
 add-result c = search needs
+
+mul-result-2 : tie.Need-mul-result-2
+mul-result-2 c = search needs
 
 returns : tie.Need-returns
 returns c = search (hash-is, needs)
@@ -36,6 +36,6 @@ tail-hash-spec =
     sub-four-2
     four-requires-2
     mul-result
-    mul-result-2
     add-result
+    mul-result-2
     returns)

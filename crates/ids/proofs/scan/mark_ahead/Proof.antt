@@ -24,17 +24,32 @@ same-length c = search needs
 returns-2 : tie.Need-returns-2
 returns-2 c = search (aheads-marked, needs)
 
-slice-aggregate-mark-by-2 : tie.Need-slice-aggregate-mark-by-2
-slice-aggregate-mark-by-2 c = search needs
+slice-aggregate-look-ahead : tie.Need-slice-aggregate-look-ahead
+slice-aggregate-look-ahead c = search needs
 
-mark-by-requires-2 : tie.Need-mark-by-requires-2
-mark-by-requires-2 c κs = search needs
+look-ahead-requires : tie.Need-look-ahead-requires
+look-ahead-requires c κs = search needs
+
+slice-aggregate-mark-noted : tie.Need-slice-aggregate-mark-noted
+slice-aggregate-mark-noted c = search needs
+
+mark-noted-requires : tie.Need-mark-noted-requires
+mark-noted-requires c κs = search needs
 
 same-length-2 : tie.Need-same-length-2
 same-length-2 c = search needs
 
 returns-3 : tie.Need-returns-3
 returns-3 c = search (aheads-marked, needs)
+
+mark-all-requires : tie.Need-mark-all-requires
+mark-all-requires c κs = search needs
+
+same-length-3 : tie.Need-same-length-3
+same-length-3 c = search needs
+
+returns-4 : tie.Need-returns-4
+returns-4 c = search (aheads-marked, needs)
 
 pub mark-ahead-spec : {M : Type 1} → statement M
 mark-ahead-spec =
@@ -47,7 +62,12 @@ mark-ahead-spec =
     mark-by-requires
     same-length
     returns-2
-    slice-aggregate-mark-by-2
-    mark-by-requires-2
+    slice-aggregate-look-ahead
+    look-ahead-requires
+    slice-aggregate-mark-noted
+    mark-noted-requires
     same-length-2
-    returns-3)
+    returns-3
+    mark-all-requires
+    same-length-3
+    returns-4)

@@ -422,5 +422,65 @@ class Pieces(unittest.TestCase):
         self.assertEqual((refusal.number, refusal.line, refusal.start), (27, 0, 0))
 
 
+class LongTest(unittest.TestCase):
+    """Headers that are longer than the marks of names, or than one part of a header, reach."""
+
+    @staticmethod
+    def header(lines, columns=COLUMNS):
+        return b"\n".join([b"##fileformat=VCFv4.3", *lines, columns]) + b"\n"
+
+    def refused_at(self, number, lines, at):
+        """Whole and in pieces, the header of these lines is refused at the line with this number among them, from 0."""
+        data = self.header(lines)
+        start = len(b"##fileformat=VCFv4.3\n") + sum(len(line) + 1 for line in lines[:at])
+        feed = vcfh.Feed(form=vcfh.SECOND)
+        pieces = [data[k : k + 700000] for k in range(0, len(data), 700000)]
+        for refusal in (refused(vcfh.Header, data, form=vcfh.SECOND), refused(lambda: [feed.feed(piece) for piece in pieces])):
+            self.assertEqual((refusal.number, refusal.line, refusal.start), (number, at + 2, start))
+
+    def test_an_id_is_found_again_however_far_it_lies_back(self):
+        lines = [b"##contig=<ID=scaffold_%06d,length=%d>" % (n, n + 1) for n in range(150000)]
+        self.assertGreater(len(self.header(lines)), 4 << 20)
+        self.assertEqual(len(vcfh.Header(self.header(lines), form=vcfh.SECOND)), 150002)
+        for again, first in ((149999, 0), (149999, 149998), (120000, 30000), (40000, 0)):
+            with self.subTest(again=again, first=first):
+                self.refused_at(19, lines[:again] + [b'##contig=<length=7,ID=scaffold_%06d>' % first] + lines[again + 1 :], again)
+
+    def test_an_id_between_quotes_or_with_escapes_is_found_again_too(self):
+        lines = [b"##contig=<ID=scaffold_%06d,length=%d>" % (n, n + 1) for n in range(150000)]
+        for first, again in (
+            (b"scaffold_x", b'"scaffold_x"'),
+            (rb'"scaf\\fold_x"', rb"scaf\fold_x"),
+            (rb"scaf\fold_x", rb'"scaf\\fold_x"'),
+            (rb'"scaf\"fold_x"', rb'"scaf\"fold_x"'),
+        ):
+            with self.subTest(again=again):
+                self.refused_at(19, [b"##contig=<ID=%s>" % first, *lines, b"##contig=<ID=%s>" % again], 150001)
+        self.refused_at(21, [b"##cell=<ID=W1,K=0.98>", *lines, b'##cell=<ID="W1",K=1.00>'], 150001)
+        self.refused_at(20, [b"##cell=<ID=W1,K=0.98>", *lines, b"##cell=1.00"], 150001)
+
+    def test_a_sample_is_found_again_among_very_many(self):
+        names = [b"%d" % (1000000 + 7 * n) for n in range(200000)]
+        header = lambda names: self.header([], COLUMNS + b"\tFORMAT\t" + b"\t".join(names))
+        self.assertEqual(len(vcfh.Header(header(names), form=vcfh.SECOND).samples), 200000)
+        for again, first in ((199999, 0), (199999, 199998), (100000, 99999), (1, 0)):
+            with self.subTest(again=again, first=first):
+                refusal = refused(vcfh.Header, header(names[:again] + [names[first]] + names[again + 1 :]), form=vcfh.SECOND)
+                self.assertEqual((refusal.number, refusal.line), (23, 2))
+
+    def test_the_house_form_of_very_many_keys(self):
+        lines = [b"##k%d=x" % n for n in range(110000)]
+        self.assertTrue(vcfh.is_house(self.header(lines), form=vcfh.SECOND))
+        again = [b"##k%d=y" % n for n in (5, 109999, 0, 5)]
+        formed = [line for n, one in enumerate(lines) for line in [one, *(a for a in again if a.startswith(b"##k%d=" % n))]]
+        self.assertEqual(vcfh.house_form(self.header(lines + again), form=vcfh.SECOND), self.header(formed))
+
+    def test_the_dictionary_of_ids_in_several_kinds(self):
+        filters = [b'##FILTER=<ID=q%d,Description="d">' % n for n in range(5000)]
+        infos = [b'##INFO=<ID=q%d,Number=1,Type=Integer,Description="d">' % n for n in range(2500, 7500)]
+        strings, contigs = vcfh.dictionaries(self.header(filters + infos), form=vcfh.SECOND)
+        self.assertEqual(strings, [(n + 1, n + 1) for n in range(5000)] + [(n + 2501, n + 1) for n in range(5000, 7500)])
+        self.assertEqual(contigs, [])
+
 if __name__ == "__main__":
     unittest.main()

@@ -67,6 +67,13 @@ HEADERS = {
     "keys_150000": header([f"##k{i}=x" for i in range(150000)]),
     "samples_500000": header([], [str(1000000 + 7 * i) for i in range(500000)]),
     "contigs_480000": header([f"##contig=<ID=ctg{i:06},length=5>" for i in range(480000)]),
+    # more of one thing than marks, slots or links reach
+    "keys_400000": header([f"##k{i}=x" for i in range(400000)]),
+    "filters_300000": header([f'##FILTER=<ID=q{i},Description="">' for i in range(300000)]),
+    "maps_300000": header([f"##cell=<ID=W{i},K=1>" for i in range(300000)]),
+    "fields_200000": header(["##x=<ID=a," + ",".join(f"f{i:x}=1" for i in range(200000)) + ">"]),
+    "pairs_55000": header([f"##k{i}=x" for _ in "ab" for i in range(55000)]),
+    "indexed_98000": header([f"##contig=<ID=c{i},IDX={i}>" for i in range(98000)]),
 }
 
 

@@ -414,6 +414,33 @@ class Pieces(unittest.TestCase):
         self.assertEqual(feed.feed(b"##a=b\n"), (3, len(PROBE), 3))
         self.assertEqual(len(feed.close()), 3)
 
+    def test_an_entry_that_somebody_changed_is_found_wherever_it_stands(self):
+        contigs = b"".join(b"##contig=<ID=chr%03d,length=9>\n" % n for n in range(200))
+        kept = b"##fileformat=VCFv4.3\n" + contigs
+        faults = {  # of the two words of a contig's entry, which has kind 6, a line of 29 bytes, and an ID of six bytes at 13
+            "no kind": lambda one, two: (one % 2**60, two),
+            "kind 15": lambda one, two: (one | 15 << 60, two),
+            "a text that has an ID": lambda one, two: (one % 2**60 + (8 << 60), two),
+            "a line past the bytes held": lambda one, two: (one | 0xFFFF << 24, two),
+            "a start past the bytes held": lambda one, two: (one | 0xFFFFF << 40, two),
+            "an ID past its line": lambda one, two: (one, two | 0xFF << 32),
+            "an offset past its line": lambda one, two: (one, two | 0xFF << 48),
+            "a tag": lambda one, two: (one, two | 1 << 29),
+            "a bit that no number has": lambda one, two: (one | 1, two),
+            "another such bit": lambda one, two: (one, two | 1 << 28),
+        }
+        feed = vcfh.Feed()
+        feed.feed(kept)
+        for entry in (1, 63, 64, 65, 130, 199, 200):
+            for name, fault in faults.items():
+                with self.subTest(entry=entry, fault=name):
+                    before = feed._table[2 * entry], feed._table[2 * entry + 1]
+                    feed._table[2 * entry], feed._table[2 * entry + 1] = fault(*before)
+                    self.assertEqual(refused(feed.feed, b"##a=b\n").number, 29)
+                    feed._table[2 * entry], feed._table[2 * entry + 1] = before
+        feed.feed(COLUMNS + b"\n")
+        self.assertEqual(len(feed.close()), 202)
+
     def test_a_piece_past_the_limit_is_not_taken(self):
         longest = long_line(vcfh.MAX_LINE[vcfh.FIRST])
         feed = vcfh.Feed()

@@ -1,6 +1,7 @@
 """Writes the headers that are measured into a folder: python3 headers.py FOLDER"""
 import pathlib
 import sys
+from string import ascii_letters, digits
 
 COLUMNS = "#CHROM\tPOS\tID\tREF\tALT\tQUAL\tFILTER\tINFO"
 
@@ -32,8 +33,20 @@ def kinds(n):
     return [f'##{kind}=<ID=s{i}{rest},Description="d">' for kind, rest in lines for i in range(n)]
 
 
+def short(i):
+    """A name of few letters, none of them large, so that it is no key or field that the rules name."""
+    letters = "abcdefghijklmnopqrstuvwxyz0123456789_"
+    name = ""
+    while i >= 0:
+        name = letters[i % 37] + name
+        i = i // 37 - 1
+    return name
+
+
 TYPED = ",Number=1,Type=Integer"
 STRINGS = [f'##INFO=<ID=IX{n},Number=1,Type=Integer,Description="The value">' for n in range(10000)]
+
+OTHER_TAGS = "".join(f"\t{a}{b}:x" for a in ascii_letters for b in ascii_letters + digits if a + b not in ("SN", "LN"))
 
 HEADERS = {
     "probe": header([f"##cell=<ID=W{i:02},K=0.{900 + i}>" for i in range(1, 41)]),
@@ -67,13 +80,33 @@ HEADERS = {
     "keys_150000": header([f"##k{i}=x" for i in range(150000)]),
     "samples_500000": header([], [str(1000000 + 7 * i) for i in range(500000)]),
     "contigs_480000": header([f"##contig=<ID=ctg{i:06},length=5>" for i in range(480000)]),
-    # more of one thing than marks, slots or links reach
+    # very much of one thing, up to the limit of the second form
     "keys_400000": header([f"##k{i}=x" for i in range(400000)]),
+    "keys_1400000": header([f"##k{i}=" for i in range(1400000)]),
     "filters_300000": header([f'##FILTER=<ID=q{i},Description="">' for i in range(300000)]),
+    "contigs_700000": header([f"##contig=<ID={short(i)}>" for i in range(700000)]),
     "maps_300000": header([f"##cell=<ID=W{i},K=1>" for i in range(300000)]),
+    "maps_900000": header([f"##k=<ID={short(i)}>" for i in range(900000)]),
+    "key_maps_900000": header([f"##{short(i)}=<ID=a>" for i in range(900000)]),
+    "quoted_400000": header([f'##contig=<ID="a b{i}",length=5>' for i in range(400000)]),
+    "escaped_300000": header([f'##contig=<ID="a\\"{i}",length=5>' for i in range(300000)]),
+    "ends_300000": header([f'##contig=<ID="a{i}\\"">' for i in range(300000)]),
+    "late_100": header(["##a="] * 1100000 + [f"##contig=<ID=c{i}>" for i in range(100)]),
     "fields_200000": header(["##x=<ID=a," + ",".join(f"f{i:x}=1" for i in range(200000)) + ">"]),
+    "fields_1800000": header(["##x=<ID=a," + ",".join(f"{short(i)}=1" for i in range(1800000)) + ">"]),
+    "fields_twice": header([f"##x=<ID={x}," + ",".join(f"f{i:x}=1" for i in range(300000)) + ">" for x in "ab"]),
+    "samples_1000000": header([], [f"SMP{i:07}" for i in range(1000000)]),
     "pairs_55000": header([f"##k{i}=x" for _ in "ab" for i in range(55000)]),
+    "pairs_700000": header([f"##{short(i)}=x" for _ in "ab" for i in range(700000)]),
+    "mixed_20": header([f"##k{i % 20}={i}" for i in range(1000000)]),
     "indexed_98000": header([f"##contig=<ID=c{i},IDX={i}>" for i in range(98000)]),
+    "indexed_400000": header([f"##contig=<ID=c{i},IDX={i * 65536}>" for i in range(400000)]),
+    "kinds_100000": header(kinds(100000)),
+    "cells_700000": header([*(f"##cell=<ID=W{i:02},K=0.90>" for i in range(1, 41)), *(f"##well=<ID=a{i}>" for i in range(700000))]),
+    "sam_200000": "".join(f"@SQ\tSN:ctg{i:06}\tLN:5\n" for i in range(200000)),
+    "sam_760000": "".join(f"@SQ\tSN:ctg{i:06}\tLN:5\n" for i in range(760000)),
+    # each line has every tag that a line may have
+    "tags_3": "".join(f"@SQ\tSN:c{i}\tLN:5{OTHER_TAGS}\n" for i in range(3)),
 }
 
 

@@ -18,8 +18,8 @@ use Rattle.entries.specs.Tables.{room, entryIn}
 use Rattle.entries.proofs.Tables.{room-small}
 use Rattle.dictionary.specs.Dictionary.{Line, anyOf, carries, lacks, firstLines, idNumber, pairWords, pairs}
 use Rattle.dictionary.specs.Lines.{holds, idxMeant, lineOfEntry, entryLines, tableLines, linesBefore, idxAt}
-use Rattle.dictionary.specs.Places.{placeAt}
-use Rattle.dictionary.specs.Slots.{isNamed, isNumbered, idSlot, numberSlot, AllOpen, HeldAt, StandsAt}
+use Rattle.dictionary.specs.Places.{placeIf, placeAt}
+use Rattle.dictionary.specs.Slots.{StandsAt}
 use Rattle.dictionary.specs.Pairs.{carriedBy, putPair, firstNumber, Counts, turnOf, turnOut, Uniform, numberingOf, NumbersLines}
 use Rattle.dictionary.specs.declared.line.Dictionary.{Dictionary}
 use Rattle.dictionary.specs.declared.line.Dictionary.the-variants.{Strings, Contigs}
@@ -34,7 +34,6 @@ use Rattle.dictionary.specs.declared.numbering.Turn.the-variants as turn
 use Rattle.dictionary.specs.declared.numbering.Numbering.the-variants as numbering
 use Rattle.dictionary.proofs.Firsts.{ids, first-new, first-old, onto, in-onto, onto-append}
 use Rattle.dictionary.proofs.Left.{left, left-end, left-skip, left-take, split-at, before-skip, before-take}
-use Rattle.dictionary.proofs.Slotting.{held-start, held-skip}
 use Rattle.dictionary.proofs.Verdicts.{Mode, VerdictIs, verdict, mode-start, mode-end}
 use Rattle.entries.specs.declared.form.Form.{Form}
 
@@ -175,26 +174,40 @@ module _ (c : Count) (out : List ℕ) (entry : ℕ) (p : Placed) where
 
 pub ruleset turns = (turn-given, turn-due, turn-again, turn-clash, out-given, out-due, out-again, out-clash)
 
--- and of `number_line`: p is the line's place, as the code found it
-module _ (c : Count) {p r : Placed} (er : r ≡ p) where
-  pub placed-turn : {x : Turn} → x ≡ turnOf c r → x ≡ turnOf c p
-  placed-turn e = e ∙ ap (turnOf c) er
+-- and of `number_line`: a number that has no room is not needed
+same-turn : (c : Count) (needed : Bool) (p : Placed) → turnOf c (placeIf needed p) ≡ turnOf c p
+same-turn c true p = refl
+same-turn c false (Given n) = refl
+same-turn c false Due = refl
+same-turn c false Again = refl
+same-turn c false Clash = refl
 
-  pub placed-out : (out : List ℕ) (entry : ℕ) {o : List ℕ} → o ≡ turnOut out entry c r → o ≡ turnOut out entry c p
-  placed-out out entry e = e ∙ ap (turnOut out entry c) er
+no-room : (out : List ℕ) (pair entry number : ℕ) → ltb pair (length out / 2) ≡ false → putPair out pair entry number ≡ out
+unfolding putPair
+no-room out pair entry number f = rw (putPair, f)
+
+same-out : (out : List ℕ) (entry : ℕ) (c : Count) (needed : Bool) → needed ≡ ltb (c .pairs) (length out / 2) → (p : Placed) → turnOut out entry c (placeIf needed p) ≡ turnOut out entry c p
+same-out out entry c true e p = refl
+same-out out entry c false e (Given n) = no-room out (c .pairs) entry 0 (sym e) ∙ sym (no-room out (c .pairs) entry n (sym e))
+same-out out entry c false e Due = refl
+same-out out entry c false e Again = refl
+same-out out entry c false e Clash = refl
+
+module _ (c : Count) (needed : Bool) (p : Placed) {r : Placed} (er : r ≡ placeIf needed p) where
+  pub placed-turn : {x : Turn} → x ≡ turnOf c r → x ≡ turnOf c p
+  placed-turn e = e ∙ ap (turnOf c) er ∙ same-turn c needed p
+
+  pub placed-out : (out : List ℕ) (entry : ℕ) → needed ≡ ltb (c .pairs) (length out / 2) → {o : List ℕ} → o ≡ turnOut out entry c r → o ≡ turnOut out entry c p
+  placed-out out entry en e = e ∙ ap (turnOut out entry c) er ∙ same-out out entry c needed en p
 
 pub ruleset placings = (placed-turn, placed-out)
 
 -- The loop: the lines before entry k are numbered
 
-pub record Progress (d : Dictionary) (indexed : Bool) (form : Form) (h : Bytes) (t out₀ out ids₀ ids ns₀ ns : List ℕ) (c : Count) (k : ℕ) : Type 0 where
+pub record Progress (d : Dictionary) (indexed : Bool) (form : Form) (h : Bytes) (t out₀ out : List ℕ) (c : Count) (k : ℕ) : Type 0 where
   pub size : length out ≡ length out₀
-  pub ids-size : length ids ≡ length ids₀
-  pub numbers-size : length ns ≡ length ns₀
   pub few : c .pairs ≤ k
   pub due : c .next ≤ k + 1
-  pub ids-held : HeldAt true isNamed idSlot d form h t k ids
-  pub numbers-held : HeldAt indexed isNumbered numberSlot d form h t k ns
   pub is : Uniform indexed (tableLines d form h t) → Going d indexed (tableLines d form h t) (linesBefore d form h t k) (left d form h t k) out₀ out (c .pairs) (c .next)
 
 pub stands-here : (d : Dictionary) (form : Form) (t : List ℕ) (k : ℕ) {n : ℕ} → n ≡ room form t → k < n → {e : CodeEntry} → entryOf e ≡ entryIn form t k → {q : Bool} → q ≡ holds d (e .kind) → q ≡ true
@@ -205,17 +218,13 @@ first-small : (d : Dictionary) → firstNumber d ≤ 1
 first-small Strings = omega arith
 first-small Contigs = omega arith
 
-pub progress-start : (d : Dictionary) (indexed : Bool) (form : Form) (h : Bytes) (t out : List ℕ) {ids ns : List ℕ} → AllOpen ids → AllOpen ns → {next : ℕ} → next ≡ firstNumber d
-    → Progress d indexed form h t out out ids ids ns ns (record { pairs = 0; next = next }) 0
+pub progress-start : (d : Dictionary) (indexed : Bool) (form : Form) (h : Bytes) (t out : List ℕ) {next : ℕ} → next ≡ firstNumber d
+    → Progress d indexed form h t out out (record { pairs = 0; next = next }) 0
 unfolding entryLines isIn pairs
-progress-start d indexed form h t out oi on e = record {
+progress-start d indexed form h t out e = record {
   size = refl;
-  ids-size = refl;
-  numbers-size = refl;
   few = omega arith;
   due = omega (arith, first-small d);
-  ids-held = held-start isNamed idSlot d form h t oi;
-  numbers-held = held-start isNumbered numberSlot d form h t on;
   is = λ u. record {
     counted = omega arith;
     written = λ r. refl;
@@ -223,8 +232,7 @@ progress-start d indexed form h t out oi on e = record {
   };
 }
 
-module _ {d : Dictionary} {indexed : Bool} {form : Form} {h : Bytes} {t out₀ out ids₀ ids ns₀ ns : List ℕ} {c : Count} {k : ℕ} (g : Progress d indexed form h t out₀ out ids₀ ids ns₀ ns c k)
-    {n : ℕ} (en : n ≡ room form t) where
+module _ {d : Dictionary} {indexed : Bool} {form : Form} {h : Bytes} {t out₀ out : List ℕ} {c : Count} {k : ℕ} (g : Progress d indexed form h t out₀ out c k) {n : ℕ} (en : n ≡ room form t) where
   abbrev ls : List Line
   ls = tableLines d form h t
 
@@ -248,17 +256,13 @@ module _ {d : Dictionary} {indexed : Bool} {form : Form} {h : Bytes} {t out₀ o
     counts-few small = let r = room-small form t in record { pairs-small = omega (arith, g .few, en); next-small = omega (arith, g .due, en) }
 
     module _ {e : CodeEntry} (ee : entryOf e ≡ entryIn form t k) {q : Bool} (eq : q ≡ holds d (e .kind)) where
-      pub progress-skip : q ≡ false → Progress d indexed form h t out₀ out ids₀ ids ns₀ ns c (k + 1)
+      pub progress-skip : q ≡ false → Progress d indexed form h t out₀ out c (k + 1)
       progress-skip f =
           let b : linesBefore d form h t (k + 1) ≡ linesBefore d form h t k = before-skip d form h t k (rw (← en) l) ee eq f in
           record {
             size = g .size;
-            ids-size = g .ids-size;
-            numbers-size = g .numbers-size;
             few = omega (arith, g .few);
             due = omega (arith, g .due);
-            ids-held = held-skip b (g .ids-held);
-            numbers-held = held-skip b (g .numbers-held);
             is = λ u. rw (b, ← left-skip d form h t k en l ee eq f) (g .is u);
           }
 
@@ -286,56 +290,41 @@ module _ {d : Dictionary} {indexed : Bool} {form : Form} {h : Bytes} {t out₀ o
           told = verdict d ls (linesBefore d form h t k) line (left d form h t (k + 1)) indexed u split (c .next) (going .mode)
 
         -- what the turn leaves, by the line's place
-        abbrev Leaves : List ℕ → List ℕ → Placed → Turn → List ℕ → Type 0
-        Leaves ids′ ns′ p (turn.Next c′) o = Progress d indexed form h t out₀ o ids₀ ids′ ns₀ ns′ c′ (k + 1)
-        Leaves ids′ ns′ p turn.Clash o = NumbersLines d indexed ls out₀ numbering.Clash o
+        abbrev Leaves : Placed → Turn → List ℕ → Type 0
+        Leaves p (turn.Next c′) o = Progress d indexed form h t out₀ o c′ (k + 1)
+        Leaves p turn.Clash o = NumbersLines d indexed ls out₀ numbering.Clash o
 
-        -- with the slots that the code was left with
-        module _ {ids′ : List ℕ} (hi : HeldAt true isNamed idSlot d form h t (k + 1) ids′) (ids-kept : length ids′ ≡ length ids)
-            {ns′ : List ℕ} (hn : HeldAt indexed isNumbered numberSlot d form h t (k + 1) ns′) (numbers-kept : length ns′ ≡ length ns) where
-          leaves : (p : Placed) → placed ≡ p → Leaves ids′ ns′ p (turnOf c p) (turnOut out k c p)
-          unfolding numberingOf
-          leaves (Given x) i = record {
-            size = put-length out (c .pairs) k x ∙ g .size;
-            ids-size = ids-kept ∙ g .ids-size;
-            numbers-size = numbers-kept ∙ g .numbers-size;
-            few = omega (arith, g .few);
-            due = omega (arith, g .due);
-            ids-held = hi;
-            numbers-held = hn;
-            is = λ w. let v = rw i at (told w) in rw before-more (going-first line (going w) (c .next) (v .2) (v .0) (v .1) (g .size));
-          }
-          leaves Due i = record {
-            size = put-length out (c .pairs) k (c .next) ∙ g .size;
-            ids-size = ids-kept ∙ g .ids-size;
-            numbers-size = numbers-kept ∙ g .numbers-size;
-            few = omega (arith, g .few);
-            due = omega (arith, g .due);
-            ids-held = hi;
-            numbers-held = hn;
-            is = λ w. let v = rw i at (told w) in rw before-more (going-first line (going w) (c .next + 1) (v .2) (v .0) (v .1) (g .size));
-          }
-          leaves Again i = record {
-            size = g .size;
-            ids-size = ids-kept ∙ g .ids-size;
-            numbers-size = numbers-kept ∙ g .numbers-size;
-            few = omega (arith, g .few);
-            due = omega (arith, g .due);
-            ids-held = hi;
-            numbers-held = hn;
-            is = λ w. let v = rw i at (told w) in rw before-more (going-again line (going w) (c .next) (v .1) (v .0));
-          }
-          leaves Clash i = record { is = λ w. let v = rw i at (told w) in rw v; output = λ w z. let v = rw i at (told w) in absurd (true≢false (sym v ∙ z)) }
+        leaves : (p : Placed) → placed ≡ p → Leaves p (turnOf c p) (turnOut out k c p)
+        unfolding numberingOf
+        leaves (Given x) i = record {
+          size = put-length out (c .pairs) k x ∙ g .size;
+          few = omega (arith, g .few);
+          due = omega (arith, g .due);
+          is = λ w. let v = rw i at (told w) in rw before-more (going-first line (going w) (c .next) (v .2) (v .0) (v .1) (g .size));
+        }
+        leaves Due i = record {
+          size = put-length out (c .pairs) k (c .next) ∙ g .size;
+          few = omega (arith, g .few);
+          due = omega (arith, g .due);
+          is = λ w. let v = rw i at (told w) in rw before-more (going-first line (going w) (c .next + 1) (v .2) (v .0) (v .1) (g .size));
+        }
+        leaves Again i = record {
+          size = g .size;
+          few = omega (arith, g .few);
+          due = omega (arith, g .due);
+          is = λ w. let v = rw i at (told w) in rw before-more (going-again line (going w) (c .next) (v .1) (v .0));
+        }
+        leaves Clash i = record { is = λ w. let v = rw i at (told w) in rw v; output = λ w z. let v = rw i at (told w) in absurd (true≢false (sym v ∙ z)) }
 
-          -- r and o are what it was left with
-          module _ {r : Turn} (er : r ≡ turnOf c placed) {o : List ℕ} (eo : o ≡ turnOut out k c placed) where
-            left-with : Leaves ids′ ns′ placed r o
-            left-with = rw (er, eo) (leaves placed refl)
+        -- r and o are what it was left with
+        module _ {r : Turn} (er : r ≡ turnOf c placed) {o : List ℕ} (eo : o ≡ turnOut out k c placed) where
+          left-with : Leaves placed r o
+          left-with = rw (er, eo) (leaves placed refl)
 
-            pub progress-clash : r ≡ turn.Clash → NumbersLines d indexed ls out₀ numbering.Clash o
-            progress-clash i = rw i at left-with
+          pub progress-clash : r ≡ turn.Clash → NumbersLines d indexed ls out₀ numbering.Clash o
+          progress-clash i = rw i at left-with
 
-            pub progress-next : {c′ : Count} → r ≡ turn.Next c′ → Progress d indexed form h t out₀ o ids₀ ids′ ns₀ ns′ c′ (k + 1)
-            progress-next i = rw i at left-with
+          pub progress-next : {c′ : Count} → r ≡ turn.Next c′ → Progress d indexed form h t out₀ o c′ (k + 1)
+          progress-next i = rw i at left-with
 
 pub ruleset progresses = (progress-start, progress-end, counts-few, progress-skip, stands-here, progress-clash, progress-next)

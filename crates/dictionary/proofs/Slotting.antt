@@ -1,5 +1,5 @@
 -- Slots on plain values: what is found by them, and what they tell after one line more. Assumes nothing.
-use Prim.Native.Nat.{ℕ, zero, suc, _+_, _-_, _/_, _%_, _<_, _≤_}
+use Prim.Native.Nat.{ℕ, zero, suc, _+_, _-_, _*_, _/_, _%_, _<_, _≤_}
 use native.Mathlib.Omega.{arith}
 use native.Mathlib.Nat.{mod-lt}
 use mathlib.Core.Path.{_≡_, refl, sym, ap, subst, _∙_}
@@ -23,18 +23,20 @@ use Rattle.entries.specs.declared.form.Form.{Form}
 use Rattle.entries.specs.Values.{entryOf}
 use Rattle.entries.specs.Tables.{entryIn, entriesIn, firstEntries}
 use Rattle.entries.proofs.Stored.{first-entries}
+use Rattle.entries.proofs.Tables.{room-small}
 use Rattle.dictionary.specs.Dictionary.{Line, anyOf}
 use Rattle.dictionary.specs.Lines.{entryLines, linesBefore, tableLines, idAt, idxAt, idxMeant, isIdx}
-use Rattle.dictionary.specs.Slots.{idxFirst, isNamed, isNumbered, slotBy, idSlot, numberSlot, AllOpen, lineAt, NoneIn, Passed, LookedIs, Looks, Held, HeldAt, StandsAt, Stands}
+use Rattle.dictionary.specs.Slots.{idxFirst, isNamed, isNumbered, slotBy, classOf, idHash, numberHash, idSlot, numberSlot, AllOpen, lineAt, NoneIn, Passed, LookedIs, Looks, Held, HeldAt, StandsAt, Stands}
 use Rattle.dictionary.specs.Places.{idxNamed, numberSeen}
 use Rattle.dictionary.specs.declared.line.Dictionary.{Dictionary}
 use Rattle.dictionary.specs.declared.line.IdxRead.{IdxRead}
 use Rattle.dictionary.specs.declared.line.IdxRead.the-variants as idx
+use Rattle.dictionary.specs.declared.slots.Class.{Class}
 use Rattle.dictionary.specs.declared.slots.Looked.{Looked}
 use Rattle.dictionary.specs.declared.slots.Looked.the-variants.{Found, Open, Full}
 use Rattle.dictionary.proofs.Left.{before-take}
 
--- what answers the needs of `slot_by`, `id_slot` and `number_slot`
+-- what answers the needs of `slot_by`, `class_of`, the hashes and `number_slot`
 module _ (n hash : ℕ) where
   pub slot-none : n ≡ 0 → 0 ≡ slotBy n hash
   unfolding slotBy
@@ -51,20 +53,40 @@ module _ (n hash : ℕ) where
     pub slot-within : hash % (n - n / 64) ≤ n
     slot-within = let l : hash % (n - n / 64) < n - n / 64 = mod-lt hash span-some in omega (arith, l)
 
-pub id-placed : (n : ℕ) (x : Bytes) {a : ℕ} → a ≡ wideFrom wideBasis x → {b : ℕ} → b ≡ wideStep a 0 → {r : ℕ} → r ≡ slotBy n b → r ≡ idSlot n x
-unfolding idSlot
-id-placed n x ea eb er = er ∙ rw (eb, ea)
+module _ (n hash : ℕ) where
+  pub class-none : n ≡ 0 → 0 ≡ classOf n hash
+  unfolding classOf
+  class-none e = rw (classOf, eq-eqb n 0 e)
+
+  pub class-some : (n ≡ 0 → ⊥) → hash / 4294967296 % n ≡ classOf n hash
+  unfolding classOf
+  class-some f = rw (classOf, ne-eqb n 0 f)
+
+  pub class-below : 0 < n → classOf n hash < n
+  unfolding classOf
+  class-below l = rw (classOf, ne-eqb n 0 (λ e. omega arith)) (mod-lt (hash / 4294967296) l)
+
+pub class-tested : {c : ℕ} (at n hash : ℕ) → c ≡ classOf n hash → eqb c at ≡ eqb (classOf n hash) at
+class-tested at n hash e = rw e
+
+pub id-hashed : (x : Bytes) {a : ℕ} → a ≡ wideFrom wideBasis x → {b : ℕ} → b ≡ wideStep a 0 → b ≡ idHash x
+unfolding idHash
+id-hashed x ea eb = eb ∙ rw ea
+
+pub number-hashed : (m : ℕ) {a : ℕ} → a ≡ wideStep m 0 → {b : ℕ} → b ≡ wideStep a 0 → b ≡ numberHash m
+unfolding numberHash
+number-hashed m ea eb = eb ∙ rw ea
 
 module _ (n m : ℕ) where
   pub number-own : m < n / 4 → m ≡ numberSlot n m
   unfolding numberSlot
   number-own l = rw (numberSlot, lt-ltb m (n / 4) l)
 
-  pub number-shared : n / 4 ≤ m → {a : ℕ} → a ≡ wideStep m 0 → {b : ℕ} → b ≡ wideStep a 0 → {r : ℕ} → r ≡ slotBy (n - n / 4) b → n / 4 + r ≡ numberSlot n m
+  pub number-shared : n / 4 ≤ m → {b : ℕ} → b ≡ numberHash m → {r : ℕ} → r ≡ slotBy (n - n / 4) b → n / 4 + r ≡ numberSlot n m
   unfolding numberSlot
-  number-shared l ea eb er = rw (numberSlot, le-ltb m (n / 4) l, er, eb, ea)
+  number-shared l eb er = rw (numberSlot, le-ltb m (n / 4) l, er, eb)
 
-pub ruleset slotted = (slot-none, span-some, slot-some, slot-within, id-placed, number-own, number-shared)
+pub ruleset slotted = (slot-none, span-some, slot-some, slot-within, class-none, class-some, class-tested, id-hashed, number-hashed, number-own, number-shared)
 
 -- Searches in the slots
 
@@ -113,9 +135,10 @@ module _ {K : Type 0} (test′ : K → Line → Bool) (slot : ℕ → K → ℕ)
           pass-found : s ≡ true → {x : CodeEntry} → idxAt h x ≡ lineAt form h t m .idx → Tells (Found x)
           pass-found f i = record { is = (p, m, word-is, sym es ∙ f, i) }
 
-pub id-start : (form : Form) (h : Bytes) (t slots : List ℕ) (y : CodeEntry) {b : Bytes} → b ≡ idIn h (entryOf y) → {p : ℕ} → p ≡ idSlot (length slots) (meaning (y .quoted) b)
+pub id-start : (form : Form) (h : Bytes) (t slots : List ℕ) (y : CodeEntry) {a : ℕ} → a ≡ idHash (idAt h y) → {p : ℕ} → p ≡ slotBy (length slots) a
     → Passed isNamed idSlot form h t slots (idAt h y) p
-id-start form h t slots y eb e = pass-start isNamed idSlot form h t slots (idAt h y) (e ∙ rw eb)
+unfolding idSlot
+id-start form h t slots y ea e = pass-start isNamed idSlot form h t slots (idAt h y) (e ∙ rw ea)
 
 -- by the ID of y, or by a number; x is the entry that the code got from the slot
 module _ (form : Form) (h : Bytes) (t slots : List ℕ) {p : ℕ} (l : p < length slots) {word : ℕ} (ew : word ≡ getD slots p 0) (z : word ≡ 0 → ⊥)
@@ -186,24 +209,24 @@ numbered-sole l a b e f = go (l .idx) e f
     go none e f = absurd (false≢true e)
     go (some m) e f = sym (eqb-true m a e) ∙ eqb-true m b f
 
-module _ {K : Type 0} {u : K → Line → Bool} {slot : ℕ → K → ℕ} {form : Form} {h : Bytes} {t : List ℕ} {ls : List Line} where
+module _ {K : Type 0} {u : K → Line → Bool} {slot : ℕ → K → ℕ} {hash : K → ℕ} {c₀ : Class} {form : Form} {h : Bytes} {t : List ℕ} {ls : List Line} where
   -- the slots stay as they are
-  held-more : {slots : List ℕ} → Held u slot form h t ls slots → (l : Line)
-      → ((w : K) → idxFirst (u w) ls ≡ none → u w l ≡ true → (p : ℕ) → slot (length slots) w ≤ p → p < length slots → getD slots p 0 ≡ 0 → ⊥)
-      → Held u slot form h t (ls ++ l ∷ []) slots
+  held-more : {slots : List ℕ} → Held u slot hash c₀ form h t ls slots → (l : Line)
+      → ((w : K) → classOf (c₀ .of) (hash w) ≡ c₀ .at → idxFirst (u w) ls ≡ none → u w l ≡ true → (p : ℕ) → slot (length slots) w ≤ p → p < length slots → getD slots p 0 ≡ 0 → ⊥)
+      → Held u slot hash c₀ form h t (ls ++ l ∷ []) slots
   held-more {slots} g l new = record {
     own = λ q m c w e. first-kept (u w) ls (l ∷ []) (g .own q m c w e);
-    behind = λ w i e p a b c n. go w i e p a b c n (idxFirst (u w) ls) refl;
+    behind = λ w y i e p a b c n. go w y i e p a b c n (idxFirst (u w) ls) refl;
   }
     where
-      go : (w : K) (i : Option ℕ) → idxFirst (u w) (ls ++ l ∷ []) ≡ some i → (p : ℕ) → slot (length slots) w ≤ p → p < length slots → getD slots p 0 ≡ 0
+      go : (w : K) → classOf (c₀ .of) (hash w) ≡ c₀ .at → (i : Option ℕ) → idxFirst (u w) (ls ++ l ∷ []) ≡ some i → (p : ℕ) → slot (length slots) w ≤ p → p < length slots → getD slots p 0 ≡ 0
           → NoneIn u slot form h t slots w p → (o : Option (Option ℕ)) → idxFirst (u w) ls ≡ o → ⊥
-      go w i e p a b c n (some j) f = g .behind w j f p a b c n
-      go w i e p a b c n none f = new w f (first-one (u w) l (sym (first-later (u w) ls (l ∷ []) f) ∙ e)) p a b c
+      go w y i e p a b c n (some j) f = g .behind w y j f p a b c n
+      go w y i e p a b c n none f = new w y f (first-one (u w) l (sym (first-later (u w) ls (l ∷ []) f) ∙ e)) p a b c
 
   -- entry k's line, which is new, has the open slot r
-  held-put : Sole u → {slots : List ℕ} → Held u slot form h t ls slots → (k : ℕ) (w₀ : K) → u w₀ (lineAt form h t k) ≡ true → idxFirst (u w₀) ls ≡ none
-      → (r : ℕ) → r < length slots → getD slots r 0 ≡ 0 → Passed u slot form h t slots w₀ r → Held u slot form h t (ls ++ lineAt form h t k ∷ []) (set slots r (k + 1))
+  held-put : Sole u → {slots : List ℕ} → Held u slot hash c₀ form h t ls slots → (k : ℕ) (w₀ : K) → u w₀ (lineAt form h t k) ≡ true → idxFirst (u w₀) ls ≡ none
+      → (r : ℕ) → r < length slots → getD slots r 0 ≡ 0 → Passed u slot form h t slots w₀ r → Held u slot hash c₀ form h t (ls ++ lineAt form h t k ∷ []) (set slots r (k + 1))
   held-put sole {slots} g k w₀ here absent r inside free passed = record {
     own = λ q m c w e. elim (test (eqb q r)) [
       | pass f ↦
@@ -214,7 +237,7 @@ module _ {K : Type 0} {u : K → Line → Bool} {slot : ℕ → K → ℕ} {form
           (new w (subst (λ (x : ℕ). u w (lineAt form h t x) ≡ true) (sym n) e))
       | fail f ↦ first-kept (u w) ls (lineAt form h t k ∷ []) (g .own q m (sym (other q f) ∙ c) w e)
     ];
-    behind = λ w i e p a b c n. go w i e p (rw size at a) (rw size at b) c n (idxFirst (u w) ls) refl;
+    behind = λ w z i e p a b c n. go w z i e p (rw size at a) (rw size at b) c n (idxFirst (u w) ls) refl;
   }
     where
       size : length (set slots r (k + 1)) ≡ length slots
@@ -234,14 +257,14 @@ module _ {K : Type 0} {u : K → Line → Bool} {slot : ℕ → K → ℕ} {form
         | pass f ↦ let j : k + 1 ≡ 0 = sym (getD-set-same slots r (k + 1) 0 inside) ∙ ap (λ (x : ℕ). getD (set slots r (k + 1)) x 0) (sym (eqb-true p r f)) ∙ c in absurd (omega arith)
       ]
 
-      go : (w : K) (i : Option ℕ) → idxFirst (u w) (ls ++ lineAt form h t k ∷ []) ≡ some i → (p : ℕ) → slot (length slots) w ≤ p → p < length slots
+      go : (w : K) → classOf (c₀ .of) (hash w) ≡ c₀ .at → (i : Option ℕ) → idxFirst (u w) (ls ++ lineAt form h t k ∷ []) ≡ some i → (p : ℕ) → slot (length slots) w ≤ p → p < length slots
           → getD (set slots r (k + 1)) p 0 ≡ 0 → NoneIn u slot form h t (set slots r (k + 1)) w p → (o : Option (Option ℕ)) → idxFirst (u w) ls ≡ o → ⊥
-      go w i e p a b c n (some j) f =
-          g .behind w j f p a b (sym (other p (closed p c)) ∙ c) (λ q m x y v. elim (test (eqb q r)) [
+      go w z i e p a b c n (some j) f =
+          g .behind w z j f p a b (sym (other p (closed p c)) ∙ c) (λ q m x y v. elim (test (eqb q r)) [
             | pass s ↦ let z : m + 1 ≡ 0 = sym v ∙ ap (λ (x : ℕ). getD slots x 0) (eqb-true q r s) ∙ free in absurd (omega arith)
             | fail s ↦ n q m (rw size x) y (other q s ∙ v)
           ])
-      go w i e p a b c n none f =
+      go w z i e p a b c n none f =
           let l = first-one (u w) (lineAt form h t k) (sym (first-later (u w) ls (lineAt form h t k ∷ []) f) ∙ e) in
           let j : w₀ ≡ w = sole (lineAt form h t k) w₀ w here l in
           let from : slot (length slots) w ≤ r = subst (λ (x : K). slot (length slots) x ≤ r) j (passed .from) in
@@ -254,14 +277,14 @@ module _ {K : Type 0} {u : K → Line → Bool} {slot : ℕ → K → ℕ} {form
 
 -- The slots after entry k
 
-module _ {K : Type 0} (u : K → Line → Bool) (slot : ℕ → K → ℕ) (d : Dictionary) (form : Form) (h : Bytes) (t : List ℕ) where
-  pub held-start : {on : Bool} {slots : List ℕ} → AllOpen slots → HeldAt on u slot d form h t 0 slots
+module _ {K : Type 0} (u : K → Line → Bool) (slot : ℕ → K → ℕ) (hash : K → ℕ) (c₀ : Class) (d : Dictionary) (form : Form) (h : Bytes) (t : List ℕ) where
+  pub held-start : {slots : List ℕ} → AllOpen slots → HeldAt u slot hash c₀ d form h t 0 slots
   unfolding entryLines idxFirst
-  held-start o = record { is = λ e b. record { own = λ q m c. let z : m + 1 ≡ 0 = sym c ∙ o .is q in absurd (omega arith); behind = λ w i e. none-not e } }
+  held-start o = record { is = λ b. record { own = λ q m c. let z : m + 1 ≡ 0 = sym c ∙ o .is q in absurd (omega arith); behind = λ w z i e. none-not e } }
 
-pub held-skip : {K : Type 0} {on : Bool} {u : K → Line → Bool} {slot : ℕ → K → ℕ} {d : Dictionary} {form : Form} {h : Bytes} {t : List ℕ} {k : ℕ} {slots : List ℕ}
-    → linesBefore d form h t (k + 1) ≡ linesBefore d form h t k → HeldAt on u slot d form h t k slots → HeldAt on u slot d form h t (k + 1) slots
-held-skip e g = record { is = λ o b. rw e (g .is o (omega arith)) }
+pub held-skip : {K : Type 0} {u : K → Line → Bool} {slot : ℕ → K → ℕ} {hash : K → ℕ} {c₀ : Class} {d : Dictionary} {form : Form} {h : Bytes} {t : List ℕ} {k : ℕ} {slots : List ℕ}
+    → linesBefore d form h t (k + 1) ≡ linesBefore d form h t k → HeldAt u slot hash c₀ d form h t k slots → HeldAt u slot hash c₀ d form h t (k + 1) slots
+held-skip e g = record { is = λ b. rw e (g .is (omega arith)) }
 
 abbrev opens : ℕ → List ℕ
 opens n = replicate n 0
@@ -274,27 +297,34 @@ open-at (suc n) (suc q) = open-at n q
 pub all-open : (n : ℕ) → AllOpen (opens n)
 all-open n = record { is = open-at n }
 
-module _ {K : Type 0} {u : K → Line → Bool} {slot : ℕ → K → ℕ} (sole : Sole u) {d : Dictionary} {form : Form} {h : Bytes} {t : List ℕ} {k : ℕ} {w : K} (s : Stands u d form h t k w)
-    {slots : List ℕ} (g : HeldAt true u slot d form h t k slots) where
+module _ {K : Type 0} {u : K → Line → Bool} {slot : ℕ → K → ℕ} {hash : K → ℕ} (sole : Sole u) {c₀ : Class} {d : Dictionary} {form : Form} {h : Bytes} {t : List ℕ} {k : ℕ} {w : K}
+    (s : Stands u d form h t k w) {slots : List ℕ} (g : HeldAt u slot hash c₀ d form h t k slots) where
   abbrev before : List Line
   before = linesBefore d form h t k
 
   more : linesBefore d form h t (k + 1) ≡ before ++ lineAt form h t k ∷ []
   more = before-take d form h t k (s .inside) refl refl (s .held)
 
-  pub held-large : 4294967294 < k → HeldAt true u slot d form h t (k + 1) slots
-  held-large l = record { is = λ o b. absurd (omega arith) }
+  pub held-large : 4294967294 < k → HeldAt u slot hash c₀ d form h t (k + 1) slots
+  held-large l = record { is = λ b. absurd (omega arith) }
+
+  -- what is of another class has no slot
+  pub held-other : {q : Bool} → q ≡ eqb (classOf (c₀ .of) (hash w)) (c₀ .at) → q ≡ false → HeldAt u slot hash c₀ d form h t (k + 1) slots
+  held-other eq f = record {
+    is = λ b. rw more (held-more (g .is (omega arith)) (lineAt form h t k) (λ v y n i p a c z.
+        eqb-false (classOf (c₀ .of) (hash w)) (c₀ .at) (sym eq ∙ f) (subst (λ (x : K). classOf (c₀ .of) (hash x) ≡ c₀ .at) (sole (lineAt form h t k) v w i (s .is)) y)));
+  }
 
   module _ (l : k ≤ 4294967294) {r : Looked} (look : Looks u slot form h t slots w r) where
-    held : Held u slot form h t before slots
-    held = g .is refl (omega arith)
+    held : Held u slot hash c₀ form h t before slots
+    held = g .is (omega arith)
 
     first-found : {x : CodeEntry} → r ≡ Found x → some (idxAt h x) ≡ idxFirst (u w) before
     first-found e = let f = rw e at (look .is) in sym (held .own (f .0) (f .1) (f .2) w (f .3) ∙ ap some (sym (f .4)))
 
-    pub held-found : {x : CodeEntry} → r ≡ Found x → HeldAt true u slot d form h t (k + 1) slots
+    pub held-found : {x : CodeEntry} → r ≡ Found x → HeldAt u slot hash c₀ d form h t (k + 1) slots
     held-found e = record {
-      is = λ o b. rw more (held-more held (lineAt form h t k) (λ v n i p.
+      is = λ b. rw more (held-more held (lineAt form h t k) (λ v y n i p.
           none-not (sym (subst (λ (a : K). idxFirst (u a) before ≡ none) (sole (lineAt form h t k) v w i (s .is)) n) ∙ sym (first-found e))));
     }
 
@@ -305,21 +335,22 @@ module _ {K : Type 0} {u : K → Line → Bool} {slot : ℕ → K → ℕ} (sole
       pub open-inside : p < length slots
       open-inside = opened .0
 
-      first-open : none ≡ idxFirst (u w) before
-      first-open = go (idxFirst (u w) before) refl
-        where
-          go : (o : Option (Option ℕ)) → idxFirst (u w) before ≡ o → none ≡ idxFirst (u w) before
-          go none f = sym f
-          go (some i) f = let x = opened .2 in absurd (held .behind w i f p (x .from) (opened .0) (opened .1) (x .others))
+      module _ (mine : classOf (c₀ .of) (hash w) ≡ c₀ .at) where
+        first-open : none ≡ idxFirst (u w) before
+        first-open = go (idxFirst (u w) before) refl
+          where
+            go : (o : Option (Option ℕ)) → idxFirst (u w) before ≡ o → none ≡ idxFirst (u w) before
+            go none f = sym f
+            go (some i) f = let x = opened .2 in absurd (held .behind w mine i f p (x .from) (opened .0) (opened .1) (x .others))
 
-      pub held-open : HeldAt true u slot d form h t (k + 1) (set slots p (k + 1))
-      held-open = record { is = λ o b. rw more (held-put sole held k w (s .is) (sym first-open) p (opened .0) (opened .1) (opened .2)) }
+        pub held-open : HeldAt u slot hash c₀ d form h t (k + 1) (set slots p (k + 1))
+        held-open = record { is = λ b. rw more (held-put sole held k w (s .is) (sym first-open) p (opened .0) (opened .1) (opened .2)) }
 
-    pub held-full : r ≡ Full → HeldAt true u slot d form h t (k + 1) slots
+    pub held-full : r ≡ Full → HeldAt u slot hash c₀ d form h t (k + 1) slots
     held-full e =
         let f = rw e at (look .is) in
         record {
-          is = λ o b. rw more (held-more held (lineAt form h t k) (λ v n i p a c z.
+          is = λ b. rw more (held-more held (lineAt form h t k) (λ v y n i p a c z.
               let j = sole (lineAt form h t k) v w i (s .is) in
               f .2 .filled p (subst (λ (x : K). slot (length slots) x ≤ p) j a) (omega (arith, f .1)) z));
         }
@@ -327,7 +358,7 @@ module _ {K : Type 0} {u : K → Line → Bool} {slot : ℕ → K → ℕ} (sole
 -- The lines of the entries ahead are those before entry k
 
 module _ (d : Dictionary) (form : Form) (h : Bytes) (t : List ℕ) (k : ℕ) {ahead : List ℕ} (e : ahead ≡ firstEntries form t k) where
-  ahead-is : tableLines d form h ahead ≡ linesBefore d form h t k
+  pub ahead-is : tableLines d form h ahead ≡ linesBefore d form h t k
   ahead-is = ap (entryLines d h 0) (ap (entriesIn form) e ∙ first-entries form t k)
 
   pub named-ahead : (x : Bytes) {o : Option (Option ℕ)} → o ≡ idxNamed x (tableLines d form h ahead) → o ≡ idxNamed x (linesBefore d form h t k)
@@ -339,26 +370,26 @@ module _ (d : Dictionary) (form : Form) (h : Bytes) (t : List ℕ) (k : ℕ) {ah
 seen-first : (n : ℕ) (ls : List Line) {o : Option (Option ℕ)} → o ≡ idxFirst (isNumbered n) ls → isSome o ≡ numberSeen n ls
 seen-first n ls e = ap isSome e ∙ sym (first-any (isNumbered n) ls)
 
-module _ {d : Dictionary} {form : Form} {h : Bytes} {t : List ℕ} {k : ℕ} {y : Bytes} (s : Stands isNamed d form h t k y) {slots : List ℕ} (g : HeldAt true isNamed idSlot d form h t k slots)
-    (l : k ≤ 4294967294) {r : Looked} (look : Looks isNamed idSlot form h t slots y r) where
+module _ {c₀ : Class} {d : Dictionary} {form : Form} {h : Bytes} {t : List ℕ} {k : ℕ} {y : Bytes} (s : Stands isNamed d form h t k y) {slots : List ℕ}
+    (g : HeldAt isNamed idSlot idHash c₀ d form h t k slots) (l : k ≤ 4294967294) {r : Looked} (look : Looks isNamed idSlot form h t slots y r) where
   pub named-found : {x : CodeEntry} → r ≡ Found x → some (idxAt h x) ≡ idxNamed y (linesBefore d form h t k)
   named-found i = first-found named-sole s g l look i
 
-  pub named-open : {p : ℕ} → r ≡ Open p → none ≡ idxNamed y (linesBefore d form h t k)
-  named-open i = first-open named-sole s g l look i
+  pub named-open : {p : ℕ} → r ≡ Open p → classOf (c₀ .of) (idHash y) ≡ c₀ .at → none ≡ idxNamed y (linesBefore d form h t k)
+  named-open i m = first-open named-sole s g l look i m
 
-module _ {d : Dictionary} {form : Form} {h : Bytes} {t : List ℕ} {k n : ℕ} (s : Stands isNumbered d form h t k n) {slots : List ℕ} (g : HeldAt true isNumbered numberSlot d form h t k slots)
-    (l : k ≤ 4294967294) {r : Looked} (look : Looks isNumbered numberSlot form h t slots n r) where
+module _ {c₀ : Class} {d : Dictionary} {form : Form} {h : Bytes} {t : List ℕ} {k n : ℕ} (s : Stands isNumbered d form h t k n) {slots : List ℕ}
+    (g : HeldAt isNumbered numberSlot numberHash c₀ d form h t k slots) (l : k ≤ 4294967294) {r : Looked} (look : Looks isNumbered numberSlot form h t slots n r) where
   pub taken-found : {x : CodeEntry} → r ≡ Found x → true ≡ numberSeen n (linesBefore d form h t k)
   taken-found e = seen-first n (linesBefore d form h t k) (first-found numbered-sole s g l look e)
 
-  pub taken-open : {p : ℕ} → r ≡ Open p → false ≡ numberSeen n (linesBefore d form h t k)
-  taken-open e = seen-first n (linesBefore d form h t k) (first-open numbered-sole s g l look e)
+  pub taken-open : {p : ℕ} → r ≡ Open p → classOf (c₀ .of) (numberHash n) ≡ c₀ .at → false ≡ numberSeen n (linesBefore d form h t k)
+  taken-open e m = seen-first n (linesBefore d form h t k) (first-open numbered-sole s g l look e m)
 
 -- what answers the needs of `find_earlier` and `is_taken`
 pub ruleset meets = (held-large, held-found, open-inside, held-open, held-full, named-ahead, named-found, named-open, seen-ahead, taken-found, taken-open, named-sole, numbered-sole)
 
--- and of `place_indexed` and `place_line`
+-- and, with the marks, of `mark_id` and `mark_number`
 pub stands-id : {d : Dictionary} {form : Form} (h : Bytes) {t : List ℕ} {k : ℕ} {e : CodeEntry} → StandsAt d form t k e → Stands isNamed d form h t k (idAt h e)
 stands-id {d} {form} h {t} {k} {e} s = record { inside = s .inside; held = rw (← s .is) (s .held); is = rw (← s .is) (same-self (idAt h e)) }
 
@@ -366,22 +397,41 @@ module _ (h : Bytes) {d : Dictionary} {form : Form} {t : List ℕ} {k : ℕ} {e 
   pub stands-number : {n : ℕ} → r ≡ idx.Idx n → Stands isNumbered d form h t k n
   stands-number {n} i = record { inside = s .inside; held = rw (← s .is) (s .held); is = rw (← s .is, ← er, i) (eq-eqb n n refl) }
 
-  pub held-unnumbered : r ≡ idx.Missing → {slots : List ℕ} → HeldAt true isNumbered numberSlot d form h t k slots → HeldAt true isNumbered numberSlot d form h t (k + 1) slots
+  pub held-unnumbered : r ≡ idx.Missing → {c₀ : Class} {slots : List ℕ} → HeldAt isNumbered numberSlot numberHash c₀ d form h t k slots
+      → HeldAt isNumbered numberSlot numberHash c₀ d form h t (k + 1) slots
   held-unnumbered i g =
       let none-here : lineAt form h t k .idx ≡ none = rw (← s .is, ← er, i) in
       record {
-        is = λ o b. rw (before-take d form h t k (s .inside) refl refl (rw (← s .is) (s .held))) (held-more (g .is refl (omega arith)) (lineAt form h t k) (λ v n f p a c z.
+        is = λ b. rw (before-take d form h t k (s .inside) refl refl (rw (← s .is) (s .held))) (held-more (g .is (omega arith)) (lineAt form h t k) (λ v y n f p a c z.
             false≢true (rw none-here at f)));
       }
 
-module _ {K : Type 0} {indexed : Bool} {u : K → Line → Bool} {slot : ℕ → K → ℕ} {d : Dictionary} {form : Form} {h : Bytes} {t : List ℕ} {k : ℕ} {slots : List ℕ} where
-  pub held-on : indexed ≡ true → HeldAt indexed u slot d form h t k slots → HeldAt true u slot d form h t k slots
-  held-on e g = record { is = λ o. g .is e }
+module _ {c₀ : Class} {d : Dictionary} {form : Form} {h : Bytes} {t : List ℕ} {k : ℕ} {e : CodeEntry} (s : StandsAt d form t k e) {slots : List ℕ} where
+  pub id-elsewhere : HeldAt isNamed idSlot idHash c₀ d form h t k slots → {a : ℕ} → a ≡ idHash (idAt h e) → {q : Bool} → q ≡ eqb (classOf (c₀ .of) a) (c₀ .at) → q ≡ false
+      → HeldAt isNamed idSlot idHash c₀ d form h t (k + 1) slots
+  id-elsewhere g ea eq f = held-other named-sole (stands-id h s) g (eq ∙ rw ea) f
 
-  pub held-by : HeldAt true u slot d form h t k slots → HeldAt indexed u slot d form h t k slots
-  held-by g = record { is = λ o. g .is refl }
+  pub number-elsewhere : HeldAt isNumbered numberSlot numberHash c₀ d form h t k slots → {r : IdxRead} → idxMeant r ≡ idxAt h e → {n : ℕ} → r ≡ idx.Idx n → {a : ℕ} → a ≡ numberHash n
+      → {q : Bool} → q ≡ eqb (classOf (c₀ .of) a) (c₀ .at) → q ≡ false → HeldAt isNumbered numberSlot numberHash c₀ d form h t (k + 1) slots
+  number-elsewhere g er i ea eq f = held-other numbered-sole (stands-number h s er i) g (eq ∙ rw ea) f
 
-  pub held-off : indexed ≡ false → HeldAt indexed u slot d form h t k slots
-  held-off e = record { is = λ o. absurd (true≢false (sym o ∙ e)) }
+pub class-is : (c₀ : Class) {a b : ℕ} → a ≡ b → {q : Bool} → q ≡ eqb (classOf (c₀ .of) a) (c₀ .at) → q ≡ true → classOf (c₀ .of) b ≡ c₀ .at
+class-is c₀ {a} {b} ea eq f = eqb-true (classOf (c₀ .of) b) (c₀ .at) (sym (eq ∙ rw ea) ∙ f)
 
-pub ruleset numbered = (stands-id, stands-number, held-unnumbered, held-on, held-by, held-off)
+pub id-hash-is : (h : Bytes) (e : CodeEntry) {x : Bytes} → x ≡ idIn h (entryOf e) → {a : ℕ} → a ≡ idHash (meaning (e .quoted) x) → a ≡ idHash (idAt h e)
+id-hash-is h e ex ea = ea ∙ rw ex
+
+pub ruleset slotting = (stands-id, stands-number, held-unnumbered, id-elsewhere, number-elsewhere, class-is, id-hash-is)
+
+-- twice the number of an entry is a number too
+module _ {d : Dictionary} {form : Form} {t : List ℕ} {k : ℕ} {e : CodeEntry} (s : StandsAt d form t k e) (l : length t < 18446744073709551616) where
+  pub entry-small : k < 9223372036854775808
+  entry-small = let r = room-small form t in omega (arith, s .inside)
+
+  pub twice-fits : 2 * k < 18446744073709551616
+  twice-fits = omega (arith, entry-small)
+
+  pub twice-more : 2 * k + 1 < 18446744073709551616
+  twice-more = omega (arith, entry-small)
+
+pub ruleset twice = (entry-small, twice-fits, twice-more)

@@ -9,7 +9,7 @@ use Rattle.values.specs.Hash.{wideStep, wideFrom}
 use Rattle.rules.specs.Sizes.{limits}
 use Rattle.rules.specs.Examples.{opened}
 use Rattle.dictionary.specs.Dictionary.{Line, linesOf, anyOf, firstLines, place, idNumber, clashed, dictionaryClash, pairWords, pairs, refusal, numbering, dictionaries}
-use Rattle.dictionary.specs.Slots.{idxFirst, isNamed, isNumbered, slotBy, idSlot, numberSlot}
+use Rattle.dictionary.specs.Slots.{idxFirst, isNamed, isNumbered, slotBy, idHash, numberHash, idSlot, numberSlot}
 
 -- Lines, by their ID and what stands after the required fields
 
@@ -92,11 +92,11 @@ computed = refl
 
 -- of 1,024 slots: numbers below a quarter of them have their own, and numbers that are 65,536 apart do not share one
 number-slots : map (numberSlot 1024) (0 ∷ 255 ∷ 256 ∷ 65536 ∷ 131072 ∷ []) ≡ (0 ∷ 255 ∷ 446 ∷ 926 ∷ 277 ∷ [])
-unfolding slotBy numberSlot wideStep
+unfolding slotBy numberSlot numberHash wideStep
 number-slots = refl
 
 id-slots : (idSlot 1024 (ascii "DP") ∷ idSlot 1024 (ascii "AF") ∷ idSlot 0 (ascii "DP") ∷ []) ≡ (863 ∷ 29 ∷ 0 ∷ [])
-unfolding slotBy idSlot wideStep wideFrom
+unfolding slotBy idSlot idHash wideStep wideFrom
 id-slots = refl
 
 -- the IDX of the first line of an ID, or of a number

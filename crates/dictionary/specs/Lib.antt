@@ -3,5 +3,6 @@ pub mod Examples
 pub mod Lines
 pub mod Slots
 pub mod Places
+pub mod Marks
 pub mod Pairs
 pub mod Answers

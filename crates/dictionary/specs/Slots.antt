@@ -15,6 +15,7 @@ use Rattle.entries.specs.Values.{entryOf}
 use Rattle.dictionary.specs.Dictionary.{Line}
 use Rattle.dictionary.specs.Lines.{holds, lineOfEntry, linesBefore, idxAt, isIdx}
 use Rattle.dictionary.specs.declared.line.Dictionary.{Dictionary}
+use Rattle.dictionary.specs.declared.slots.Class.{Class}
 use Rattle.dictionary.specs.declared.slots.Looked.{Looked}
 use Rattle.dictionary.specs.declared.slots.Looked.the-variants.{Found, Open, Full}
 
@@ -34,12 +35,22 @@ isNumbered n l = isIdx n (l .idx)
 unfoldable pub slotBy : ℕ → ℕ → ℕ
 slotBy n hash = elim (eqb n 0) [ true ↦ 0 | false ↦ hash % (n - n / 64) ]
 
+-- of n classes the one of a hash
+unfoldable pub classOf : ℕ → ℕ → ℕ
+classOf n hash = elim (eqb n 0) [ true ↦ 0 | false ↦ hash / 2 ^ 32 % n ]
+
+unfoldable pub idHash : Bytes → ℕ
+idHash x = wideStep (wideFrom wideBasis x) 0
+
+unfoldable pub numberHash : ℕ → ℕ
+numberHash m = wideStep (wideStep m 0) 0
+
 unfoldable pub idSlot : ℕ → Bytes → ℕ
-idSlot n x = slotBy n (wideStep (wideFrom wideBasis x) 0)
+idSlot n x = slotBy n (idHash x)
 
 -- numbers below a quarter of the slots have their own
 unfoldable pub numberSlot : ℕ → ℕ → ℕ
-numberSlot n m = elim (ltb m (n / 4)) [ true ↦ m | false ↦ n / 4 + slotBy (n - n / 4) (wideStep (wideStep m 0) 0) ]
+numberSlot n m = elim (ltb m (n / 4)) [ true ↦ m | false ↦ n / 4 + slotBy (n - n / 4) (numberHash m) ]
 
 pub record AllOpen (slots : List ℕ) : Type 0 where
   pub is : (q : ℕ) → getD slots q 0 ≡ 0
@@ -68,14 +79,15 @@ LookedIs test slot form h t slots w Full = (p : ℕ) × (length slots ≤ p) × 
 pub record Looks {K : Type 0} (test : K → Line → Bool) (slot : ℕ → K → ℕ) (form : Form) (h : Bytes) (t slots : List ℕ) (w : K) (r : Looked) : Type 0 where
   pub is : LookedIs test slot form h t slots w r
 
--- a line in a slot is the first of these lines for whatever it is sought for; what is among these lines stands before any open slot from its own on
-pub record Held {K : Type 0} (test : K → Line → Bool) (slot : ℕ → K → ℕ) (form : Form) (h : Bytes) (t : List ℕ) (ls : List Line) (slots : List ℕ) : Type 0 where
+-- a line in a slot is the first of these lines for whatever it is sought for; what is among these lines, and of a class, stands before any open slot from its own on
+pub record Held {K : Type 0} (test : K → Line → Bool) (slot : ℕ → K → ℕ) (hash : K → ℕ) (c : Class) (form : Form) (h : Bytes) (t : List ℕ) (ls : List Line) (slots : List ℕ) : Type 0 where
   pub own : (q m : ℕ) → getD slots q 0 ≡ m + 1 → (w : K) → test w (lineAt form h t m) ≡ true → idxFirst (test w) ls ≡ some (lineAt form h t m .idx)
-  pub behind : (w : K) (i : Option ℕ) → idxFirst (test w) ls ≡ some i → (p : ℕ) → slot (length slots) w ≤ p → p < length slots → getD slots p 0 ≡ 0 → NoneIn test slot form h t slots w p → ⊥
+  pub behind : (w : K) → classOf (c .of) (hash w) ≡ c .at → (i : Option ℕ) → idxFirst (test w) ls ≡ some i → (p : ℕ) → slot (length slots) w ≤ p → p < length slots → getD slots p 0 ≡ 0
+      → NoneIn test slot form h t slots w p → ⊥
 
--- of the lines before entry k, as far as a slot has room for its number; where nothing is sought so, nothing is known
-pub record HeldAt {K : Type 0} (on : Bool) (test : K → Line → Bool) (slot : ℕ → K → ℕ) (d : Dictionary) (form : Form) (h : Bytes) (t : List ℕ) (k : ℕ) (slots : List ℕ) : Type 0 where
-  pub is : on ≡ true → k < 2 ^ 32 → Held test slot form h t (linesBefore d form h t k) slots
+-- of the lines before entry k, as far as a slot has room for its number
+pub record HeldAt {K : Type 0} (test : K → Line → Bool) (slot : ℕ → K → ℕ) (hash : K → ℕ) (c : Class) (d : Dictionary) (form : Form) (h : Bytes) (t : List ℕ) (k : ℕ) (slots : List ℕ) : Type 0 where
+  pub is : k < 2 ^ 32 → Held test slot hash c form h t (linesBefore d form h t k) slots
 
 -- e is entry k, of this dictionary
 pub record StandsAt (d : Dictionary) (form : Form) (t : List ℕ) (k : ℕ) (e : CodeEntry) : Type 0 where
@@ -83,7 +95,7 @@ pub record StandsAt (d : Dictionary) (form : Form) (t : List ℕ) (k : ℕ) (e :
   pub held : holds d (e .kind) ≡ true
   pub is : entryOf e ≡ entryIn form t k
 
--- entry k is, and its line is the one
+-- entry k is, and its line is the one; what is sought is of the class
 pub record Stands {K : Type 0} (test : K → Line → Bool) (d : Dictionary) (form : Form) (h : Bytes) (t : List ℕ) (k : ℕ) (w : K) : Type 0 where
   pub inside : k < room form t
   pub held : holds d (entryIn form t k .kind) ≡ true

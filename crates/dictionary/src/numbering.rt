@@ -3,29 +3,22 @@ use crate::line;
 use crate::line::Dictionary;
 use crate::line::IdxRead;
 use crate::place;
+use crate::place::Asked;
 use crate::place::Placed;
 use entries::entry::Entry;
 use entries::form::Form;
 use entries::table;
 ghost use mathlib.Core.Path.{_≡_};
-ghost use mathlib.Core.Bool.{true};
-ghost use Prim.Native.Nat.{_+_};
 ghost use Rattle.dictionary.specs.Lines.{tableLines};
 ghost use Rattle.dictionary.specs.Places.{placeAt};
-ghost use Rattle.dictionary.specs.Slots.{isNamed, isNumbered, idSlot, numberSlot, StandsAt, HeldAt, AllOpen};
+ghost use Rattle.dictionary.specs.Slots.{StandsAt};
+ghost use Rattle.dictionary.specs.Marks.{Tells};
 ghost use Rattle.dictionary.specs.Pairs.{carriedBy, putPair, firstNumber, Counts, turnOf, turnOut, NumbersLines};
 
 // Whether some lines carry IDX, and whether some don't.
 pub struct Carried {
     pub given: bool,
     pub missing: bool,
-}
-
-// The form of the entries, the dictionary whose lines are numbered, and whether these carry IDX.
-struct Asked {
-    form: Form,
-    dictionary: Dictionary,
-    indexed: bool,
 }
 
 // How many pairs there are so far, and the number that the next ID is due.
@@ -122,40 +115,32 @@ fn number_line(
     e: Entry,
     count: Count,
     entry: usize,
+    marks: &[u64],
     out: &mut [u64],
-    ids: &mut [u32],
-    numbers: &mut [u32],
 ) -> Turn
     requires { ⌜ Counts count ⌝ }
     requires { ⌜ StandsAt (asked .dictionary) (asked .form) (now kept) entry e ⌝ }
-    requires { ⌜ HeldAt true isNamed idSlot (asked .dictionary) (asked .form) (now h) (now kept) entry (now ids) ⌝ }
-    requires { ⌜ HeldAt (asked .indexed) isNumbered numberSlot (asked .dictionary) (asked .form) (now h) (now kept) entry (now numbers) ⌝ }
+    requires { ⌜ Tells asked (now h) (now kept) (now marks) ⌝ }
     ensures turn { λ r.
         ⌜ r ≡ turnOf count (placeAt (asked .indexed) (asked .dictionary) (asked .form) (now (h .entry)) (now (kept .entry)) entry e) ⌝ }
     ensures out { λ _.
         ⌜ now (out .exit) ≡ turnOut (now (out .entry)) entry count
         (placeAt (asked .indexed) (asked .dictionary) (asked .form) (now (h .entry)) (now (kept .entry)) entry e) ⌝ }
-    ensures ids { λ _. ⌜ HeldAt true isNamed idSlot (asked .dictionary) (asked .form) (now (h .entry)) (now (kept .entry)) (entry + 1) (now (ids .exit)) ⌝ }
-    ensures numbers { λ _.
-        ⌜ HeldAt (asked .indexed) isNumbered numberSlot (asked .dictionary) (asked .form) (now (h .entry)) (now (kept .entry)) (entry + 1) (now (numbers .exit)) ⌝ }
 {
-    let form = asked.form;
-    let dictionary = asked.dictionary;
-    let indexed = asked.indexed;
-    let placed = place::place_line(h, kept, form, dictionary, indexed, e, entry, ids, numbers);
+    let needed = count.pairs < out.len() / 2;
+    let placed = place::place_line(h, kept, asked, e, entry, marks, needed);
     take_place(count, placed, entry as u64, out)
 }
 
-fn number_lines(
+// By the marks of the dictionary's lines.
+pub fn number_lines(
     h: &[u8],
     kept: &[u64],
     asked: Asked,
+    marks: &[u64],
     out: &mut [u64],
-    ids: &mut [u32],
-    numbers: &mut [u32],
 ) -> Numbering
-    requires { ⌜ AllOpen (now ids) ⌝ }
-    requires { ⌜ AllOpen (now numbers) ⌝ }
+    requires { ⌜ Tells asked (now h) (now kept) (now marks) ⌝ }
     ensures { λ r.
         ⌜ NumbersLines (asked .dictionary) (asked .indexed) (tableLines (asked .dictionary) (asked .form) (now (h .entry)) (now (kept .entry))) (now (out .entry)) r
         (now (out .exit)) ⌝ }
@@ -172,112 +157,11 @@ fn number_lines(
         let entry = k;
         k += 1;
         if line::has_kind(dictionary, e.kind) {
-            match number_line(h, kept, asked, e, count, entry, out, ids, numbers) {
+            match number_line(h, kept, asked, e, count, entry, marks, out) {
                 Turn::Next(c) => count = c,
                 Turn::Clash => return Numbering::Clash,
             }
         }
     }
     Numbering::Pairs(count.pairs)
-}
-
-fn number_some(h: &[u8], kept: &[u64], asked: Asked, out: &mut [u64]) -> Numbering
-    ensures { λ r.
-        ⌜ NumbersLines (asked .dictionary) (asked .indexed) (tableLines (asked .dictionary) (asked .form) (now (h .entry)) (now (kept .entry))) (now (out .entry)) r
-        (now (out .exit)) ⌝ }
-{
-    let mut ids = [0u32; 4096];
-    let mut numbers = [0u32; 8192];
-    number_lines(h, kept, asked, out, &mut ids, &mut numbers)
-}
-
-fn number_many(h: &[u8], kept: &[u64], asked: Asked, out: &mut [u64]) -> Numbering
-    ensures { λ r.
-        ⌜ NumbersLines (asked .dictionary) (asked .indexed) (tableLines (asked .dictionary) (asked .form) (now (h .entry)) (now (kept .entry))) (now (out .entry)) r
-        (now (out .exit)) ⌝ }
-{
-    let mut ids = [0u32; 32768];
-    let mut numbers = [0u32; 65536];
-    number_lines(h, kept, asked, out, &mut ids, &mut numbers)
-}
-
-// Where lines carry IDX.
-fn number_indexed(h: &[u8], kept: &[u64], asked: Asked, out: &mut [u64]) -> Numbering
-    ensures { λ r.
-        ⌜ NumbersLines (asked .dictionary) (asked .indexed) (tableLines (asked .dictionary) (asked .form) (now (h .entry)) (now (kept .entry))) (now (out .entry)) r
-        (now (out .exit)) ⌝ }
-{
-    let mut ids = [0u32; 98304];
-    let mut numbers = [0u32; 98304];
-    number_lines(h, kept, asked, out, &mut ids, &mut numbers)
-}
-
-// Where they don't.
-fn number_counted(h: &[u8], kept: &[u64], asked: Asked, out: &mut [u64]) -> Numbering
-    ensures { λ r.
-        ⌜ NumbersLines (asked .dictionary) (asked .indexed) (tableLines (asked .dictionary) (asked .form) (now (h .entry)) (now (kept .entry))) (now (out .entry)) r
-        (now (out .exit)) ⌝ }
-{
-    let mut ids = [0u32; 196608];
-    let mut numbers = [0u32; 0];
-    number_lines(h, kept, asked, out, &mut ids, &mut numbers)
-}
-
-// With slots of its own where none are lent: few entries need few, and clearing more costs more than it spares. It calls itself so that the
-// compiler leaves the large slots in functions of their own, and a call that needs few does not touch the stack of all.
-fn number_sized(
-    h: &[u8],
-    kept: &[u64],
-    asked: Asked,
-    out: &mut [u64],
-    ids: &mut [u32],
-    numbers: &mut [u32],
-) -> Numbering
-    requires { ⌜ AllOpen (now ids) ⌝ }
-    requires { ⌜ AllOpen (now numbers) ⌝ }
-    ensures { λ r.
-        ⌜ NumbersLines (asked .dictionary) (asked .indexed) (tableLines (asked .dictionary) (asked .form) (now (h .entry)) (now (kept .entry))) (now (out .entry)) r
-        (now (out .exit)) ⌝ }
-{
-    if 0 < ids.len() {
-        return number_lines(h, kept, asked, out, ids, numbers);
-    }
-    let form = asked.form;
-    let entries = table::count(kept, form);
-    if entries < 512 {
-        let mut own_ids = [0u32; 1024];
-        let mut own_numbers = [0u32; 1024];
-        return number_sized(h, kept, asked, out, &mut own_ids, &mut own_numbers);
-    }
-    if entries < 3072 {
-        return number_some(h, kept, asked, out);
-    }
-    if entries < 24576 {
-        return number_many(h, kept, asked, out);
-    }
-    let indexed = asked.indexed;
-    if indexed {
-        return number_indexed(h, kept, asked, out);
-    }
-    number_counted(h, kept, asked, out)
-}
-
-pub fn number_dictionary(
-    h: &[u8],
-    kept: &[u64],
-    form: Form,
-    dictionary: Dictionary,
-    indexed: bool,
-    out: &mut [u64],
-) -> Numbering
-    ensures { λ r. ⌜ NumbersLines dictionary indexed (tableLines dictionary form (now (h .entry)) (now (kept .entry))) (now (out .entry)) r (now (out .exit)) ⌝ }
-{
-    let asked = Asked {
-        form,
-        dictionary,
-        indexed,
-    };
-    let mut no_ids = [0u32; 0];
-    let mut no_numbers = [0u32; 0];
-    number_sized(h, kept, asked, out, &mut no_ids, &mut no_numbers)
 }

@@ -1,8 +1,10 @@
 // The number of a line beside the lines before it.
+use crate::bits;
 use crate::line;
 use crate::line::Dictionary;
 use crate::line::IdxRead;
 use crate::slots;
+use crate::slots::Class;
 use crate::slots::Looked;
 use entries::entry::Entry;
 use entries::form::Form;
@@ -10,13 +12,27 @@ use entries::part;
 use entries::table;
 use values::string;
 ghost use mathlib.Core.Path.{_≡_};
-ghost use mathlib.Core.Bool.{true};
+ghost use mathlib.Core.Option.{none};
 ghost use Prim.Native.Nat.{_+_};
 ghost use Rattle.entries.specs.Values.{entryOf};
-ghost use Rattle.dictionary.specs.Dictionary.{anyOf, clashes, impliedNumbers};
-ghost use Rattle.dictionary.specs.Lines.{idAt, isImplied, tableLines, linesBefore};
-ghost use Rattle.dictionary.specs.Places.{idxNamed, earlierMeant, numberSeen, placeBeside, countedPlace, indexedAt, placeAt};
-ghost use Rattle.dictionary.specs.Slots.{isNamed, isNumbered, idSlot, numberSlot, Stands, StandsAt, HeldAt};
+ghost use Rattle.dictionary.specs.Lines.{idAt, idxAt, isImplied, tableLines, linesBefore};
+ghost use Rattle.dictionary.specs.Places.{impliedClash, idxNamed, earlierMeant, numberSeen, seenIn, indexedBeside, countedBeside, placeIf, placeAt};
+ghost use Rattle.dictionary.specs.Slots.{isNamed, isNumbered, classOf, idHash, numberHash, idSlot, numberSlot, Stands, StandsAt, HeldAt};
+ghost use Rattle.dictionary.specs.Marks.{isAgain, besideBy, besideAt, Tells};
+
+// The form of the entries, the dictionary whose lines are numbered, and whether these carry IDX.
+pub struct Asked {
+    pub form: Form,
+    pub dictionary: Dictionary,
+    pub indexed: bool,
+}
+
+// What a line is beside those before it: of a new ID; of one that was met, with the same number; or it clashes with one of them.
+pub enum Beside {
+    New,
+    Again,
+    Clash,
+}
 
 // A line before with the same ID.
 pub enum Earlier {
@@ -65,27 +81,32 @@ fn has_number(h: &[u8], ahead: &[u64], form: Form, dictionary: Dictionary, n: u6
     false
 }
 
-// The first line before entry k that has the ID of e. Where there is none, the line of entry k is that from now on.
-fn find_earlier(
+// The first line before entry k that has the ID of e, which is of the class. Where there is none, the line of entry k is that from now on.
+pub fn find_earlier(
     h: &[u8],
     kept: &[u64],
-    form: Form,
-    dictionary: Dictionary,
+    asked: Asked,
+    class: Class,
     e: Entry,
+    hash: u64,
     k: usize,
     ids: &mut [u32],
 ) -> Earlier
-    requires { ⌜ Stands isNamed dictionary form (now h) (now kept) k (idAt (now h) e) ⌝ }
-    requires { ⌜ HeldAt true isNamed idSlot dictionary form (now h) (now kept) k (now ids) ⌝ }
+    requires { ⌜ hash ≡ idHash (idAt (now h) e) ⌝ }
+    requires { ⌜ classOf (class .of) (idHash (idAt (now h) e)) ≡ class .at ⌝ }
+    requires { ⌜ Stands isNamed (asked .dictionary) (asked .form) (now h) (now kept) k (idAt (now h) e) ⌝ }
+    requires { ⌜ HeldAt isNamed idSlot idHash class (asked .dictionary) (asked .form) (now h) (now kept) k (now ids) ⌝ }
     ensures earlier { λ r.
-        ⌜ earlierMeant (now (h .entry)) r ≡ idxNamed (idAt (now (h .entry)) e) (linesBefore dictionary form (now (h .entry)) (now (kept .entry)) k) ⌝ }
-    ensures ids { λ _. ⌜ HeldAt true isNamed idSlot dictionary form (now (h .entry)) (now (kept .entry)) (k + 1) (now (ids .exit)) ⌝ }
+        ⌜ earlierMeant (now (h .entry)) r ≡ idxNamed (idAt (now (h .entry)) e) (linesBefore (asked .dictionary) (asked .form) (now (h .entry)) (now (kept .entry)) k) ⌝ }
+    ensures ids { λ _. ⌜ HeldAt isNamed idSlot idHash class (asked .dictionary) (asked .form) (now (h .entry)) (now (kept .entry)) (k + 1) (now (ids .exit)) ⌝ }
 {
+    let form = asked.form;
+    let dictionary = asked.dictionary;
     // A slot has no room for a larger number.
     if 0xFFFF_FFFE < k {
         return find_id(h, table::kept(kept, form, k), form, dictionary, e);
     }
-    match slots::look_id(h, kept, form, e, ids) {
+    match slots::look_id(h, kept, form, e, hash, ids) {
         Looked::Found(x) => Earlier::Found(x),
         Looked::Open(at) => {
             ids[at] = (k + 1) as u32;
@@ -95,21 +116,25 @@ fn find_earlier(
     }
 }
 
-// Whether a line before entry k carries the number n. Where there is none, the line of entry k is the first that does.
-fn is_taken(
+// Whether a line before entry k carries the number n, which is of the class. Where there is none, the line of entry k is the first that does.
+pub fn is_taken(
     h: &[u8],
     kept: &[u64],
-    form: Form,
-    dictionary: Dictionary,
+    asked: Asked,
+    class: Class,
     n: u64,
     k: usize,
     numbers: &mut [u32],
 ) -> bool
-    requires { ⌜ Stands isNumbered dictionary form (now h) (now kept) k n ⌝ }
-    requires { ⌜ HeldAt true isNumbered numberSlot dictionary form (now h) (now kept) k (now numbers) ⌝ }
-    ensures taken { λ r. ⌜ r ≡ numberSeen n (linesBefore dictionary form (now (h .entry)) (now (kept .entry)) k) ⌝ }
-    ensures numbers { λ _. ⌜ HeldAt true isNumbered numberSlot dictionary form (now (h .entry)) (now (kept .entry)) (k + 1) (now (numbers .exit)) ⌝ }
+    requires { ⌜ classOf (class .of) (numberHash n) ≡ class .at ⌝ }
+    requires { ⌜ Stands isNumbered (asked .dictionary) (asked .form) (now h) (now kept) k n ⌝ }
+    requires { ⌜ HeldAt isNumbered numberSlot numberHash class (asked .dictionary) (asked .form) (now h) (now kept) k (now numbers) ⌝ }
+    ensures taken { λ r. ⌜ r ≡ numberSeen n (linesBefore (asked .dictionary) (asked .form) (now (h .entry)) (now (kept .entry)) k) ⌝ }
+    ensures numbers { λ _.
+        ⌜ HeldAt isNumbered numberSlot numberHash class (asked .dictionary) (asked .form) (now (h .entry)) (now (kept .entry)) (k + 1) (now (numbers .exit)) ⌝ }
 {
+    let form = asked.form;
+    let dictionary = asked.dictionary;
     if 0xFFFF_FFFE < k {
         return has_number(h, table::kept(kept, form, k), form, dictionary, n);
     }
@@ -124,8 +149,8 @@ fn is_taken(
 }
 
 // Only PASS is 0.
-fn clashes_implied(h: &[u8], dictionary: Dictionary, e: Entry, n: u64) -> bool
-    ensures { λ r. ⌜ r ≡ anyOf (clashes (idAt (now (h .entry)) e, n)) (impliedNumbers dictionary) ⌝ }
+pub fn clashes_implied(h: &[u8], dictionary: Dictionary, e: Entry, n: u64) -> bool
+    ensures { λ r. ⌜ r ≡ impliedClash dictionary (idAt (now (h .entry)) e) n ⌝ }
 {
     match dictionary {
         Dictionary::Strings => {
@@ -138,89 +163,143 @@ fn clashes_implied(h: &[u8], dictionary: Dictionary, e: Entry, n: u64) -> bool
     }
 }
 
-// The line's number is n; `taken`: a line before carries it.
-fn place_beside(h: &[u8], earlier: Earlier, n: u64, taken: bool) -> Placed
-    ensures { λ r. ⌜ r ≡ placeBeside n (earlierMeant (now (h .entry)) earlier) taken ⌝ }
+// Whether a line carries the IDX of one before, and may, if lines carry it.
+pub fn is_again(h: &[u8], asked: Asked, e: Entry, before: Entry) -> bool
+    ensures { λ r.
+        ⌜ r ≡ isAgain (asked .indexed) (impliedClash (asked .dictionary) (idAt (now (h .entry)) e)) (idxAt (now (h .entry)) e) (idxAt (now (h .entry)) before) ⌝ }
 {
-    match earlier {
-        Earlier::Found(x) => {
-            if line::has_idx(h, x, n) {
-                return Placed::Again;
-            }
-            Placed::Clash
+    let indexed = asked.indexed;
+    let dictionary = asked.dictionary;
+    if indexed {
+        let IdxRead::Idx(n) = line::line_idx(h, e) else {
+            return false;
+        };
+        if clashes_implied(h, dictionary, e, n) {
+            return false;
         }
-        Earlier::Missing => {
-            if taken {
-                return Placed::Clash;
-            }
-            Placed::Numbered(n)
-        }
+        return line::has_idx(h, before, n);
     }
+    true
+}
+
+// What a line of a new ID is beside those ahead.
+fn place_new(h: &[u8], ahead: &[u64], asked: Asked, e: Entry) -> Beside
+    ensures { λ r.
+        ⌜ r ≡ besideBy (asked .indexed) (impliedClash (asked .dictionary) (idAt (now (h .entry)) e)) (idxAt (now (h .entry)) e) none
+        (seenIn (asked .dictionary) (asked .form) (now (h .entry)) (now (ahead .entry))) ⌝ }
+{
+    let form = asked.form;
+    let dictionary = asked.dictionary;
+    let indexed = asked.indexed;
+    if indexed {
+        let IdxRead::Idx(n) = line::line_idx(h, e) else {
+            return Beside::Clash;
+        };
+        if has_number(h, ahead, form, dictionary, n) {
+            return Beside::Clash;
+        }
+        if clashes_implied(h, dictionary, e, n) {
+            return Beside::Clash;
+        }
+        return Beside::New;
+    }
+    Beside::New
+}
+
+// What a line is beside those ahead, by a look at all of them.
+fn search_beside(h: &[u8], ahead: &[u64], asked: Asked, e: Entry) -> Beside
+    ensures { λ r.
+        ⌜ r ≡ besideBy (asked .indexed) (impliedClash (asked .dictionary) (idAt (now (h .entry)) e)) (idxAt (now (h .entry)) e)
+        (idxNamed (idAt (now (h .entry)) e) (tableLines (asked .dictionary) (asked .form) (now (h .entry)) (now (ahead .entry))))
+        (seenIn (asked .dictionary) (asked .form) (now (h .entry)) (now (ahead .entry))) ⌝ }
+{
+    let form = asked.form;
+    let dictionary = asked.dictionary;
+    match find_id(h, ahead, form, dictionary, e) {
+        Earlier::Found(x) => {
+            if is_again(h, asked, e, x) {
+                return Beside::Again;
+            }
+            Beside::Clash
+        }
+        Earlier::Missing => place_new(h, ahead, asked, e),
+    }
+}
+
+// What the line of entry k is beside those before it, by its marks.
+fn find_beside(h: &[u8], kept: &[u64], asked: Asked, e: Entry, k: usize, marks: &[u64]) -> Beside
+    requires { ⌜ StandsAt (asked .dictionary) (asked .form) (now kept) k e ⌝ }
+    requires { ⌜ Tells asked (now h) (now kept) (now marks) ⌝ }
+    ensures { λ r. ⌜ r ≡ besideAt asked (now (h .entry)) (now (kept .entry)) k ⌝ }
+{
+    let form = asked.form;
+    if marks.len() <= k / 32 {
+        return search_beside(h, table::kept(kept, form, k), asked, e);
+    }
+    if bits::is_set(marks, 2 * k) {
+        return Beside::Again;
+    }
+    if bits::is_set(marks, 2 * k + 1) {
+        return Beside::Clash;
+    }
+    Beside::New
 }
 
 // Where lines carry IDX.
-fn place_indexed(
-    h: &[u8],
-    kept: &[u64],
-    form: Form,
-    dictionary: Dictionary,
-    e: Entry,
-    entry: usize,
-    earlier: Earlier,
-    numbers: &mut [u32],
-) -> Placed
-    requires { ⌜ StandsAt dictionary form (now kept) entry e ⌝ }
-    requires { ⌜ HeldAt true isNumbered numberSlot dictionary form (now h) (now kept) entry (now numbers) ⌝ }
-    ensures placed { λ r.
-        ⌜ r ≡ indexedAt dictionary form (now (h .entry)) (now (kept .entry)) entry e earlier ⌝ }
-    ensures numbers { λ _. ⌜ HeldAt true isNumbered numberSlot dictionary form (now (h .entry)) (now (kept .entry)) (entry + 1) (now (numbers .exit)) ⌝ }
+fn place_indexed(h: &[u8], e: Entry, beside: Beside, needed: bool) -> Placed
+    ensures { λ r. ⌜ r ≡ placeIf needed (indexedBeside (idxAt (now (h .entry)) e) beside) ⌝ }
 {
-    let IdxRead::Idx(n) = line::line_idx(h, e) else {
-        return Placed::Clash;
-    };
-    let taken = is_taken(h, kept, form, dictionary, n, entry, numbers);
-    if clashes_implied(h, dictionary, e, n) {
-        return Placed::Clash;
+    match beside {
+        Beside::New => {
+            if needed {
+                let IdxRead::Idx(n) = line::line_idx(h, e) else {
+                    return Placed::Numbered(0);
+                };
+                return Placed::Numbered(n);
+            }
+            Placed::Numbered(0)
+        }
+        Beside::Again => Placed::Again,
+        Beside::Clash => Placed::Clash,
     }
-    place_beside(h, earlier, n, taken)
 }
 
 // Where they don't.
-fn place_counted(h: &[u8], dictionary: Dictionary, e: Entry, earlier: Earlier) -> Placed
-    ensures { λ r. ⌜ r ≡ countedPlace (isImplied (now (h .entry)) dictionary (entryOf e)) (earlierMeant (now (h .entry)) earlier) ⌝ }
+fn place_counted(h: &[u8], dictionary: Dictionary, e: Entry, beside: Beside) -> Placed
+    ensures { λ r. ⌜ r ≡ countedBeside (isImplied (now (h .entry)) dictionary (entryOf e)) beside ⌝ }
 {
-    let Earlier::Missing = earlier else {
-        return Placed::Again;
-    };
-    if line::is_implied(h, e, dictionary) {
-        return Placed::Numbered(0);
+    match beside {
+        Beside::New => {
+            if line::is_implied(h, e, dictionary) {
+                return Placed::Numbered(0);
+            }
+            Placed::Due
+        }
+        Beside::Again => Placed::Again,
+        Beside::Clash => Placed::Again,
     }
-    Placed::Due
 }
 
-// The line of an entry, beside those before it; it has its slots after that.
+// The line of entry k, beside those before it; its number only if it is needed, since reading it takes longest.
 pub fn place_line(
     h: &[u8],
     kept: &[u64],
-    form: Form,
-    dictionary: Dictionary,
-    indexed: bool,
+    asked: Asked,
     e: Entry,
-    entry: usize,
-    ids: &mut [u32],
-    numbers: &mut [u32],
+    k: usize,
+    marks: &[u64],
+    needed: bool,
 ) -> Placed
-    requires { ⌜ StandsAt dictionary form (now kept) entry e ⌝ }
-    requires { ⌜ HeldAt true isNamed idSlot dictionary form (now h) (now kept) entry (now ids) ⌝ }
-    requires { ⌜ HeldAt indexed isNumbered numberSlot dictionary form (now h) (now kept) entry (now numbers) ⌝ }
-    ensures placed { λ r.
-        ⌜ r ≡ placeAt indexed dictionary form (now (h .entry)) (now (kept .entry)) entry e ⌝ }
-    ensures ids { λ _. ⌜ HeldAt true isNamed idSlot dictionary form (now (h .entry)) (now (kept .entry)) (entry + 1) (now (ids .exit)) ⌝ }
-    ensures numbers { λ _. ⌜ HeldAt indexed isNumbered numberSlot dictionary form (now (h .entry)) (now (kept .entry)) (entry + 1) (now (numbers .exit)) ⌝ }
+    requires { ⌜ StandsAt (asked .dictionary) (asked .form) (now kept) k e ⌝ }
+    requires { ⌜ Tells asked (now h) (now kept) (now marks) ⌝ }
+    ensures { λ r.
+        ⌜ r ≡ placeIf needed (placeAt (asked .indexed) (asked .dictionary) (asked .form) (now (h .entry)) (now (kept .entry)) k e) ⌝ }
 {
-    let earlier = find_earlier(h, kept, form, dictionary, e, entry, ids);
+    let beside = find_beside(h, kept, asked, e, k, marks);
+    let dictionary = asked.dictionary;
+    let indexed = asked.indexed;
     if indexed {
-        return place_indexed(h, kept, form, dictionary, e, entry, earlier, numbers);
+        return place_indexed(h, e, beside, needed);
     }
-    place_counted(h, dictionary, e, earlier)
+    place_counted(h, dictionary, e, beside)
 }

@@ -9,15 +9,22 @@ use values::hash;
 use values::string;
 ghost use mathlib.Core.Path.{_≡_};
 ghost use Prim.Native.Nat.{_≤_};
+ghost use lib.Dec.{eqb};
 ghost use Rattle.values.specs.Value.{meaning};
 ghost use Rattle.dictionary.specs.Lines.{idAt};
-ghost use Rattle.dictionary.specs.Slots.{isNamed, isNumbered, slotBy, idSlot, numberSlot, Looks};
+ghost use Rattle.dictionary.specs.Slots.{isNamed, isNumbered, slotBy, classOf, idHash, numberHash, idSlot, numberSlot, Looks};
 
 // What is looked for is in a slot, or the slot is open that it is due.
 pub enum Looked {
     Found(Entry),
     Open(usize),
     Full,
+}
+
+// One class of so many, in which hashes fall.
+pub struct Class {
+    pub of: u64,
+    pub at: u64,
 }
 
 // The slot of a hash. Those at the end are no hash's own, and left to what stands behind its own.
@@ -31,11 +38,32 @@ fn slot_by(slots: usize, hash: u64) -> usize
     (hash % ((slots - slots / 64) as u64)) as usize
 }
 
-fn id_slot(slots: usize, id: &[u8], quoted: bool) -> usize
-    ensures { λ r. ⌜ r ≡ idSlot slots (meaning quoted (now (id .entry))) ⌝ }
+// Of so many classes the one of a hash.
+fn class_of(classes: u64, hash: u64) -> u64
+    ensures { λ r. ⌜ r ≡ classOf classes hash ⌝ }
 {
-    let hash = hash::wide_from(hash::WIDE_BASIS, id, quoted);
-    slot_by(slots, hash::wide_step(hash, 0))
+    if classes == 0 {
+        return 0;
+    }
+    hash / 0x1_0000_0000 % classes
+}
+
+pub fn is_in(class: Class, hash: u64) -> bool
+    ensures { λ r. ⌜ r ≡ eqb (classOf (class .of) hash) (class .at) ⌝ }
+{
+    class_of(class.of, hash) == class.at
+}
+
+pub fn id_hash(id: &[u8], quoted: bool) -> u64
+    ensures { λ r. ⌜ r ≡ idHash (meaning quoted (now (id .entry))) ⌝ }
+{
+    hash::wide_step(hash::wide_from(hash::WIDE_BASIS, id, quoted), 0)
+}
+
+pub fn number_hash(n: u64) -> u64
+    ensures { λ r. ⌜ r ≡ numberHash n ⌝ }
+{
+    hash::wide_step(hash::wide_step(n, 0), 0)
 }
 
 // Numbers that are small, as they are where none is left out, have slots to themselves, a quarter of all; others share the rest.
@@ -46,7 +74,7 @@ fn number_slot(slots: usize, n: u64) -> usize
     if n < (own as u64) {
         return n as usize;
     }
-    own + slot_by(slots - own, hash::wide_step(hash::wide_step(n, 0), 0))
+    own + slot_by(slots - own, number_hash(n))
 }
 
 fn wide(n: u32) -> usize
@@ -55,12 +83,13 @@ fn wide(n: u32) -> usize
     n as usize
 }
 
-// Looks for the ID of an entry.
-pub fn look_id(h: &[u8], kept: &[u64], form: Form, e: Entry, slots: &[u32]) -> Looked
+// Looks for the ID of an entry, by its hash.
+pub fn look_id(h: &[u8], kept: &[u64], form: Form, e: Entry, hash: u64, slots: &[u32]) -> Looked
+    requires { ⌜ hash ≡ idHash (idAt (now h) e) ⌝ }
     ensures { λ r. ⌜ Looks isNamed idSlot form (now (h .entry)) (now (kept .entry)) (now (slots .entry)) (idAt (now (h .entry)) e) r ⌝ }
 {
     let id = part::id_part(h, e);
-    let mut at = id_slot(slots.len(), id, e.quoted);
+    let mut at = slot_by(slots.len(), hash);
     while at < slots.len() {
         let word = wide(slots[at]);
         if word == 0 {

@@ -6,4 +6,5 @@ pub mod Forms
 pub mod Lines
 pub mod Spellings
 pub mod Stands
+pub mod Bares
 pub mod Asis

@@ -34,7 +34,7 @@ use Rattle.records.specs.declared.key.MapKey.{MapKey}
 use Rattle.records.specs.declared.key.MapKey.the-variants as key
 use Rattle.records.specs.declared.tag.Tag.{Tag}
 use Rattle.forms.specs.Forms.{fieldBy, shownValue, knownText, listedFields, otherText, othersText}
-use Rattle.forms.specs.Formed.{valueBy, Clean, formValue, Spells, Stands, PassesIs, Passes, IsKnown, InForm, Rest, Follows, FollowsRows, InFormFrom, IdFirst, FormedMap}
+use Rattle.forms.specs.Formed.{valueBy, Clean, formValue, Spells, Stands, PassesIs, Passes, IsKnown, InForm, Rest, Follows, FollowsRows, InFormFrom, IdFirst, BareMap, FormedMap}
 use Rattle.forms.specs.declared.formed.Passed.{Passed}
 use Rattle.forms.specs.declared.formed.Passed.the-variants.{More, Done, Other, Failed}
 use Rattle.forms.proofs.Spellings.{clean}
@@ -63,7 +63,7 @@ unfolding listedFields fieldKeyed
 listed-none [] = refl
 listed-none (r ∷ rs) = listed-none rs
 
-in-form-none : (x : MapContext) (rs : List KnownField) → InForm x rs []
+pub in-form-none : (x : MapContext) (rs : List KnownField) → InForm x rs []
 unfolding othersText writeMore fieldKeyed
 in-form-none x rs = record { text = ap (_++ []) (listed-none rs); only = λ name h k. refl }
 
@@ -91,7 +91,7 @@ module _ (x : MapContext) (m : x .brackets ≡ false) where
     only = λ name h q. g .only name (or-r (same (row .name) name) (isIn name (names rs)) h) q;
   }
 
-  in-form-other : (f : Field) (fs : List Field) → isSome (knownNamed (versionIn x) (keyBytes x) (f .key)) ≡ false → Stands (f .key) false f → InForm x [] fs → InForm x [] (f ∷ fs)
+  pub in-form-other : (f : Field) (fs : List Field) → isSome (knownNamed (versionIn x) (keyBytes x) (f .key)) ≡ false → Stands (f .key) false f → InForm x [] fs → InForm x [] (f ∷ fs)
   unfolding listedFields othersText otherText writeMore
   in-form-other f fs k s g = record {
     text =
@@ -134,7 +134,7 @@ left-here : {m : Bool} {s : Bytes} {i : ℕ} {fs : List Field} → Left m s i fs
 left-here {m} {s} {i} g = left-one (suc (length s - i)) g (left-all m s i) (omega arith)
 
 -- a value as the code was told of it
-stands-value : (name : Bytes) (number q : Bool) (t : Bytes) (w : Value) → valueBy q t ≡ w → Clean (isQuoted w) (textOf w) → Spells name number q t true → formValue name number (meaningOf w) ≡ w
+pub stands-value : (name : Bytes) (number q : Bool) (t : Bytes) (w : Value) → valueBy q t ≡ w → Clean (isQuoted w) (textOf w) → Spells name number q t true → formValue name number (meaningOf w) ≡ w
 stands-value name number true t w e = subst (λ (u : Value). Clean (isQuoted u) (textOf u) → Spells name number true t true → formValue name number (meaningOf u) ≡ u) e (λ c s. s .is refl c)
 stands-value name number false t w e = subst (λ (u : Value). Clean (isQuoted u) (textOf u) → Spells name number false t true → formValue name number (meaningOf u) ≡ u) e (λ c s. s .is refl c)
 
@@ -309,7 +309,10 @@ module _ (x : MapContext) (s : Bytes) (m : x .brackets ≡ false) {p : Passed} (
   pub formed-more : {c : Cursor} → q ≡ More c → {r : Bool} → InFormFrom x s (c .at) r → FormedMap x s r
   formed-more e g = record { is = λ o. (m, λ k. first-in k (subst (Rest x [] s) (sym e) (g .is o m))) }
 
-pub ruleset maps = (unformed, formed-done, formed-more)
+pub formed-bare : (x : MapContext) (s : Bytes) → x .brackets ≡ false → {q : Bool} → BareMap x s q → q ≡ true → FormedMap x s true
+formed-bare x s m b e = record { is = λ o. (m, λ k. b .is e m) }
+
+pub ruleset maps = (unformed, formed-bare, formed-done, formed-more)
 
 -- the names of the table are known ones
 pub known-rows : (v : Version) (key : MapKey) → All (λ (row : KnownField). isSome (knownNamed v (caseBytes key) (row .name)) ≡ true) (afterId (kindBy key))

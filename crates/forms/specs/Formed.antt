@@ -1,10 +1,10 @@
 -- A line that stands as the house form writes it. Assumes nothing.
 use Prim.Native.Nat.{ℕ}
 use mathlib.Core.Path.{_≡_}
-use mathlib.Core.Bool.{Bool, true, false}
+use mathlib.Core.Bool.{Bool, true, false, _||_, _&&_}
 use mathlib.Core.List.{List, [], _∷_, _++_}
 use mathlib.Core.Option.{none}
-use Rattle.values.specs.Bytes.{Bytes, ascii}
+use Rattle.values.specs.Bytes.{Bytes, ascii, is, COMMA, QUOTE}
 use Rattle.values.specs.Value.{Value, quoted, bare, unescaped, meaning, meaningOf, escape, valueOf}
 use Rattle.values.specs.Field.{Field}
 use Rattle.rules.specs.Answer.{ok}
@@ -90,6 +90,18 @@ pub record IdFirst (x : MapContext) (fs : List Field) : Type 0 where
   pub are : fs ≡ id ∷ rest
   pub stands : Stands (ascii "ID") false id
   pub follow : InForm x (afterId (kindBy (x .key))) rest
+
+-- a quote, or past a `,` the first byte of ID or Description
+abbrev pub isTelling : Bool → ℕ → Bool
+isTelling comma b = is QUOTE b || (comma && (is 68 b || is 73 b))
+
+-- there is such a byte; `comma`: a `,` stands before the first
+unfoldable pub telling : Bool → Bytes → Bool
+telling comma [] = false
+telling comma (b ∷ bs) = isTelling comma b || telling (is COMMA b) bs
+
+pub record BareMap (x : MapContext) (s : Bytes) (r : Bool) : Type 0 where
+  pub is : r ≡ true → x .brackets ≡ false → IdFirst x (fieldsAt false s (x .start))
 
 pub record FormedMap (x : MapContext) (s : Bytes) (r : Bool) : Type 0 where
   pub is : r ≡ true → (x .brackets ≡ false) × (All (λ (row : KnownField). IsKnown x (row .name)) (afterId (kindBy (x .key))) → IdFirst x (fieldsAt false s (x .start)))

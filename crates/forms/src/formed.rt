@@ -15,10 +15,11 @@ ghost use mathlib.Core.Path.{_≡_};
 ghost use Rattle.rules.specs.Known.{INFO, FILTER, contig};
 ghost use Rattle.records.specs.Formats.{versionOf};
 ghost use Rattle.records.specs.Keys.{kindBy};
+ghost use Rattle.records.specs.declared.key.MapKey.the-variants.{Other};
 ghost use Rattle.records.specs.Tags.{afterId};
 ghost use Rattle.forms.specs.declared.formed.Passed.the-variants.{More};
 ghost use Rattle.forms.specs.Forms.{shownValue};
-ghost use Rattle.forms.specs.Formed.{Spells, Passes, Follows, FollowsRows, InFormFrom, FormedMap, FormedLine};
+ghost use Rattle.forms.specs.Formed.{Spells, Passes, Follows, FollowsRows, InFormFrom, isTelling, telling, BareMap, FormedMap, FormedLine};
 
 // Past a field that stands as the form writes it: where the next one stands, or it was the last one. Or the field has another name, or
 // does not stand so.
@@ -173,12 +174,77 @@ fn pass_others(s: &[u8], map: MapContext, start: Cursor) -> bool
     }
 }
 
+fn is_other(key: MapKey) -> bool
+    ensures { λ r. ⌜ (r ≡ true → key ≡ Other) ⌝ }
+{
+    match key {
+        MapKey::Info => false,
+        MapKey::Filter => false,
+        MapKey::Format => false,
+        MapKey::AlternativeAllele => false,
+        MapKey::Contig => false,
+        MapKey::Meta => false,
+        MapKey::Pedigree => false,
+        MapKey::Other => true,
+    }
+}
+
+// Whether a byte is a quote, or past a `,` the first one of ID or Description.
+fn is_telling(comma: bool, b: u8) -> bool
+    ensures { λ r. ⌜ r ≡ isTelling comma b ⌝ }
+{
+    if b == b'"' {
+        return true;
+    }
+    if !comma {
+        return false;
+    }
+    if b == b'D' {
+        return true;
+    }
+    b == b'I'
+}
+
+fn has_telling(s: &[u8]) -> bool
+    ensures { λ r. ⌜ r ≡ telling false (now (s .entry)) ⌝ }
+{
+    let mut comma = false;
+    let mut k = 0;
+    while k < s.len() {
+        let b = s[k];
+        k += 1;
+        if is_telling(comma, b) {
+            return true;
+        }
+        comma = b == b',';
+    }
+    false
+}
+
+// Whether the ID stands first in a map that has no other known fields, and no value is quoted or has to be: told by one look at each byte.
+fn is_bare(s: &[u8], map: MapContext) -> bool
+    ensures { λ r. ⌜ BareMap map (now (s .entry)) r ⌝ }
+{
+    let key = map.key;
+    if !is_other(key) {
+        return false;
+    }
+    let fields = bytes::part(s, map.start, s.len());
+    if !bytes::starts_with(fields, b"ID=") {
+        return false;
+    }
+    !has_telling(fields)
+}
+
 // Whether a map's ID stands first, the known fields after it in the table's order, then the others.
 fn is_formed_map(s: &[u8], map: MapContext) -> bool
     ensures { λ r. ⌜ FormedMap map (now (s .entry)) r ⌝ }
 {
     if map.brackets {
         return false;
+    }
+    if is_bare(s, map) {
+        return true;
     }
     let first = pass(s, Cursor { at: map.start }, b"ID", false);
     let key = map.key;

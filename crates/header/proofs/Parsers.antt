@@ -44,8 +44,8 @@ use Rattle.lines.proofs.Lines.{pieces-past, pieces-there}
 use Rattle.columns.specs.HeaderLines.{columnsPut}
 use Rattle.columns.proofs.Answers.{columns-room}
 use Rattle.columns.proofs.Stores.{columns-put}
-use Rattle.ids.specs.Marks.{Marked, MarkedFrom, markAhead}
-use Rattle.ids.proofs.Markings.{unmarked, unmarked-last, unmarked-all, marked-from, ahead-marked, ahead-long}
+use Rattle.ids.specs.Marks.{Marked, MarkedFrom, AheadMarked}
+use Rattle.ids.proofs.Markings.{unmarked, unmarked-last, unmarked-all, marked-from}
 use Rattle.header.specs.Steps.{Stage, stepOn, Point, Went, passed, goOn, startPoint, Spot, Told, startSpot, fits, pointOf, wentOn, toldBy, readOn, tableOn}
 use Rattle.header.specs.Verdicts.{stageOf, formatEntry, Ended, Says, MarkedBefore, LineJudged}
 use Rattle.header.specs.Parsers.{answerMeans, readInto, refusedAs, ReadCall, spotIn, advanceMeans, endedAt, refusedAt, closedAt, ReadsOn, Begins, BeginsMarked, Bounds, spotAfter, tableAfter, partialMeans, Stepped, KeepsLine, Parses}
@@ -495,10 +495,10 @@ pub ruleset goings = (going-start, kept-length, marks-length, kept-bounds, going
 
 module _ (form : Form) (plain : Bool) (h t : List ℕ) (s : Spot) (b : Begins form plain h t s) where
   -- what lines from there on may clash with is marked
-  pub begin-marked : {kept : List ℕ} → kept ≡ firstEntries form t (s .count) → (ms : Bytes) {ns : Bytes} → ns ≡ markAhead h (s .at) (entriesIn form kept) ms → BeginsMarked form plain h ns t s
-  begin-marked e ms f = record {
+  pub begin-marked : {kept : List ℕ} → kept ≡ firstEntries form t (s .count) → {ms : Bytes} → AheadMarked h (s .at) ms (entriesIn form kept) → BeginsMarked form plain h ms t s
+  begin-marked e f = record {
     begins = b;
-    marked = record { from = s .at; behind = omega arith; all = rw (f, e) (ahead-marked h (s .at) (entriesIn form (firstEntries form t (s .count))) ms) };
+    marked = record { from = s .at; behind = omega arith; all = rw e at (f .all) };
   }
 
   -- or there are no marks
@@ -574,7 +574,7 @@ on-lines {form} {imposed} {h} {end} {t} {s} {r} c {p} {x} i = elim (test (fits f
       none-not (sym (ap (λ (y : Told). y .stop) (sym (ap advanceMeans i) ∙ c .told ∙ q)))
 ]
 
-pub ruleset ons = (begin-marked, begin-unmarked, ahead-long, on-out, on-unfit, on-fit, on-inside, on-begins, on-length)
+pub ruleset ons = (begin-marked, begin-unmarked, on-out, on-unfit, on-fit, on-inside, on-begins, on-length)
 
 -- A whole header
 

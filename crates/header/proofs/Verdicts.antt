@@ -7,7 +7,7 @@ use mathlib.Core.List.{List, [], _∷_, _++_}
 use mathlib.Core.Option.{Option, none, some}
 use lib.ListN.{length, take, drop, length-take, length-drop}
 use lib.Seq.{take-append-add}
-use borrow.Author.Tests.{le-leb, lt-leb}
+use borrow.Author.Tests.{eq-eqb, le-leb, lt-leb}
 use Rattle.values.specs.Bytes.{Bytes, ascii, is, starts, part}
 use Rattle.values.specs.Utf8.{isUtf8}
 use Rattle.values.specs.Field.{Field}
@@ -51,18 +51,20 @@ use Rattle.columns.proofs.Answers.{columns-read, column-wrong, sample-twice}
 use Rattle.entries.specs.declared.entry.Entry.{Entry as CodeEntry}
 use Rattle.entries.specs.Values.{entryOf, limitsOf}
 use Rattle.entries.specs.declared.limits.Limits.{Limits as CodeLimits}
-use Rattle.ids.specs.Clashes.{clashNumber, clashIn, prefixOf}
-use Rattle.ids.specs.Marks.{markEntry, Marked, clashFound}
+use Rattle.ids.specs.Clashes.{clashNumber, clashIn, prefixOf, Prefixes}
+use Rattle.ids.specs.Marks.{prefixHash, markUnder, Marked, clashUnder}
 use Rattle.ids.specs.declared.scan.Clash.{Clash}
 use Rattle.ids.specs.declared.scan.Clash.the-variants as clashes
 use Rattle.ids.proofs.KeyKinds.{number-small}
-use Rattle.ids.proofs.Markings.{entry-length, entry-own, all-kept, clash-sure}
+use Rattle.ids.proofs.Markings.{under-length, entry-own, under-kept, prefix-own, clash-sure}
 use Rattle.header.specs.Steps.{Stage, opening, body, ending, freshState, heldAgainst, stepOn}
-use Rattle.header.specs.Verdicts.{imposedOf, stageOf, isDonePhase, formatEntry, Says, MarksKept, MarkedBefore, FirstSays, FirstJudged, besideEntries, IdJudged, MapJudged, recordBeside, RecordJudged, ColumnsSay, ColumnsJudged, textBeside, TextJudged, Utf8Told, LineJudged}
+use Rattle.header.specs.Verdicts.{imposedOf, stageOf, isDonePhase, formatEntry, Says, MarksKept, MarkedBefore, FirstSays, FirstJudged, besideEntries, IdJudged, recordBeside, madeOf, MetSays, MeetsRecord, RecordJudged, ColumnsSay, ColumnsJudged, textBeside, TextJudged, Utf8Told, LineJudged}
 use Rattle.header.specs.declared.file_format_option.FileFormatOption.{FileFormatOption}
 use Rattle.header.specs.declared.file_format_option.FileFormatOption.the-variants as option
 use Rattle.header.specs.declared.phase.Phase.{Phase}
 use Rattle.header.specs.declared.phase.Phase.the-variants as phase
+use Rattle.header.specs.declared.verdict.Met.{Met}
+use Rattle.header.specs.declared.verdict.Met.the-variants as met
 use Rattle.header.specs.declared.verdict.Verdict.{Verdict}
 use Rattle.header.specs.declared.verdict.Verdict.the-variants as verdict
 use Rattle.rules.specs.Claims.{Sized, SizedOption, keyIn}
@@ -123,28 +125,34 @@ pub ruleset firsts = (first-format, first-map, first-text, first-refused)
 marks-same : (h ms : Bytes) → MarksKept h ms ms
 marks-same h ms = record { long = refl; all = λ from es a. a }
 
-marks-more : (h ms : Bytes) (e : Entry) {ms′ : Bytes} → ms′ ≡ markEntry h e ms → MarksKept h ms ms′
-marks-more h ms e a = rw a (record { long = entry-length h e ms; all = λ from es b. all-kept h from e ms es b })
+marks-more : (h ms : Bytes) (key : ℕ) (e : Entry) {ms′ : Bytes} → ms′ ≡ markUnder h key e ms → MarksKept h ms ms′
+marks-more h ms key e a = rw a (record { long = under-length h key e ms; all = λ from es b. under-kept h from key e ms es b })
 
 judged-by : {A : Type 0} {n m : ℕ} (x : A) → m ≡ n → {k : ℕ} → m ≡ suc k → judged n x ≡ refuse (suc k)
 judged-by x e f = rw (← e, f)
 
-module _ (lim : Limits) (h : Bytes) (es : List Entry) (ms prefix : Bytes) (e : CodeEntry) {a : Clash} (ea : a ≡ clashFound h es ms prefix (entryOf e)) {ms′ : Bytes} (em : ms′ ≡ markEntry h (entryOf e) ms) where
-  found : 2 ≤ entryOf e .kind → prefix ≡ prefixOf (keyIn (lineIn h (entryOf e))) → MarkedBefore h (entryOf e .start) ms es → clashNumber a ≡ clashNumber (clashIn h es prefix (entryOf e))
-  found two own m = ap clashNumber (ea ∙ clash-sure h (m .from) es ms prefix (entryOf e) own two (m .behind) (m .all))
+module _ (lim : Limits) (h : Bytes) (es : List Entry) (ms prefix : Bytes) (e : CodeEntry) {a : Clash} (ea : a ≡ clashUnder h es ms prefix (prefixHash prefix (e .kind)) (entryOf e))
+    {ms′ : Bytes} (em : ms′ ≡ markUnder h (prefixHash prefix (e .kind)) (entryOf e) ms) where
+  abbrev OwnPrefix : Type 0
+  OwnPrefix = Prefixes prefix (lineIn h (entryOf e))
+
+  found : 2 ≤ entryOf e .kind → OwnPrefix → MarkedBefore h (entryOf e .start) ms es → clashNumber a ≡ clashNumber (clashIn h es prefix (entryOf e))
+  found two own m =
+      ap clashNumber (ea ∙ ap (λ (k : ℕ). clashUnder h es ms prefix k (entryOf e)) (prefix-own h prefix (entryOf e) (own .key))
+      ∙ clash-sure h (m .from) es ms prefix (entryOf e) own two (m .behind) (m .all))
+
+  marked : OwnPrefix → Marked h ms′ (entryOf e)
+  marked own = subst (λ (y : Bytes). Marked h y (entryOf e)) (sym (em ∙ ap (λ (k : ℕ). markUnder h k (entryOf e) ms) (prefix-own h prefix (entryOf e) (own .key)))) (entry-own h (entryOf e) ms)
 
   pub id-free : a ≡ clashes.Free → IdJudged lim h es ms prefix (entryOf e) (verdict.Entry e) ms′
   id-free f = record {
-    marks = marks-more h ms (entryOf e) em;
-    is = λ two own m start g l. (
-      judged-zero (g, entryOf e ∷ []) (sym (found two own m) ∙ ap clashNumber f),
-      subst (λ (y : Bytes). Marked h y (entryOf e)) (sym em) (entry-own h (entryOf e) ms),
-    );
+    marks = marks-more h ms (prefixHash prefix (e .kind)) (entryOf e) em;
+    is = λ two own m start g l. (judged-zero (g, entryOf e ∷ []) (sym (found two own m) ∙ ap clashNumber f), marked own);
   }
 
   id-clash : (y : Refusal) {b : Clash} → a ≡ b → {n : ℕ} → clashNumber b ≡ suc n → number y ≡ suc n → IdJudged lim h es ms prefix (entryOf e) (verdict.Refused y) ms′
   id-clash y f c i = record {
-    marks = marks-more h ms (entryOf e) em;
+    marks = marks-more h ms (prefixHash prefix (e .kind)) (entryOf e) em;
     is = λ two own m start g l. judged-by (g, entryOf e ∷ []) (found two own m) (ap clashNumber f ∙ c) ∙ ap refuse (sym i);
   }
 
@@ -173,6 +181,16 @@ line-here h e start end {l} el es en = rw (es, en, el) (take-again (end - start)
 
 prefix-here : (k r : Bytes) → take (2 + length k + 1) (ascii "##" ++ (k ++ 61 ∷ r)) ≡ prefixOf k
 prefix-here k r = let e : 2 + length k ≡ suc (suc (length k)) = omega arith in rw e (take-append-add (ascii "##" ++ k) (61 ∷ r) 1)
+
+starts-take : (n : ℕ) (l : Bytes) → starts (take n l) l ≡ true
+unfolding starts
+starts-take zero l = refl
+starts-take (suc n) [] = refl
+starts-take (suc n) (b ∷ l) = rw (starts, eq-eqb b b refl) (starts-take n l)
+
+-- the line of an entry is l, and begins with the prefix
+prefixed : (n : ℕ) {prefix l line : Bytes} → prefix ≡ take n l → prefix ≡ prefixOf (keyIn l) → line ≡ l → Prefixes prefix line
+prefixed n {prefix} {l} t k e = rw e (record { key = k; first = ap (λ (p : Bytes). starts p l) t ∙ starts-take n l })
 
 -- the record was read from the line l
 module _ (v : Version) (l : Bytes) where
@@ -204,55 +222,19 @@ text-inside l (some f) (some p) u {k} {id} e =
     let t : p .1 ≡ id = ap (λ (x : Bytes × Text). x .1) (some-is e) in
     subst (λ (x : Text). (x .start ≤ x .end) × (x .end ≤ length l)) t (u .ordered, u .inside)
 
--- the entry that the code makes of a map
-abbrev madeEntry : ℕ → ℕ → ℕ → Text → ℕ → ℕ → ℕ → ℕ → Entry
-madeEntry kind start len id n tag key count =
-    record { kind = kind; start = start; length = len; offset = id .start; idLength = n; quoted = id .quoted; tag = tag; keyLength = key; fieldCount = count }
-
 module _ (v : Version) (l k : Bytes) (fs : List Field) (line : l ≡ writeRecord (fields k fs)) (id : Text) (tag : ℕ) (e : slotted (textNamed v k (ascii "ID") (fieldsStart k) fs) ≡ slot.Filled id tag) where
   id-both : Both l (fieldNamed v k (ascii "ID") fs) (textNamed v k (ascii "ID") (fieldsStart k) fs)
   id-both = named-text v k (ascii "ID") l (fieldsStart k) fs (subst (λ (x : Bytes). AnyAt x (fieldsStart k) fs) (sym line) (line-fields k fs))
 
-  made-is : (counted : Bool) {kind : ℕ} → kind ≡ mapKind (kindOf k) → (start : ℕ) {name : Bytes} → name ≡ textIn l id
-      → {key count : ℕ} → key ≡ ifCounted counted (length k) → count ≡ ifCounted counted (length fs)
-      → madeEntry kind start (length l) id (length name) tag key count ≡ recordEntry counted v start l (fields k fs)
+  made-is : (lim : Limits) (start : ℕ) (m : MapRecord) → m .id ≡ id → m .tag ≡ tag → mapKind (kindBy (m .key)) ≡ mapKind (kindOf k) → m .value - 3 ≡ length k → m .tally .fields ≡ length fs
+      → madeOf lim start l m ≡ recordEntry (lim .counted) v start l (fields k fs)
   unfolding recordEntry lineEntry countsOf
-  made-is counted {kind} ek start {name} n {key} {count} ck cf =
+  made-is lim start m ei et ek ev ef =
       let x = kept-is (textNamed v k (ascii "ID") (fieldsStart k) fs) e in
       let i = text-inside l (fieldNamed v k (ascii "ID") fs) (textNamed v k (ascii "ID") (fieldsStart k) fs) id-both (x .is) in
       let d = length-drop (id .start) l in
-      let m : length name ≡ id .end - id .start = ap length n ∙ length-take (id .end - id .start) (drop (id .start) l) ∙ omega (arith, i .0, i .1) in
-      rw (x .is, ek, m, ck, cf)
-      (ap (λ (g : ℕ). madeEntry (mapKind (kindOf k)) start (length l) id (id .end - id .start) g (ifCounted counted (length k)) (ifCounted counted (length fs))) (sym (x .tagged)))
-
-module _ (lim : Limits) (h : Bytes) (es : List Entry) (ms : Bytes) (start end : ℕ) (m : MapRecord) {l : Bytes} (el : l ≡ part h start end)
-    {prefix : Bytes} (a : prefix ≡ take (m .value - 0) (drop 0 l)) {name : Bytes} (b : name ≡ textIn l (m .id)) {kind : ℕ} (d : kind ≡ mapKind (kindBy (m .key)))
-    {at key count : ℕ} (ea : at ≡ m .value - 3) (ek : key ≡ ifCounted (lim .counted) at) (ec : count ≡ ifCounted (lim .counted) (m .tally .fields)) where
-  pub map-judged : (r : Verdict) {ms′ : Bytes} → IdJudged lim h es ms prefix (madeEntry kind start (length l) (m .id) (length name) (m .tag) key count) r ms′
-      → MapJudged lim h es ms start end m r ms′
-  map-judged r {ms′} j = record {
-    marks = j .marks;
-    is = λ all l′ el′ v fs named at read held tally.
-        subst (λ (y : Bytes). Says lim h ms′ (besideEntries h es (prefixOf (keyIn y)) (body v) (recordEntry (lim .counted) v start y (fields (keyIn y) fs))) start (body v) y r) (el ∙ sym el′)
-        (go all v fs (subst (λ (y : Bytes). Named (keyIn y) (m .key)) (el′ ∙ sym el) named)
-        (at ∙ ap valueStart (el′ ∙ sym el)) (subst (λ (y : Bytes). readRecord v y ≡ ok (fields (keyIn y) fs)) (el′ ∙ sym el) read)
-        (subst (λ (y : Bytes). slotted (textNamed v (keyIn y) (ascii "ID") (fieldsStart (keyIn y)) fs) ≡ slot.Filled (m .id) (m .tag)) (el′ ∙ sym el) held)
-        (ap (λ (t : Tally). t .fields) tally));
-  }
-    where
-      go : MarkedBefore h start ms es → (v : Version) (fs : List Field) → Named (keyIn l) (m .key) → m .value ≡ valueStart l
-          → readRecord v l ≡ ok (fields (keyIn l) fs) → slotted (textNamed v (keyIn l) (ascii "ID") (fieldsStart (keyIn l)) fs) ≡ slot.Filled (m .id) (m .tag)
-          → m .tally .fields ≡ length fs → Says lim h ms′ (besideEntries h es (prefixOf (keyIn l)) (body v) (recordEntry (lim .counted) v start l (fields (keyIn l) fs))) start (body v) l r
-      go all v fs named place read held many =
-          let k = keyIn l in
-          let i : m .value - 0 ≡ 2 + length k + 1 = omega (arith, place) in
-          let n : at ≡ length k = omega (arith, ea, place) in
-          let p : prefix ≡ prefixOf k = a ∙ ap (λ (n : ℕ). take n l) i ∙ prefix-map v l k fs read in
-          let q = made-is v l k fs (on-ok (LineOf l) (record-in v l) read) (m .id) (m .tag) held (lim .counted) (d ∙ ap mapKind (sym (named .kind ∙ kind-by-case (m .key)))) start b
-          (ek ∙ ap (ifCounted (lim .counted)) n) (ec ∙ ap (ifCounted (lim .counted)) many) in
-          let two : 2 ≤ kind = rw d (number-small (kindBy (m .key)) .0) in
-          subst (λ (e : Entry). Says lim h ms′ (besideEntries h es (prefixOf k) (body v) e) start (body v) l r) q
-          (subst (λ (y : Bytes). Says lim h ms′ (besideEntries h es y (body v) (madeEntry kind start (length l) (m .id) (length name) (m .tag) key count)) start (body v) l r) p (j .is two (p ∙ ap (λ (y : Bytes). prefixOf (keyIn y)) (sym (line-here h (madeEntry kind start (length l) (m .id) (length name) (m .tag) key count) start end el refl refl))) all start (body v) l))
+      let n : length (textIn l id) ≡ id .end - id .start = length-take (id .end - id .start) (drop (id .start) l) ∙ omega (arith, i .0, i .1) in
+      rw (x .is, ei, et, ek, ev, ef, n, x .tagged)
 
 -- A record
 
@@ -267,46 +249,81 @@ module _ (lim : Limits) (h : Bytes) (es : List Entry) (v : Version) (start : ℕ
   unfolding clash
   text-beside k t e = rw e
 
-module _ (lim : Limits) (h : Bytes) (es : List Entry) (ms : Bytes) (start end : ℕ) {l : Bytes} (el : l ≡ part h start end) (v : Version) (x : RecordRead) (a : ParsesRecord v l x) where
+module _ (lim : Limits) (v : Version) (start : ℕ) (l : Bytes) (x : RecordRead) (a : ParsesRecord v l x) where
+  read-as : {y : Answer Record} → readRecord v l ≡ y → (h : Bytes) (es : List Entry) → recordBeside lim h es v start l ≡ (y >>= enter (lim .counted) v [] start l >>= heldAgainst h es)
+  read-as e h es = ap (λ (z : Answer Record). z >>= enter (lim .counted) v [] start l >>= heldAgainst h es) e
+
+  pub met-format : {w : FileFormat} → x ≡ read.FileFormat w → MeetsRecord lim v start l (met.Refused UnexpectedFileFormat)
+  met-format e = record { is = read-as (subst (RecordIs v l) e (a .is)) }
+
+  pub met-refused : {y : Refusal} → x ≡ read.Refused y → MeetsRecord lim v start l (met.Refused y)
+  met-refused e = record { is = read-as (subst (RecordIs v l) e (a .is)) }
+
+  pub met-map : {y : MapRecord} → x ≡ read.Map y → {e : CodeEntry} → entryOf e ≡ madeOf lim start l y → MeetsRecord lim v start l (met.New e (y .value))
+  met-map {y} w {e} q =
+      let m = subst (RecordIs v l) w (a .is) in
+      let k = keyIn l in
+      let i : y .value ≡ 2 + length k + 1 = m .2 in
+      let made = made-is v l k (m .0) (on-ok (LineOf l) (record-in v l) (m .3)) (y .id) (y .tag) (m .4) lim start y refl refl (ap mapKind (sym (m .1 .kind ∙ kind-by-case (y .key)))) (omega (arith, i)) (ap (λ (t : Tally). t .fields) (m .5)) in
+      record {
+        is = rw q (record {
+          prefix = ap (λ (n : ℕ). take n l) i ∙ prefix-map v l k (m .0) (m .3);
+          kind = number-small (kindBy (y .key)) .0;
+          stands = refl;
+          size = refl;
+          beside = λ h es. ap (besideEntries h es (prefixOf k) (body v)) made ∙ map-beside lim h es v start l k (m .0) (m .3);
+        });
+      }
+
+  pub met-text : {at : ℕ} → x ≡ read.Text at → {n key : ℕ} → n ≡ at - 3 → key ≡ ifCounted (lim .counted) n
+      → {e : CodeEntry} → entryOf e ≡ withCounts (record { keyLength = key; fieldCount = 0 }) (plainEntry textKind start (length l)) → MeetsRecord lim v start l (met.New e at)
+  unfolding recordEntry lineEntry countsOf
+  met-text {at} w {n} {key} en ek {e} q =
+      let m = subst (RecordIs v l) w (a .is) in
+      let k = keyIn l in
+      let i : at ≡ 2 + length k + 1 = m .0 in
+      let c : n ≡ length k = omega (arith, en, m .0) in
+      let made : withCounts (record { keyLength = key; fieldCount = 0 }) (plainEntry textKind start (length l)) ≡ recordEntry (lim .counted) v start l (text k (drop at l))
+      = ap₂ (λ (k f : ℕ). withCounts (record { keyLength = k; fieldCount = f }) (plainEntry textKind start (length l))) (ek ∙ ap (ifCounted (lim .counted)) c) (sym (none-counted (lim .counted))) in
+      record {
+        is = rw q (record {
+          prefix = ap (λ (n : ℕ). take n l) i ∙ prefix-text v l k (drop at l) (m .1);
+          kind = omega arith;
+          stands = refl;
+          size = refl;
+          beside = λ h es. ap (besideEntries h es (prefixOf k) (body v)) made ∙ text-beside lim h es v start l k (drop at l) (m .1);
+        });
+      }
+
+-- what answers the need of `map_entry`
+pub made-entry : (lim : Limits) (start : ℕ) (l : Bytes) (m : MapRecord) {name : Bytes} → name ≡ textIn l (m .id) → {kind : ℕ} → kind ≡ mapKind (kindBy (m .key)) → {at : ℕ} → at ≡ m .value - 3
+    → {key : ℕ} → key ≡ ifCounted (lim .counted) at → {count : ℕ} → count ≡ ifCounted (lim .counted) (m .tally .fields)
+    → _≡_ {A = Entry} (record { kind = kind; start = start; length = length l; offset = m .id .start; idLength = length name; quoted = m .id .quoted; tag = m .tag; keyLength = key; fieldCount = count })
+    (madeOf lim start l m)
+made-entry lim start l m en ek ea ey ec = rw (en, ek, ey, ea, ec)
+
+pub ruleset mets = (met-format, met-refused, met-map, met-text)
+
+module _ (lim : Limits) (h : Bytes) (es : List Entry) (ms : Bytes) (start end : ℕ) {l : Bytes} (el : l ≡ part h start end) (v : Version) (x : Met) (a : MeetsRecord lim v start l x) where
   -- the line is the one that the code read
   placed : (r : Verdict) {ms′ : Bytes} → (MarkedBefore h start ms es → Says lim h ms′ (recordBeside lim h es v start l) start (body v) l r) → MarksKept h ms ms′ → RecordJudged lim h es ms v start end r ms′
   placed r {ms′} f m = record { marks = m; is = λ all l′ el′. subst (λ (y : Bytes). Says lim h ms′ (recordBeside lim h es v start y) start (body v) y r) (el ∙ sym el′) (f all) }
 
-  read-as : {y : Answer Record} → readRecord v l ≡ y → recordBeside lim h es v start l ≡ (y >>= enter (lim .counted) v [] start l >>= heldAgainst h es)
-  read-as e = ap (λ (z : Answer Record). z >>= enter (lim .counted) v [] start l >>= heldAgainst h es) e
+  pub record-refused : {y : Refusal} → x ≡ met.Refused y → RecordJudged lim h es ms v start end (verdict.Refused y) ms
+  record-refused {y} e = placed (verdict.Refused y) (λ all. subst (MetSays lim v start l) e (a .is) h es) (marks-same h ms)
 
-  pub record-format : {w : FileFormat} → x ≡ read.FileFormat w → RecordJudged lim h es ms v start end (verdict.Refused UnexpectedFileFormat) ms
-  record-format e = placed (verdict.Refused UnexpectedFileFormat) (λ all. read-as (subst (RecordIs v l) e (a .is))) (marks-same h ms)
-
-  pub record-refused : {y : Refusal} → x ≡ read.Refused y → RecordJudged lim h es ms v start end (verdict.Refused y) ms
-  record-refused {y} e = placed (verdict.Refused y) (λ all. read-as (subst (RecordIs v l) e (a .is))) (marks-same h ms)
-
-  pub record-map : {y : MapRecord} → x ≡ read.Map y → (r : Verdict) {ms′ : Bytes} → MapJudged lim h es ms start end y r ms′ → RecordJudged lim h es ms v start end r ms′
-  record-map e r {ms′} j = placed r (λ all.
-      let m = subst (RecordIs v l) e (a .is) in
-      subst (λ (y : Answer (Stage × List Entry)). Says lim h ms′ y start (body v) l r) (map-beside lim h es v start l (keyIn l) (m .0) (m .3)) (j .is all l el v (m .0) (m .1) (m .2) (m .3) (m .4) (m .5)))
+  pub record-new : {e : CodeEntry} {at : ℕ} → x ≡ met.New e at → {prefix : Bytes} → prefix ≡ take (at - 0) (drop 0 l) → (r : Verdict) {ms′ : Bytes}
+      → IdJudged lim h es ms prefix (entryOf e) r ms′ → RecordJudged lim h es ms v start end r ms′
+  record-new {e} {at} w {prefix} p r {ms′} j = placed r (λ all.
+      let n = subst (MetSays lim v start l) w (a .is) in
+      let z : at - 0 ≡ at = omega arith in
+      let q : prefix ≡ prefixOf (keyIn l) = p ∙ ap (λ (i : ℕ). take i l) z ∙ n .prefix in
+      let own = prefixed (at - 0) p q (line-here h (entryOf e) start end el (n .stands) (n .size)) in
+      let before = subst (λ (i : ℕ). MarkedBefore h i ms es) (sym (n .stands)) all in
+      subst (λ (y : Answer (Stage × List Entry)). Says lim h ms′ y start (body v) l r) (ap (λ (y : Bytes). besideEntries h es y (body v) (entryOf e)) q ∙ n .beside h es) (j .is (n .kind) own before start (body v) l))
       (j .marks)
 
-  pub record-text : {at : ℕ} → x ≡ read.Text at → {prefix : Bytes} → prefix ≡ take (at - 0) (drop 0 l) → {n key : ℕ} → n ≡ at - 3 → key ≡ ifCounted (lim .counted) n
-      → {new : Entry} → new ≡ withCounts (record { keyLength = key; fieldCount = 0 }) (plainEntry textKind start (length l)) → (r : Verdict) {ms′ : Bytes}
-      → IdJudged lim h es ms prefix new r ms′ → RecordJudged lim h es ms v start end r ms′
-  unfolding recordEntry lineEntry countsOf
-  record-text {at} e {prefix} p {n} {key} en ek {new} q r {ms′} j = placed r (λ all.
-      let m = subst (RecordIs v l) e (a .is) in
-      let k = keyIn l in
-      let i : at - 0 ≡ 2 + length k + 1 = omega (arith, m .0) in
-      let c : n ≡ length k = omega (arith, en, m .0) in
-      let w : prefix ≡ prefixOf k = p ∙ ap (λ (n : ℕ). take n l) i ∙ prefix-text v l k (drop at l) (m .1) in
-      let made : new ≡ recordEntry (lim .counted) v start l (text k (drop at l))
-      = q ∙ ap₂ (λ (k f : ℕ). withCounts (record { keyLength = k; fieldCount = f }) (plainEntry textKind start (length l))) (ek ∙ ap (ifCounted (lim .counted)) c) (sym (none-counted (lim .counted))) in
-      let two : 2 ≤ new .kind = rw q (omega arith) in
-      let before = subst (λ (y : Entry). MarkedBefore h (y .start) ms es) (sym q) all in
-      subst (λ (y : Answer (Stage × List Entry)). Says lim h ms′ y start (body v) l r) (text-beside lim h es v start l k (drop at l) (m .1))
-      (subst (λ (y : Entry). Says lim h ms′ (besideEntries h es (prefixOf k) (body v) y) start (body v) l r) made
-      (subst (λ (y : Bytes). Says lim h ms′ (besideEntries h es y (body v) new) start (body v) l r) w (j .is two (w ∙ ap (λ (y : Bytes). prefixOf (keyIn y)) (sym (line-here h new start end el (ap (λ (y : Entry). y .start) q) (ap (λ (y : Entry). y .length) q)))) before start (body v) l))))
-      (j .marks)
-
-pub ruleset records = (record-format, record-refused, record-map, record-text)
+pub ruleset records = (record-refused, record-new)
 
 -- The column line
 

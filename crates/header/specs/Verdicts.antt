@@ -1,38 +1,37 @@
 -- What a verdict says of a line, in the terms of the definitions. Assumes nothing.
-use Prim.Native.Nat.{ℕ, _≤_}
+use Prim.Native.Nat.{ℕ, _-_, _≤_}
 use mathlib.Core.Path.{_≡_}
 use mathlib.Core.Bool.{Bool, true, false}
 use mathlib.Core.List.{List, [], _∷_}
 use mathlib.Core.Option.{Option, none, some}
-use lib.ListN.{length}
+use lib.ListN.{length, take}
 use Rattle.values.specs.Bytes.{Bytes, part}
 use Rattle.values.specs.Utf8.{isUtf8}
-use Rattle.values.specs.Field.{Field}
 use Rattle.rules.specs.Answer.{Answer, ok, refuse, _>>=_, judged}
 use Rattle.rules.specs.Sizes.{Limits}
 use Rattle.rules.specs.Version.{Version}
-use Rattle.rules.specs.Record.{fields, readRecord}
+use Rattle.rules.specs.Record.{readRecord}
 use Rattle.rules.specs.Columns.{Columns, readColumns}
-use Rattle.rules.specs.Entry.{Entry, formatKind, plainEntry, ifCounted, withCounts, fieldsStart, recordEntry, columnEntries}
+use Rattle.rules.specs.Entry.{Entry, formatKind, mapKind, plainEntry, ifCounted, withCounts, columnEntries}
 use Rattle.rules.specs.Shown.{lineIn}
 use Rattle.rules.specs.Reading.{empty, ready, enter, stepText}
 use Rattle.rules.specs.Claims.{All, keyIn}
 use Rattle.records.specs.Formats.{versionOf}
 use Rattle.records.specs.Refusals.{number}
-use Rattle.records.specs.Keys.{Named}
-use Rattle.records.specs.Maps.{idSlot, tallyOf}
-use Rattle.records.specs.Records.{valueStart}
+use Rattle.records.specs.Keys.{kindBy}
+use Rattle.records.specs.Fields.{textIn}
 use Rattle.records.specs.declared.file_format.FileFormat.{FileFormat}
-use Rattle.records.specs.declared.map.Slot.the-variants as slot
 use Rattle.records.specs.declared.record.MapRecord.{MapRecord}
 use Rattle.entries.specs.Values.{entryOf}
-use Rattle.ids.specs.Clashes.{clashNumber, clashIn, prefixOf}
+use Rattle.ids.specs.Clashes.{clashNumber, clashIn, prefixOf, Prefixes}
 use Rattle.ids.specs.Marks.{Marked, MarkedFrom}
 use Rattle.header.specs.Steps.{Stage, opening, body, ending, freshState, heldAgainst, stepOn}
 use Rattle.header.specs.declared.file_format_option.FileFormatOption.{FileFormatOption}
 use Rattle.header.specs.declared.file_format_option.FileFormatOption.the-variants as option
 use Rattle.header.specs.declared.phase.Phase.{Phase}
 use Rattle.header.specs.declared.phase.Phase.the-variants as phase
+use Rattle.header.specs.declared.verdict.Met.{Met}
+use Rattle.header.specs.declared.verdict.Met.the-variants as met
 use Rattle.header.specs.declared.verdict.Verdict.{Verdict}
 use Rattle.header.specs.declared.verdict.Verdict.the-variants as verdict
 
@@ -98,20 +97,40 @@ besideEntries h es prefix g e = judged (clashNumber (clashIn h es prefix e)) (g,
 
 pub record IdJudged (lim : Limits) (h : Bytes) (es : List Entry) (ms prefix : Bytes) (e : Entry) (r : Verdict) (ms′ : Bytes) : Type 0 where
   pub marks : MarksKept h ms ms′
-  pub is : 2 ≤ e .kind → prefix ≡ prefixOf (keyIn (lineIn h e)) → MarkedBefore h (e .start) ms es → (start : ℕ) (g : Stage) (l : Bytes) → Says lim h ms′ (besideEntries h es prefix g e) start g l r
-
--- a map that was read
-pub record MapJudged (lim : Limits) (h : Bytes) (es : List Entry) (ms : Bytes) (start end : ℕ) (m : MapRecord) (r : Verdict) (ms′ : Bytes) : Type 0 where
-  pub marks : MarksKept h ms ms′
-  pub is : MarkedBefore h start ms es → (l : Bytes) → l ≡ part h start end → (v : Version) (fs : List Field)
-      → Named (keyIn l) (m .key) → m .value ≡ valueStart l
-      → readRecord v l ≡ ok (fields (keyIn l) fs) → idSlot v (keyIn l) (fieldsStart (keyIn l)) fs ≡ slot.Filled (m .id) (m .tag)
-      → m .tally ≡ tallyOf v (keyIn l) fs
-      → Says lim h ms′ (besideEntries h es (prefixOf (keyIn l)) (body v) (recordEntry (lim .counted) v start l (fields (keyIn l) fs))) start (body v) l r
+  pub is : 2 ≤ e .kind → Prefixes prefix (lineIn h e) → MarkedBefore h (e .start) ms es → (start : ℕ) (g : Stage) (l : Bytes) → Says lim h ms′ (besideEntries h es prefix g e) start g l r
 
 -- a line that is no column line, in the body
 abbrev pub recordBeside : Limits → Bytes → List Entry → Version → ℕ → Bytes → Answer (Stage × List Entry)
 recordBeside lim h es v start l = readRecord v l >>= enter (lim .counted) v [] start l >>= heldAgainst h es
+
+-- the entry of a map that was read
+abbrev pub madeOf : Limits → ℕ → Bytes → MapRecord → Entry
+madeOf lim start l m = record {
+  kind = mapKind (kindBy (m .key));
+  start = start;
+  length = length l;
+  offset = m .id .start;
+  idLength = length (textIn l (m .id));
+  quoted = m .id .quoted;
+  tag = m .tag;
+  keyLength = ifCounted (lim .counted) (m .value - 3);
+  fieldCount = ifCounted (lim .counted) (m .tally .fields);
+}
+
+-- a record that stands on the line l, at start, with its entry and where its value stands: it is still to be held against the entries before it
+pub record NewRecord (lim : Limits) (v : Version) (start : ℕ) (l : Bytes) (e : Entry) (at : ℕ) : Type 0 where
+  pub prefix : take at l ≡ prefixOf (keyIn l)
+  pub kind : 2 ≤ e .kind
+  pub stands : e .start ≡ start
+  pub size : e .length ≡ length l
+  pub beside : (h : Bytes) (es : List Entry) → besideEntries h es (prefixOf (keyIn l)) (body v) e ≡ recordBeside lim h es v start l
+
+abbrev pub MetSays : Limits → Version → ℕ → Bytes → Met → Type 0
+MetSays lim v start l (met.New e at) = NewRecord lim v start l (entryOf e) at
+MetSays lim v start l (met.Refused x) = (h : Bytes) (es : List Entry) → recordBeside lim h es v start l ≡ refuse (number x)
+
+pub record MeetsRecord (lim : Limits) (v : Version) (start : ℕ) (l : Bytes) (r : Met) : Type 0 where
+  pub is : MetSays lim v start l r
 
 pub record RecordJudged (lim : Limits) (h : Bytes) (es : List Entry) (ms : Bytes) (v : Version) (start end : ℕ) (r : Verdict) (ms′ : Bytes) : Type 0 where
   pub marks : MarksKept h ms ms′

@@ -340,7 +340,7 @@ fn read_longer(
     read_marked(header, end, from, options, table, &mut marks)
 }
 
-// Of how many bytes the entries may have to be marked: only where IDs ahead are escaped may they be those of any entry before.
+// Of how many bytes the entries may have to be marked: hardly more than those of the lines ahead have names that stand there.
 fn marked_size(header: &[u8], at: usize) -> usize
     ensures { λ r. ⌜ r ≤ length (now (header .entry)) ⌝ }
 {
@@ -353,9 +353,6 @@ fn marked_size(header: &[u8], at: usize) -> usize
     }
     // So many bytes are read in more time than all marks are cleared.
     if 0x2_0000 <= size - at {
-        return size;
-    }
-    if bytes::has(&header[at..], b'\\') {
         return size;
     }
     size - at
@@ -380,11 +377,15 @@ fn read_sized(
     if 0 < marks.len() {
         return read_marked(header, end, from, options, table, marks);
     }
+    if size < 4096 {
+        let mut few = [0u64; 64];
+        return read_sized(header, size, end, from, options, table, &mut few);
+    }
     if size < 32768 {
         let mut own = [0u64; 512];
         return read_sized(header, size, end, from, options, table, &mut own);
     }
-    if size < 0x8_0000 {
+    if size < 0x7_0000 {
         return read_long(header, end, from, options, table);
     }
     read_longer(header, end, from, options, table)
@@ -434,8 +435,8 @@ fn read_parts(
 {
     let mut parser = from;
     let mut reach = from.at;
-    while 0x20_0000 <= end - reach {
-        let ahead = reach + 0x10_0000;
+    while 0xC_0000 <= end - reach {
+        let ahead = reach + 0x8_0000;
         let cut = line::last_end(&header[..ahead], reach);
         if cut == reach {
             reach = ahead;
@@ -463,7 +464,7 @@ fn is_parted(header: &[u8], end: usize, from: Parser, form: Form, table: &[u64])
     if end < at {
         return false;
     }
-    if end - at < 0x40_0000 {
+    if end - at < 0xC_0000 {
         return false;
     }
     formed::all_formed(&header[..at], table, form, from.count)

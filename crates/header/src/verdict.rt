@@ -20,7 +20,7 @@ ghost use Rattle.rules.specs.Version.{inForce};
 ghost use Rattle.records.specs.Formats.{versionOf};
 ghost use Rattle.entries.specs.Values.{entryOf, limitsBy};
 ghost use Rattle.entries.specs.Tables.{entriesIn};
-ghost use Rattle.header.specs.Verdicts.{imposedOf, IdJudged, FirstJudged, MapJudged, RecordJudged, ColumnsJudged, TextJudged, Utf8Told, LineJudged};
+ghost use Rattle.header.specs.Verdicts.{imposedOf, IdJudged, FirstJudged, madeOf, MeetsRecord, RecordJudged, ColumnsJudged, TextJudged, Utf8Told, LineJudged};
 
 // Where a line stands, and where it ends, without its ending.
 pub struct Place {
@@ -101,25 +101,23 @@ fn judge_id(
     }
 }
 
-fn judge_map(
-    h: &[u8],
-    kept: &[u64],
-    form: Form,
-    marks: &mut [u64],
-    at: Place,
-    map: MapRecord,
-) -> Verdict
-    ensures { λ r. ⌜ MapJudged (limitsBy form) (now (h .entry)) (entriesIn form (now (kept .entry))) (now (marks .entry)) (at .start) (at .end) map r (now (marks .exit)) ⌝ }
+// What a line is by itself: a record, with its entry and where its value stands; or a refusal.
+enum Met {
+    New(Entry, usize),
+    Refused(Refusal),
+}
+
+// The entry of a map that stands on the line l, at `start`.
+fn map_entry(l: &[u8], form: Form, start: usize, map: MapRecord) -> Entry
+    ensures { λ r. ⌜ entryOf r ≡ madeOf (limitsBy form) start (now (l .entry)) map ⌝ }
 {
-    let l = bytes::part(h, at.start, at.end);
     let key = map.key;
     let id = map.id;
-    let prefix = bytes::part(l, 0, map.value);
     let name = bytes::part(l, id.start, id.end);
     let tally = map.tally;
-    let new = Entry {
+    Entry {
         kind: key.kind(),
-        start: at.start,
+        start,
         length: l.len(),
         offset: id.start,
         id_length: name.len(),
@@ -127,10 +125,25 @@ fn judge_map(
         tag: map.tag,
         key_length: form.counted(record::key_length(map.value)),
         field_count: form.counted(tally.fields),
-    };
-    judge_id(h, kept, form, marks, prefix, new)
+    }
 }
 
+fn meet_record(l: &[u8], form: Form, start: usize, version: FileFormat) -> Met
+    ensures { λ r. ⌜ MeetsRecord (limitsBy form) (versionOf version) start (now (l .entry)) r ⌝ }
+{
+    match record::read_record(l, version) {
+        RecordRead::FileFormat(_) => Met::Refused(Refusal::UnexpectedFileFormat),
+        RecordRead::Map(map) => Met::New(map_entry(l, form, start, map), map.value),
+        RecordRead::Text(value) => {
+            let key_length = form.counted(record::key_length(value));
+            let new = Entry::keyed(kind::OTHER_TEXT, start, l.len(), key_length);
+            Met::New(new, value)
+        }
+        RecordRead::Refused(x) => Met::Refused(x),
+    }
+}
+
+// The one call of `judge_id`: a function that is called once is made a part of its caller, and an entry is not handed on in memory.
 fn judge_record(
     h: &[u8],
     kept: &[u64],
@@ -143,15 +156,9 @@ fn judge_record(
         (now (marks .exit)) ⌝ }
 {
     let l = bytes::part(h, at.start, at.end);
-    match record::parse_record(l, version) {
-        RecordRead::FileFormat(_) => Verdict::Refused(Refusal::UnexpectedFileFormat),
-        RecordRead::Map(map) => judge_map(h, kept, form, marks, at, map),
-        RecordRead::Text(value) => {
-            let key_length = form.counted(record::key_length(value));
-            let new = Entry::keyed(kind::OTHER_TEXT, at.start, l.len(), key_length);
-            judge_id(h, kept, form, marks, bytes::part(l, 0, value), new)
-        }
-        RecordRead::Refused(x) => Verdict::Refused(x),
+    match meet_record(l, form, at.start, version) {
+        Met::New(new, value) => judge_id(h, kept, form, marks, bytes::part(l, 0, value), new),
+        Met::Refused(x) => Verdict::Refused(x),
     }
 }
 

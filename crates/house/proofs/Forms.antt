@@ -1,16 +1,19 @@
 -- The whole form, and what becomes of it. Assumes nothing.
-use Prim.Native.Nat.{ℕ, zero, suc, _+_, _≤_, _<_, _^_}
+use Prim.Native.Nat.{ℕ, zero, suc, _+_, _≤_, _<_, _^_, min}
 use native.Mathlib.Omega.{arith}
 use mathlib.Core.Path.{_≡_, refl, sym, ap, _∙_, subst}
 use mathlib.Core.Bool.{Bool, true, false, not, true≢false, false≢true}
 use mathlib.Core.List.{List, [], _∷_}
 use mathlib.Core.Option.{none, orElse}
-use lib.Dec.{leb}
-use lib.ListN.{length, take, drop}
-use borrow.Author.Tests.{eq-eqb, ne-eqb, le-leb, lt-leb, leb-true, leb-false}
+use lib.Dec.{eqb, ltb, leb}
+use lib.ListN.{length, getD, take, drop}
+use lib.Seq.{sets}
+use borrow.Author.Tests.{eq-eqb, ne-eqb, eqb-true, ltb-true, le-leb, lt-leb, leb-true, leb-false}
 use Rattle.values.specs.Bytes.{Bytes}
-use Rattle.values.specs.Written.{onward}
-use Rattle.values.proofs.Tests.{pass, fail, test, not-true, not-false}
+use Rattle.values.specs.declared.sink.Sink.{Sink}
+use Rattle.values.specs.Written.{last, onward, isAt, differing, sooner}
+use Rattle.values.proofs.Lists.{here as byte-here, drop-past}
+use Rattle.values.proofs.Tests.{pass, fail, test, and-l, and-r, not-true, not-false, never}
 use Rattle.rules.specs.Sizes.{Limits}
 use Rattle.rules.specs.Lines.{writeLines}
 use Rattle.rules.specs.Version.{Version}
@@ -29,7 +32,7 @@ use Rattle.house.specs.declared.form.FormOutcome.the-variants.{Whole, To
 use Rattle.house.specs.Writes.{longIn, WroteLines}
 use Rattle.house.specs.Keys.{AllListed, AreFormed, PutsKeys, PutsOthers}
 use Rattle.house.proofs.Picks.{listed-on}
-use Rattle.house.specs.Forms.{columnLine, recordLines, formLines, begun, PutsRecords, PutsForm, isWhole, measuredAs, outcomeOf, fittedAs, linedAs, writtenOf, WritesForm, ComparesForm}
+use Rattle.house.specs.Forms.{columnLine, recordLines, formLines, begun, PutsRecords, PutsForm, isWhole, measuredAs, IsOwn, outcomeOf, fittedAs, linedAs, writtenOf, WritesForm, ComparesForm}
 use Rattle.house.proofs.Writes.{lines-count, then-lines}
 use Rattle.entries.specs.Values.{limitsOf, limitsBy}
 use Rattle.entries.specs.declared.limits.Limits.{Limits as CodeLimits}
@@ -136,15 +139,65 @@ module _ (form : Form) {limits : CodeLimits} (g : limitsOf limits ≡ limitsBy f
     pub form-whole : not q ≡ false → {given′ : Bytes} {m′ : Progress} {new : Bytes} → PutsForm (limits .line) f v h es given′ out m′ new → WritesForm (limitsBy form) v h es out o new
     form-whole n p′ = record { is = outcome-is (length out) e; output = λ a. p′ .is (k .is a) .text .output ∙ rw (is-whole o (sym w ∙ not-false q n) (formLines v h es)) }
 
-pub ruleset writes = (form-refused, form-whole)
+-- what answers the needs of `is_own`
+module _ (end : Sink) (size room : ℕ) where
+  pub own-not : IsOwn end size room false
+  own-not = record { is = λ e. never cc }
+
+  pub own-is : end .at ≡ size → size ≤ end .differs → IsOwn end size room (leb size room)
+  own-is a b = record { is = λ e. (a, b, leb-true size room e) }
+
+pub ruleset owns = (own-not, own-is)
+
+-- a text that does not differ from the rest of the header, and is as long, is this rest
+own-text : (h : Bytes) (at : ℕ) (text : Bytes) → at + length text ≡ length h → length h ≤ last → length h ≤ sooner last (differing h at text) → text ≡ drop at h
+unfolding differing onward
+own-text h at [] e l d = sym (drop-past h at (omega arith))
+own-text h at (b ∷ text) e l d = elim (test (isAt h at b)) [
+  | pass q ↦
+      let i = ltb-true at (length h) (and-l (ltb at (length h)) (eqb (getD h at 0) b) q) in
+      let f = eqb-true (getD h at 0) b (and-r (ltb at (length h)) (eqb (getD h at 0) b) q) in
+      let n : min (at + 1) last ≡ at + 1 = omega arith in
+      let c : length h ≤ sooner last (differing h (at + 1) text) = rw (differing, q, n) at d in
+      rw (byte-here h at i, f) (ap (b ∷_) (own-text h (at + 1) text (omega arith) l c))
+  | fail q ↦ let c : length h ≤ min last at = rw (differing, q) at d in absurd (omega arith)
+]
+
+whole-fits : (lim : Limits) (room : ℕ) (m : Progress) → isWhole (measuredAs lim room m) ≡ true → m .next .at ≤ lim .header
+unfolding measuredAs
+whole-fits lim room m w = elim (test (leb (m .next .at) (lim .header))) [
+  | pass q ↦ leb-true (m .next .at) (lim .header) q
+  | fail q ↦ let z : false ≡ true = rw (measuredAs, q) at w in never cc
+]
+
+-- a header that is its own form was copied
+pub form-own : (form : Form) {limits : CodeLimits} (g : limitsOf limits ≡ limitsBy form) {v : Version} {h : Bytes} {es : List Entry} {none-out none-left : Bytes} {m : Progress} {f : Bool}
+    (p : PutsForm (limits .line) f v h es h none-out m none-left) (k : AreFormed v h es f) {out : Bytes} {o : FormOutcome} (e : o ≡ measuredAs (limitsOf limits) (length out) m) {q : Bool} (w : q ≡ isWhole o) (n : not q ≡ false)
+    {own : Bool} (x : IsOwn (m .next) (length h) (length out) own) (c : own ≡ true) {new : Bytes} → new ≡ sets out 0 h → WritesForm (limitsBy form) v h es out o new
+form-own form {limits} g {v} {h} {es} {m = m} p k {out} {o} e {q} w n x c d = record {
+  is = outcome-is form g p k (length out) e;
+  output = λ a.
+      let y = x .is c in
+      let t = p .is (k .is a) .text in
+      let l = whole-fits (limitsOf limits) (length out) m (sym (ap isWhole e) ∙ sym w ∙ not-false q n) in
+      let b : limits .header < 2 ^ 24 = subst (λ (z : Limits). z .header < 2 ^ 24) (sym g) (limits-small form) in
+      let z = whole-size (limitsOf limits) b p (k .is a) l in
+      let r : writeLines (formLines v h es) ≡ h = own-text h 0 (writeLines (formLines v h es)) (omega (arith, z, y .0)) (omega (arith, y .0)) (rw (← t .differs) (y .1)) in
+      d ∙ ap (sets out 0) (sym (is-whole o (sym w ∙ not-false q n) (formLines v h es) ∙ r));
+}
+
+pub own-fits : {end : Sink} {size room : ℕ} {own : Bool} → IsOwn end size room own → own ≡ true → 0 + size ≤ room
+own-fits x c = let y = x .is c .2 in omega arith
+
+pub ruleset writes = (form-refused, form-whole, form-own)
 
 -- what answers the needs of `compare_form`
 pub form-compared : (form : Form) {limits : CodeLimits} → limitsOf limits ≡ limitsBy form → {v : Version} {h : Bytes} {es : List Entry} {none-out none-left : Bytes} {m : Progress}
-    → PutsForm (limits .line) false v h es h none-out m none-left → {o : FormOutcome} → o ≡ measuredAs (limitsOf limits) (limits .header) m
+    → {f : Bool} → AreFormed v h es f → PutsForm (limits .line) f v h es h none-out m none-left → {o : FormOutcome} → o ≡ measuredAs (limitsOf limits) (limits .header) m
     → ComparesForm (limitsBy form) v h es (record { outcome = o; differs = m .next .differs })
-form-compared form {limits} g {v} {h} {es} p e = record {
-  is = λ a. outcome-is form g p (record { is = λ b. b }) (limits .header) e a ∙ ap (λ (x : Limits). outcomeOf (limitsBy form) (x .header) (formLines v h es)) g;
-  differs = λ a. p .is a .text .differs;
+form-compared form {limits} g {v} {h} {es} k p e = record {
+  is = λ a. outcome-is form g p k (limits .header) e a ∙ ap (λ (x : Limits). outcomeOf (limitsBy form) (x .header) (formLines v h es)) g;
+  differs = λ a. p .is (k .is a) .text .differs;
 }
 
 -- what answers the needs of `outcome_of`

@@ -1,9 +1,13 @@
 pub mod Writes
+pub mod Copies
 pub mod Picks
 pub mod Looks
-pub mod Doublings
+pub mod Runs
+pub mod Sets
 pub mod Linkings
+pub mod Chainings
 pub mod Others
+pub mod Windowings
 pub mod Forms
 pub mod Entries
 pub mod Arranged

@@ -6,7 +6,7 @@ use mathlib.Core.Path.{_≡_, refl, sym, ap, subst, _∙_}
 use mathlib.Core.Bool.{Bool, true, false, not, _||_}
 use mathlib.Core.List.{List, [], _∷_, _++_}
 use lib.Dec.{eqb, ltb}
-use lib.ListN.{length, getD, set, take, drop, take-append-drop, length-set, List·getD-eq-default}
+use lib.ListN.{length, getD, set, take, drop, length-set, List·getD-eq-default}
 use lib.Seq.{take-add, getD-set-same, getD-set-other}
 use borrow.Author.Tests.{eqb-true, eqb-false, ltb-true, ltb-false}
 use Rattle.values.specs.Bytes.{Bytes}
@@ -20,10 +20,10 @@ use Rattle.entries.specs.declared.form.Form.{Form}
 use Rattle.entries.specs.Values.{entryOf}
 use Rattle.entries.specs.Tables.{room, entryIn, entriesIn}
 use Rattle.entries.proofs.Stored.{entries-here, entries-past}
-use Rattle.house.specs.Keys.{isUnder, isRecord, picked, Listed, AllListed, isOtherRecord, prefixIn, seenUnder}
+use Rattle.house.specs.Keys.{isUnder, isRecord, picked, Listed, isOtherRecord, prefixIn, seenUnder}
 use Rattle.house.specs.Links.{slotOf, slotIn, cellOf, linkOf, TakesPlace, Lowers, Links, NextIs, PassesOther, Linked}
 use Rattle.house.proofs.Picks.{picked-no}
-use Rattle.house.proofs.Looks.{listed-at, own-key}
+use Rattle.house.proofs.Looks.{listed-nth, own-key}
 
 -- what answers the needs of `slot_of`, `slot_in` and `number_at`
 pub slot-none : (twice : List ℕ) (n : ℕ) (p : Bytes) → n ≡ 0 → 0 ≡ slotOf twice n p
@@ -197,8 +197,7 @@ pub ruleset passings = (pass-here, pass-on)
 
 module _ {form : Form} {v : Version} {f : Bool} {h t prefix : Bytes} {slot : ℕ} {twice heads links : List ℕ} (g : Linked form v f h t prefix slot twice heads links) where
   pub listed-in : (m : ℕ) → m < room form t → isRecord (entryIn form t m) ≡ true → Listed f v h (entryIn form t m)
-  listed-in m l = listed-at f v h (take m (entriesIn form t)) (entryIn form t m) (drop (m + 1) (entriesIn form t))
-      (subst (AllListed f v h) (sym (take-append-drop m (entriesIn form t)) ∙ ap (take m (entriesIn form t) ++_) (entries-here form t m l)) (g .listed))
+  listed-in m l = listed-nth form f v h t (g .listed) m l
 
   -- an entry under the prefix has the key
   pub own-is : (m : ℕ) → m < room form t → isUnder h prefix (entryIn form t m) ≡ true → (isOtherRecord (entryIn form t m) ≡ true) × (prefixIn h (entryIn form t m) ≡ prefix)
@@ -260,7 +259,7 @@ module _ (form : Form) (h : Bytes) (t prefix : Bytes) where
     | fail q ↦ rw q (seen-snoc xs e)
   ]
 
-  take-one : (k : ℕ) → k < room form t → seenUnder h prefix (take (k + 1) es) ≡ (seenUnder h prefix (take k es) || under k)
+  pub take-one : (k : ℕ) → k < room form t → seenUnder h prefix (take (k + 1) es) ≡ (seenUnder h prefix (take k es) || under k)
   take-one k l = ap (seenUnder h prefix) (take-add k 1 es ∙ rw (entries-here form t k l)) ∙ seen-snoc (take k es) (entryIn form t k)
 
   pub seen-none : (k : ℕ) → k ≤ room form t → ((m : ℕ) → m < k → under m ≡ false) → seenUnder h prefix (take k es) ≡ false

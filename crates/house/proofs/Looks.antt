@@ -36,6 +36,10 @@ pub listed-at : (f : Bool) (v : Version) (h : Bytes) (xs : List Entry) (e : Entr
 listed-at f v h [] e ys a q = a .0 q
 listed-at f v h (x ∷ xs) e ys a q = listed-at f v h xs e ys (a .1) q
 
+pub listed-nth : (form : Form) (f : Bool) (v : Version) (h : Bytes) (t : List ℕ) → AllListed f v h (entriesIn form t) → (m : ℕ) → m < room form t → isRecord (entryIn form t m) ≡ true → Listed f v h (entryIn form t m)
+listed-nth form f v h t a m l = listed-at f v h (take m (entriesIn form t)) (entryIn form t m) (drop (m + 1) (entriesIn form t))
+    (subst (AllListed f v h) (sym (take-append-drop m (entriesIn form t)) ∙ ap (take m (entriesIn form t) ++_) (entries-here form t m l)) a)
+
 pub other-record : (e : Entry) → isOtherRecord e ≡ true → isRecord e ≡ true
 other-record e q =
     let a = ltb-true 6 (e .kind) (and-l (ltb 6 (e .kind)) (ltb (e .kind) 9) q) in

@@ -24,16 +24,20 @@ use Rattle.entries.specs.declared.entry.Entry.{Entry as CodeEntry}
 use Rattle.entries.specs.declared.form.Form.{Form}
 use Rattle.entries.specs.Values.{entryOf}
 use Rattle.entries.specs.Tables.{room, entriesIn, entryIn}
+use Rattle.entries.proofs.Tables.{room-small}
 use Rattle.entries.proofs.Stored.{entries-here, entries-past}
 use Rattle.forms.specs.Lines.{houseLine}
 use Rattle.house.specs.declared.progress.Progress.{Progress}
-use Rattle.house.specs.Writes.{WroteLines, PutsEntry}
+use Rattle.house.specs.Writes.{WroteLines, PutsEntry, PutsRun}
 use Rattle.house.specs.Keys.{isRecord, isUnder, picked, Listed, AllListed, isOtherRecord, prefixIn, seenUnder, isFirst, linesIf, otherLines, PutsOthers}
 use Rattle.house.specs.Doubles.{hashIn, MarksTwice}
-use Rattle.house.specs.Links.{slotOf, slotIn, isPast, linkOf, Links, NextIs, PassesOther, Linked, SeesKey, PutsLinked, PutsFirst, PutsOthersBy, PutsOthersMarked}
+use Rattle.house.specs.Links.{slotOf, slotIn, isPast, linkOf, Links, NextIs, PassesOther, Linked, SeesKey, PutsLinked, PutsFirst, SkipsUnder, SkipsSame, PutsOthersBy, PutsOthersMarked}
 use Rattle.house.proofs.Writes.{wrote-no-lines, then-lines}
 use Rattle.house.proofs.Picks.{listed-on, picked-yes, picked-no}
-use Rattle.house.proofs.Looks.{listed-at, other-record}
+use Rattle.house.specs.Runs.{FindsRun}
+use Rattle.house.specs.declared.run.Run.{Run}
+use Rattle.house.proofs.Runs.{run-here, run-count, run-under, run-put, text-here}
+use Rattle.house.proofs.Looks.{listed-at, listed-nth, own-key, other-record}
 use Rattle.house.proofs.Linkings.{listed-in, own-is, slot-is, before-head, passed-over, picked-skip, unseen-picked, seen-none, seen-some}
 
 -- what answers the needs of `prefix_part`
@@ -91,11 +95,14 @@ module _ {form : Form} {h t prefix : Bytes} {slot : ℕ} {twice heads links : Li
       ];
     }
 
+pub one-less : {slot : ℕ} {heads links : List ℕ} {k r end : ℕ} → k < end → NextIs slot heads links (k + 1) r → end - r < end - k
+one-less l p = let b = p .back in omega arith
+
 pub see-less : {h : Bytes} {e : Entry} {slot : ℕ} {twice heads links : List ℕ} {k r end : ℕ} → k < end → PassesOther h twice e slot heads links (k + 1) r → end - r < end - k
 see-less l p = let b = p .back in omega arith
 
-pub next-less : {slot : ℕ} {heads links : List ℕ} {k r end : ℕ} → k < end → NextIs slot heads links (k + 1) r → end - r < end - k
-next-less l p = let b = p .back in omega arith
+pub next-less : {form : Form} {f : Bool} {h t prefix : Bytes} {limit k : ℕ} {run : Run} → FindsRun form f h t prefix limit k run → {slot : ℕ} {heads links : List ℕ} {r end : ℕ} → k < end → NextIs slot heads links (run .end) r → end - r < end - k
+next-less g l p = let a = g .ahead in let b = p .back in omega arith
 
 pub ruleset sees = (see-start, see-end, see-here, see-more, see-less)
 
@@ -115,32 +122,57 @@ module _ {form : Form} {v : Version} {h t prefix : Bytes} {slot : ℕ} {twice he
     inside : k < room form t
     inside = rw (← en) l
 
-    -- the entries that are passed over
-    skipped : Linked form v (s₀ .formed) h t prefix slot twice heads links → (r : ℕ) → k + 1 ≤ r
-        → ((m : ℕ) → k + 1 ≤ m → (slotIn h twice (length heads) (entryIn form t k) ≡ slot → slot < length heads → linkOf links (k + 1) ≤ m) → r ≤ m)
-        → picked v h prefix (drop (k + 1) (entriesIn form t)) ≡ picked v h prefix (drop r (entriesIn form t))
-    skipped x r b p =
-        let z : k + 1 + (r - (k + 1)) ≡ r = omega arith in
-        picked-skip form h t prefix v (r - (k + 1)) (k + 1) (λ m a c d. passed-over x k r p m (omega arith) (rw z at c) d) ∙ ap (λ (i : ℕ). picked v h prefix (drop i (entriesIn form t))) z
+    -- the entries that are passed over, after entry number j
+    skipped : Linked form v (s₀ .formed) h t prefix slot twice heads links → (j r : ℕ) → j + 1 ≤ r
+        → ((m : ℕ) → j + 1 ≤ m → (slotIn h twice (length heads) (entryIn form t j) ≡ slot → slot < length heads → linkOf links (j + 1) ≤ m) → r ≤ m)
+        → picked v h prefix (drop (j + 1) (entriesIn form t)) ≡ picked v h prefix (drop r (entriesIn form t))
+    skipped x j r b p =
+        let z : j + 1 + (r - (j + 1)) ≡ r = omega arith in
+        picked-skip form h t prefix v (r - (j + 1)) (j + 1) (λ m a c d. passed-over x j r p m (omega arith) (rw z at c) d) ∙ ap (λ (i : ℕ). picked v h prefix (drop i (entriesIn form t))) z
 
-    pub put-more : q ≡ true → {p : Progress} {o : Bytes} → PutsEntry v (lineIn h (entryOf e)) given new s p o → length o ≡ length new → {r : ℕ} → NextIs slot heads links (k + 1) r
+    pub put-more : q ≡ true → {run : Run} → FindsRun form (s .formed) h t prefix (s .limit) k run → {text : Bytes} → text ≡ take (run .stop - e .start) (drop (e .start) h)
+        → {p : Progress} {o : Bytes} → PutsRun v text (run .end - k) given new s p o → length o ≡ length new → {r : ℕ} → NextIs slot heads links (run .end) r
         → Putting form v h t prefix slot twice heads links first given old s₀ o p r
-    unfolding isUnder
-    put-more f {p} {o} a m {r} b = record {
+    put-more f {run} y i {p} {o} a m {r} b = record {
       size = m ∙ g .size;
       is = λ x.
           let d = g .is x in
           let w : isUnder h prefix (entryIn form t k) ≡ true = ap (isUnder h prefix) (sym ee) ∙ sym u ∙ f in
-          let line = houseLine v (lineIn h (entryOf e)) in
-          let y = listed-in x k inside (and-l (isRecord (entryIn form t k)) (starts prefix (lineIn h (entryIn form t k))) w) in
-          let z : Listed (s₀ .formed) v h (entryOf e) = rw ee y in
-          let j : picked v h prefix (drop k (entriesIn form t)) ≡ line ∷ picked v h prefix (drop r (entriesIn form t))
-          = ap (picked v h prefix) (entries-here form t k inside) ∙ picked-yes v h prefix (entryIn form t k) (drop (k + 1) (entriesIn form t)) w
-          ∙ rw (← ee) (ap (line ∷_) (skipped x r (b .back) (λ i c d. b .is i c (d (slot-is x k inside w))))) in (
-            d .0 ++ line ∷ [],
+          let c = run-put (x .listed) w (d .1 .1 .formed) y (text-here form h t k ee (run .stop) i) a in (
+            d .0 ++ c .0,
             (
-              d .1 .0 ∙ ap (d .0 ++_) j ∙ sym (append-assoc (d .0) (line ∷ []) (picked v h prefix (drop r (entriesIn form t)))),
-              then-lines (d .1 .1) (a .is (z .readable) (λ c. z .copied (sym (d .1 .1 .formed) ∙ c))),
+              d .1 .0 ∙ ap (d .0 ++_) (c .1 .0 ∙ ap (c .0 ++_) (onward x w)) ∙ sym (append-assoc (d .0) (c .0) (picked v h prefix (drop r (entriesIn form t)))),
+              then-lines (d .1 .1) (c .1 .1),
+            ),
+          );
+    }
+      where
+        onward : Linked form v (s₀ .formed) h t prefix slot twice heads links → isUnder h prefix (entryIn form t k) ≡ true → picked v h prefix (drop (run .end) (entriesIn form t)) ≡ picked v h prefix (drop r (entriesIn form t))
+        onward x w =
+            let l = y .ahead in
+            let z : run .end - 1 + 1 ≡ run .end = omega arith in
+            let under = run-under y w (run .end - 1) (omega arith) (omega arith) in
+            let n = y .within in
+            rw (← z) (skipped x (run .end - 1) r (rw z (b .back)) (λ j c d. b .is j (rw z at c) (rw z at (d (slot-is x (run .end - 1) (omega arith) under)))))
+
+    pub put-one : q ≡ true → {line : Bytes} → line ≡ lineIn h (entryOf e) → {p : Progress} {o : Bytes} → PutsEntry v line given new s p o → length o ≡ length new → {r : ℕ} → NextIs slot heads links (k + 1) r
+        → Putting form v h t prefix slot twice heads links first given old s₀ o p r
+    unfolding isUnder
+    put-one f {line} i {p} {o} a m {r} b = record {
+      size = m ∙ g .size;
+      is = λ x.
+          let d = g .is x in
+          let w : isUnder h prefix (entryIn form t k) ≡ true = ap (isUnder h prefix) (sym ee) ∙ sym u ∙ f in
+          let l = lineIn h (entryIn form t k) in
+          let y = subst (λ (z : Bytes). PutsEntry v z given new s p o) (i ∙ ap (lineIn h) ee) a in
+          let z = listed-in x k inside (and-l (isRecord (entryIn form t k)) (starts prefix l) w) in
+          let j : picked v h prefix (drop k (entriesIn form t)) ≡ houseLine v l ∷ picked v h prefix (drop r (entriesIn form t))
+          = ap (picked v h prefix) (entries-here form t k inside) ∙ picked-yes v h prefix (entryIn form t k) (drop (k + 1) (entriesIn form t)) w
+          ∙ ap (houseLine v l ∷_) (skipped x k r (b .back) (λ i c d. b .is i c (d (slot-is x k inside w)))) in (
+            d .0 ++ houseLine v l ∷ [],
+            (
+              d .1 .0 ∙ ap (d .0 ++_) j ∙ sym (append-assoc (d .0) (houseLine v l ∷ []) (picked v h prefix (drop r (entriesIn form t)))),
+              then-lines (d .1 .1) (y .is (z .readable) (λ c. z .copied (sym (d .1 .1 .formed) ∙ c))),
             ),
           );
     }
@@ -153,7 +185,7 @@ module _ {form : Form} {v : Version} {h t prefix : Bytes} {slot : ℕ} {twice he
           let w : isUnder h prefix (entryIn form t k) ≡ false = ap (isUnder h prefix) (sym ee) ∙ sym u ∙ f in (
             d .0,
             (
-              d .1 .0 ∙ ap (d .0 ++_) (ap (picked v h prefix) (entries-here form t k inside) ∙ picked-no v h prefix (entryIn form t k) (drop (k + 1) (entriesIn form t)) w ∙ skipped x r (b .back) (rw (← ee) (b .is))),
+              d .1 .0 ∙ ap (d .0 ++_) (ap (picked v h prefix) (entries-here form t k inside) ∙ picked-no v h prefix (entryIn form t k) (drop (k + 1) (entriesIn form t)) w ∙ skipped x k r (b .back) (rw (← ee) (b .is))),
               d .1 .1,
             ),
           );
@@ -167,7 +199,7 @@ module _ {form : Form} {v : Version} {h t prefix : Bytes} {slot : ℕ} {twice he
         subst (λ (ls : List Bytes). WroteLines given old s₀ ls s new) (sym (d .1 .0 ∙ ap (d .0 ++_) (rw (entries-past form t k (rw (← en) l))) ∙ append-nil (d .0))) (d .1 .1);
   }
 
-pub ruleset puttings = (put-more, put-other, put-end, see-less, next-less)
+pub ruleset puttings = (put-more, put-one, put-other, put-end, see-less, one-less, next-less, run-here, run-count)
 
 -- a key that has no slot where there are some is not marked
 unmet : (twice : List ℕ) (n : ℕ) (p : Bytes) → isPast n (slotOf twice n p) ≡ true → isMet twice (wideFrom wideBasis p) ≡ false
@@ -252,10 +284,11 @@ module _ {form : Form} (v : Version) {h : Bytes} {t twice heads links : List ℕ
             ]
       ]
 
-      pub first-alone : {given old : Bytes} {s u : Progress} {new : Bytes} → PutsEntry v (lineIn h (entryOf e)) given old s u new → PutsFirst form v h t twice heads links k given old s u new
+      pub first-alone : {line : Bytes} → line ≡ lineIn h (entryOf e) → {given old : Bytes} {s u : Progress} {new : Bytes} → PutsEntry v line given old s u new → PutsFirst form v h t twice heads links k given old s u new
       unfolding isFirst picked
-      first-alone {given} {old} {s} {u} {new} a = record {
-        is = λ x tw y l out b ls d.
+      first-alone {line = text} w {given} {old} {s} {u} {new} b = record {
+        is = λ x tw y l out b₀ ls d.
+            let a = subst (λ (z : Bytes). PutsEntry v z given old s u new) w b in
             let j = linked-here (s .formed) x y l in
             let away = apart (s .formed) x tw y l in
             let other : isOtherRecord (entryIn form t k) ≡ true = ap isOtherRecord (sym ee) ∙ sym o ∙ not-false q n in
@@ -276,10 +309,73 @@ module _ {form : Form} (v : Version) {h : Bytes} {t twice heads links : List ℕ
 
 pub ruleset firsts = (first-typed, first-seen, first-put, first-alone)
 
-other-turn : (v : Version) (h : Bytes) (es : List Entry) (k : ℕ) (e : Entry) → drop k es ≡ e ∷ drop (k + 1) es → {q : Bool} → q ≡ isFirst h (take k es) e
+pub other-turn : (v : Version) (h : Bytes) (es : List Entry) (k : ℕ) (e : Entry) → drop k es ≡ e ∷ drop (k + 1) es → {q : Bool} → q ≡ isFirst h (take k es) e
     → otherLines v h es (take k es) (drop k es) ≡ linesIf q (picked v h (prefixIn h e) es) ++ otherLines v h es (take (k + 1) es) (drop (k + 1) es)
 unfolding otherLines
 other-turn v h es k e here first = let more : take (k + 1) es ≡ take k es ++ e ∷ [] = take-add k 1 es ∙ rw here in rw (here, ← first, more)
+
+-- The loop past the entries of one key: those from number `start` on and before number k are under it
+
+pub skip-start : (form : Form) (h : Bytes) (t : List ℕ) (prefix : Bytes) (start : ℕ) → SkipsUnder form h t prefix start start
+skip-start form h t prefix start = record { back = omega arith; within = λ l. l; under = λ m a b. absurd (omega arith) }
+
+pub skip-more : {form : Form} {h : Bytes} {t : List ℕ} {prefix : Bytes} {start k : ℕ} → SkipsUnder form h t prefix start k → {n : ℕ} → n ≡ room form t → k < n → {e : CodeEntry} → entryOf e ≡ entryIn form t k
+    → {q : Bool} → q ≡ isUnder h prefix (entryOf e) → not q ≡ false → SkipsUnder form h t prefix start (k + 1)
+skip-more {k = k} g en l ee {q} u o = record {
+  back = let a = g .back in omega arith;
+  within = λ a. rw (← en) (omega arith);
+  under = λ m a b. elim (test (eqb m k)) [
+    | pass f ↦ rw (eqb-true m k f, ← ee) (sym u ∙ not-false q o)
+    | fail f ↦ let w = eqb-false m k f in g .under m a (omega (arith, w))
+  ];
+}
+
+pub ruleset passes = (skip-start, skip-more)
+
+-- what answers the needs of `skip_same`
+module _ (form : Form) (h : Bytes) (t : List ℕ) (k : ℕ) where
+  pub skip-typed : SkipsSame form h t k (k + 1)
+  skip-typed = record { ahead = omega arith; within = λ l. omega arith; under = λ m a b. absurd (omega arith) }
+
+  pub skip-same : {e : CodeEntry} → entryOf e ≡ entryIn form t k → {q : Bool} → q ≡ isOtherRecord (entryOf e) → not q ≡ false → {p : Bytes} → p ≡ prefixIn h (entryOf e) → {r : ℕ} → SkipsUnder form h t p (k + 1) r → SkipsSame form h t k r
+  skip-same ee {q} u o i g = record {
+    ahead = let a = g .back in omega arith;
+    within = λ l. g .within (omega arith);
+    under = λ m a b. (ap isOtherRecord (sym ee) ∙ sym u ∙ not-false q o, ap (λ (p : Bytes). isUnder h p (entryIn form t m)) (sym (i ∙ ap (prefixIn h) ee)) ∙ g .under m (omega arith) b);
+  }
+
+pub ruleset skips = (skip-typed, skip-same)
+
+pub skip-less : {form : Form} {h : Bytes} {t : List ℕ} {k r n : ℕ} → SkipsSame form h t k r → k < n → n - r < n - k
+skip-less g l = let a = g .ahead in omega arith
+
+-- none of them is the first of a key
+module _ (form : Form) (f : Bool) (v : Version) (h : Bytes) (t : List ℕ) (x : AllListed f v h (entriesIn form t)) where
+  not-first : (k m : ℕ) → k < m → m < room form t → isOtherRecord (entryIn form t k) ≡ true → isUnder h (prefixIn h (entryIn form t k)) (entryIn form t m) ≡ true
+      → isFirst h (take m (entriesIn form t)) (entryIn form t m) ≡ false
+  unfolding isFirst
+  not-first k m a b o u =
+      let g = listed-nth form f v h t x k (omega arith) (other-record (entryIn form t k) o) in
+      let w = own-key f v h (entryIn form t m) (listed-nth form f v h t x m b) (g .key) (g .plain) (not-true (isTyped (g .key)) (sym (g .other) ∙ o)) (ap (λ (p : Bytes). isUnder h p (entryIn form t m)) (sym (g .prefix)) ∙ u) in
+      let here : isUnder h (prefixIn h (entryIn form t m)) (entryIn form t k) ≡ true = rw (w .1) (g .under (g .key) (g .plain) ∙ same-self (g .key)) in
+      rw (w .0, seen-some form h t (prefixIn h (entryIn form t m)) m k a (omega arith) here)
+
+  lines-skipped : (d i : ℕ) → i + d ≤ room form t → ((m : ℕ) → i ≤ m → m < i + d → isFirst h (take m (entriesIn form t)) (entryIn form t m) ≡ false)
+      → otherLines v h (entriesIn form t) (take i (entriesIn form t)) (drop i (entriesIn form t)) ≡ otherLines v h (entriesIn form t) (take (i + d) (entriesIn form t)) (drop (i + d) (entriesIn form t))
+  lines-skipped zero i l n = let z : i + 0 ≡ i = omega arith in rw z
+  lines-skipped (suc d) i l n =
+      let z : i + 1 + d ≡ i + suc d = omega arith in
+      other-turn v h (entriesIn form t) i (entryIn form t i) (entries-here form t i (omega arith)) (sym (n i (omega arith) (omega arith)))
+      ∙ rw (← z) (lines-skipped d (i + 1) (omega arith) (λ m a b. n m (omega arith) (omega arith)))
+
+  same-skipped : {k r : ℕ} → k < room form t → SkipsSame form h t k r
+      → otherLines v h (entriesIn form t) (take (k + 1) (entriesIn form t)) (drop (k + 1) (entriesIn form t)) ≡ otherLines v h (entriesIn form t) (take r (entriesIn form t)) (drop r (entriesIn form t))
+  same-skipped {k} {r} l g =
+      let a = g .ahead in
+      let b = g .within l in
+      let z : k + 1 + (r - (k + 1)) ≡ r = omega arith in
+      lines-skipped (r - (k + 1)) (k + 1) (omega arith) (λ m c d. let w = g .under m (omega arith) (omega arith) in not-first k m (omega arith) (omega arith) (w .0) (w .1))
+      ∙ ap (λ (i : ℕ). otherLines v h (entriesIn form t) (take i (entriesIn form t)) (drop i (entriesIn form t))) z
 
 -- The loop over the keys: the lines of those that appear before number k are written
 
@@ -296,8 +392,9 @@ module _ {form : Form} {v : Version} {h : Bytes} {t twice heads links : List ℕ
   abbrev es : List Entry
   es = entriesIn form t
 
-  pub other-more : k < n → {r : Progress} {o : Bytes} → PutsFirst form v h t twice heads links k given new s r o → length o ≡ length new → Othering form v h t twice heads links given old s₀ o r (k + 1)
-  other-more l {r} {o} a m = record {
+  pub other-more : k < n → {r : Progress} {o : Bytes} → PutsFirst form v h t twice heads links k given new s r o → length o ≡ length new → {i : ℕ} → SkipsSame form h t k i
+      → Othering form v h t twice heads links given old s₀ o r i
+  other-more l {r} {o} a m {i} z = record {
     size = m ∙ g .size;
     is = λ x tw j.
         let d = g .is x tw j in
@@ -305,7 +402,7 @@ module _ {form : Form} {v : Version} {h : Bytes} {t twice heads links : List ℕ
         let ls = linesIf (isFirst h (take k es) e) (picked v h (prefixIn h e) es) in (
           d .0 ++ ls,
           (
-            d .1 .0 ∙ ap (d .0 ++_) (other-turn v h es k e (entries-here form t k (rw (← en) l)) refl) ∙ sym (append-assoc (d .0) ls (otherLines v h es (take (k + 1) es) (drop (k + 1) es))),
+            d .1 .0 ∙ ap (d .0 ++_) (other-turn v h es k e (entries-here form t k (rw (← en) l)) refl ∙ ap (ls ++_) (same-skipped form (s₀ .formed) v h t x (rw (← en) l) z)) ∙ sym (append-assoc (d .0) ls (otherLines v h es (take i es) (drop i es))),
             a .is (listed-on (d .1 .1) v h es x) tw j (rw (← en) l) old s₀ (d .0) (d .1 .1),
           ),
         );
@@ -319,7 +416,10 @@ module _ {form : Form} {v : Version} {h : Bytes} {t twice heads links : List ℕ
         subst (λ (ls : List Bytes). WroteLines given old s₀ ls s new) (sym (d .1 .0 ∙ ap (d .0 ++_) (rw (entries-past form t k (rw (← en) l))) ∙ append-nil (d .0))) (d .1 .1);
   }
 
-pub ruleset others = (other-more, other-end)
+pub place-inside : (form : Form) (t : List ℕ) {k n : ℕ} → n ≡ room form t → k < n → k < length t
+place-inside form t en l = omega (arith, en, room-small form t)
+
+pub ruleset others = (other-more, other-end, skip-less)
 
 -- what answers the needs of `put_others_linked` and its callers
 pub others-linked : {form : Form} {v : Version} {h : Bytes} {t twice heads links : List ℕ} {given old : Bytes} {s r : Progress} {new : Bytes} → Links form h t twice heads links 0
@@ -335,3 +435,8 @@ module _ {form : Form} {v : Version} {h : Bytes} {t twice : List ℕ} {given old
   others-unmarked z = others-marked (record { is = λ i j a b c d e. sym (none-met twice (hashIn h (entryIn form t j)) z) })
 
 pub ruleset markeds = (others-marked, others-unmarked)
+
+-- where there are no heads, nothing is linked
+pub others-unlinked : {form : Form} {v : Version} {h : Bytes} {t twice heads links : List ℕ} {given old : Bytes} {s r : Progress} {new : Bytes} → PutsOthersBy form v h t twice heads links given old s r new
+    → length heads ≡ 0 → length twice ≡ 0 → PutsOthers v h (entriesIn form t) given old s r new
+others-unlinked p z y = others-unmarked (others-linked (record { first = λ m a b c. absurd (omega arith); next = λ j m a b c d e. absurd (omega arith) }) p) y

@@ -3,13 +3,13 @@ use Prim.Native.Nat.{ℕ, _+_, _≤_, _<_}
 use native.Mathlib.Omega.{arith}
 use mathlib.Core.Path.{_≡_, refl, sym, ap, subst, _∙_}
 use mathlib.Core.Bool.{Bool, true, false, not}
-use mathlib.Core.List.{List, [], _∷_, _++_, append-assoc, append-nil}
+use mathlib.Core.List.{List, [], _∷_, _++_, append-nil}
 use lib.Dec.{ltb}
 use lib.ListN.{length, drop}
 use borrow.Author.Tests.{lt-ltb, le-ltb}
 use Rattle.values.specs.Bytes.{Bytes, ascii, starts}
 use Rattle.values.specs.Written.{last}
-use Rattle.values.proofs.Tests.{and-l, and-off, not-true, not-false}
+use Rattle.values.proofs.Tests.{and-off, not-true, not-false}
 use Rattle.rules.specs.Version.{Version}
 use Rattle.rules.specs.Known.{typedKeys}
 use Rattle.rules.specs.Entry.{Entry}
@@ -21,8 +21,8 @@ use Rattle.entries.proofs.Stored.{entries-here, entries-past}
 use Rattle.ids.specs.Clashes.{prefixOf}
 use Rattle.house.specs.declared.progress.Progress.{Progress}
 use Rattle.forms.specs.Lines.{houseLine}
-use Rattle.house.specs.Writes.{WroteLines, PutsEntry}
-use Rattle.house.specs.Keys.{isRecord, isUnder, picked, Listed, AllListed, PutsKey, linesUnder, laterKeys, PutsKeys}
+use Rattle.house.specs.Writes.{WroteLines}
+use Rattle.house.specs.Keys.{isRecord, isUnder, picked, AllListed, PutsKey, linesUnder, laterKeys, PutsKeys}
 use Rattle.house.proofs.Writes.{wrote-no-lines, then-lines}
 use Rattle.entries.specs.declared.form.Form.{Form}
 
@@ -63,73 +63,39 @@ listed-on w v h es a = subst (λ (f : Bool). AllListed f v h es) (sym (w .formed
 
 -- The loop over the entries of a key: the lines of those before number k are written
 
-pub record Picks (form : Form) (v : Version) (h : Bytes) (t : List ℕ) (prefix given old : Bytes) (s₀ : Progress) (new : Bytes) (s : Progress) (k : ℕ) : Type 0 where
-  pub before : List Bytes
-  pub whole : picked v h prefix (entriesIn form t) ≡ before ++ picked v h prefix (drop k (entriesIn form t))
-  pub ready : AllListed (s₀ .formed) v h (drop k (entriesIn form t))
-  pub wrote : WroteLines given old s₀ before s new
-
 pub record Picking (form : Form) (v : Version) (h : Bytes) (t : List ℕ) (prefix given old : Bytes) (s₀ : Progress) (new : Bytes) (s : Progress) (k : ℕ) : Type 0 where
   pub size : length new ≡ length old
-  pub is : AllListed (s₀ .formed) v h (entriesIn form t) → Picks form v h t prefix given old s₀ new s k
+  pub is : AllListed (s₀ .formed) v h (entriesIn form t)
+      → (ls : List Bytes) × ((picked v h prefix (entriesIn form t) ≡ ls ++ picked v h prefix (drop k (entriesIn form t))) × WroteLines given old s₀ ls s new)
 
 pub pick-start : (form : Form) (v : Version) (h : Bytes) (t : List ℕ) (prefix given old : Bytes) (s : Progress) → s .next .at ≤ last → s .lines ≤ last → length old ≤ last → Picking form v h t prefix given old s old s 0
-pick-start form v h t prefix given old s a b d = record {
-  size = refl;
-  is = λ g. record { before = []; whole = refl; ready = g; wrote = wrote-no-lines given old s a b d };
-}
+pick-start form v h t prefix given old s a b d = record { size = refl; is = λ g. ([], (refl, wrote-no-lines given old s a b d)) }
 
 module _ {form : Form} {v : Version} {h : Bytes} {t : List ℕ} {prefix given old : Bytes} {s₀ : Progress} {new : Bytes} {s : Progress} {k : ℕ} (g : Picking form v h t prefix given old s₀ new s k) {n : ℕ} (en : n ≡ room form t) where
   -- e is the entry that the code got
-  module _ (l : k < n) {e : CodeEntry} (ee : entryOf e ≡ entryIn form t k) {q : Bool} (u : q ≡ isUnder h prefix (entryOf e)) where
-    abbrev rest : List Entry
-    rest = drop (k + 1) (entriesIn form t)
-
-    here : drop k (entriesIn form t) ≡ entryOf e ∷ rest
-    here = entries-here form t k (rw (← en) l) ∙ ap (_∷ rest) (sym ee)
-
-    ready-here : AllListed (s₀ .formed) v h (drop k (entriesIn form t)) → (isRecord (entryOf e) ≡ true → Listed (s₀ .formed) v h (entryOf e)) × AllListed (s₀ .formed) v h rest
-    ready-here a = subst (AllListed (s₀ .formed) v h) here a
-
-    pub pick-more : q ≡ true → {r : Progress} {o : Bytes} → PutsEntry v (lineIn h (entryOf e)) given new s r o → length o ≡ length new → Picking form v h t prefix given old s₀ o r (k + 1)
-    unfolding isUnder
-    pick-more f {r} {o} p m = record {
-      size = m ∙ g .size;
-      is = λ a.
-          let d = g .is a in
-          let w : isUnder h prefix (entryOf e) ≡ true = sym u ∙ f in
-          let line = houseLine v (lineIn h (entryOf e)) in
-          let y = ready-here (d .ready) in
-          record {
-            before = d .before ++ line ∷ [];
-            whole = d .whole ∙ ap (d .before ++_) (ap (picked v h prefix) here ∙ picked-yes v h prefix (entryOf e) rest w) ∙ sym (append-assoc (d .before) (line ∷ []) (picked v h prefix rest));
-            ready = y .1;
-            wrote = let z = y .0 (and-l (isRecord (entryOf e)) (starts prefix (lineIn h (entryOf e))) w) in then-lines (d .wrote) (p .is (z .readable) (λ q. z .copied (sym (d .wrote .formed) ∙ q)));
-          };
-    }
-
-    pub pick-other : q ≡ false → Picking form v h t prefix given old s₀ new s (k + 1)
-    pick-other f = record {
-      size = g .size;
-      is = λ a.
-          let d = g .is a in
-          record {
-            before = d .before;
-            whole = d .whole ∙ ap (d .before ++_) (ap (picked v h prefix) here ∙ picked-no v h prefix (entryOf e) rest (sym u ∙ f));
-            ready = ready-here (d .ready) .1;
-            wrote = d .wrote;
-          };
-    }
+  pub pick-other : k < n → {e : CodeEntry} → entryOf e ≡ entryIn form t k → {q : Bool} → q ≡ isUnder h prefix (entryOf e) → q ≡ false → Picking form v h t prefix given old s₀ new s (k + 1)
+  pick-other l {e} ee u f = record {
+    size = g .size;
+    is = λ a.
+        let d = g .is a in
+        let w = entryIn form t k in (
+          d .0,
+          (
+            d .1 .0 ∙ ap (d .0 ++_) (ap (picked v h prefix) (entries-here form t k (rw (← en) l)) ∙ picked-no v h prefix w (drop (k + 1) (entriesIn form t)) (ap (isUnder h prefix) (sym ee) ∙ sym u ∙ f)),
+            d .1 .1,
+          ),
+        );
+  }
 
   pub pick-end : n ≤ k → PutsKey v h (entriesIn form t) prefix given old s₀ s new
   unfolding picked
   pick-end l = record {
     is = λ a.
         let d = g .is a in
-        subst (λ (ls : List Bytes). WroteLines given old s₀ ls s new) (sym (d .whole ∙ ap (d .before ++_) (rw (entries-past form t k (rw (← en) l))) ∙ append-nil (d .before))) (d .wrote);
+        subst (λ (ls : List Bytes). WroteLines given old s₀ ls s new) (sym (d .1 .0 ∙ ap (d .0 ++_) (rw (entries-past form t k (rw (← en) l))) ∙ append-nil (d .0))) (d .1 .1);
   }
 
-pub ruleset picks = (pick-more, pick-other, pick-end)
+pub ruleset picks = (pick-other, pick-end)
 
 -- what answers the needs of `put_later_typed` and `put_typed`
 module _ {v : Version} {h : Bytes} {es : List Entry} {given : Bytes} where

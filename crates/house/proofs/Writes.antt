@@ -26,18 +26,7 @@ use Rattle.forms.specs.Formed.{FormedLine}
 use Rattle.forms.proofs.Lines.{line-ended, entry-is, entry-ended}
 use Rattle.forms.specs.declared.line.LineWritten.{LineWritten}
 use Rattle.house.specs.declared.progress.Progress.{Progress}
-use Rattle.house.specs.Writes.{longIn, isLong, noted, WroteLines, PutsEntry}
-
--- what answers the needs of `count_line`
-pub count-more : (n : ℕ) → n < 18446744073709551615 → n + 1 ≡ onward n 1
-unfolding onward
-count-more n h = omega arith
-
-pub count-full : (n : ℕ) → 18446744073709551615 ≤ n → n < 18446744073709551616 → n ≡ onward n 1
-unfolding onward
-count-full n h l = omega arith
-
-pub ruleset counts = (count-more, count-full)
+use Rattle.house.specs.Writes.{longIn, isLong, noted, WroteLines, PutsEntry, PutsLines, PutsRun}
 
 -- what answers the needs of `note_line`
 module _ (s : Progress) (end : ℕ) (next : Sink) where
@@ -66,7 +55,7 @@ pub ruleset notes = (note-long, note-short, note-back, note-later)
 
 -- The first line that is too long
 
-too-long-append : (limit n start : ℕ) (ls ms : List Bytes)
+pub too-long-append : (limit n start : ℕ) (ls ms : List Bytes)
     → tooLong limit n start (ls ++ ms) ≡ orElse (tooLong limit n start ls) (tooLong limit (n + length ls) (start + length (writeLines ls)) ms)
 unfolding tooLong writeLines orElse
 too-long-append limit n start [] ms = let a : n + 0 ≡ n = omega arith in let b : start + 0 ≡ start = omega arith in rw (a, b)
@@ -78,7 +67,7 @@ too-long-append limit n start (l ∷ ls) ms = elim (test (leb (length l) limit))
   | fail e ↦ rw (tooLong, e)
 ]
 
-lines-append : (ls ms : List Bytes) → writeLines (ls ++ ms) ≡ writeLines ls ++ writeLines ms
+pub lines-append : (ls ms : List Bytes) → writeLines (ls ++ ms) ≡ writeLines ls ++ writeLines ms
 unfolding writeLines
 lines-append [] ms = refl
 lines-append (l ∷ ls) ms = ap (writeLine l ++_) (lines-append ls ms) ∙ sym (append-assoc (writeLine l) (writeLines ls) (writeLines ms))
@@ -99,13 +88,14 @@ lines-count (l ∷ ls) = rw (length-append (writeLine l) (writeLines ls)) (omega
 
 -- Lines after lines
 
+else-none : (x : Option (ℕ × ℕ)) → orElse x none ≡ x
+unfolding orElse
+else-none none = refl
+else-none (some p) = refl
+
 pub wrote-no-lines : (given out : Bytes) (s : Progress) → s .next .at ≤ last → s .lines ≤ last → length out ≤ last → WroteLines given out s [] s out
 unfolding writeLines tooLong onward orElse
-wrote-no-lines given out s a b d = record { limit = refl; formed = refl; text = puts-nothing given out (s .next) a d; count = omega arith; long = λ x y. none-else (longIn s) }
-  where
-    none-else : (x : Option (ℕ × ℕ)) → x ≡ orElse x none
-    none-else none = refl
-    none-else (some p) = refl
+wrote-no-lines given out s a b d = record { limit = refl; formed = refl; text = puts-nothing given out (s .next) a d; count = omega arith; long = λ x y. sym (else-none (longIn s)) }
 
 pub then-lines : {given out : Bytes} {s : Progress} {ls : List Bytes} {r : Progress} {o : Bytes} {ms : List Bytes} {r′ : Progress} {o′ : Bytes}
     → WroteLines given out s ls r o → WroteLines given o r ms r′ o′ → WroteLines given out s (ls ++ ms) r′ o′
@@ -233,3 +223,25 @@ format-put v w₁ w₂ w₃ w₄ = then w₁ (then w₂ (then w₃ w₄))
 pub version-line : (v : Version) {given out : Bytes} {s : Progress} {end : Sink} {o : Bytes} → Puts given out (s .next) (writeRecord (fileformat v)) end o
     → {next : Sink} {o′ : Bytes} → Puts given o end (ending false) next o′ → {r : Progress} → r ≡ noted s (end .at) next → WroteLines given out s (writeRecord (fileformat v) ∷ []) r o′
 version-line v w w′ n = plain-line (writeRecord (fileformat v)) w (version-ends v) w′ n
+
+-- what answers the needs of `put_lines` and `put_run`
+pub lines-put : (text : Bytes) (count : ℕ) {given out : Bytes} {s : Progress} {end : Sink} {o : Bytes} → Puts given out (s .next) text end o → {next : Sink} {o′ : Bytes} → Puts given o end (ending false) next o′
+    → {n : ℕ} → n ≡ onward (s .lines) count → PutsLines text count given out s (record { limit = s .limit; next = next; lines = n; long = s .long; start = s .start; formed = s .formed }) o′
+lines-put text count {given} {out} {s} w {next} {o′} w′ e = record {
+  is = λ ls size t short. record {
+    limit = refl;
+    formed = refl;
+    text = subst (λ (b : Bytes). Puts given out (s .next) b next o′) (sym t) (then w w′);
+    count = rw size e;
+    long = λ x y. sym (ap (orElse (longIn s)) (short (s .lines) (s .next .at)) ∙ else-none (longIn s));
+  };
+}
+
+module _ (v : Version) (text : Bytes) (count : ℕ) {given out : Bytes} {s r : Progress} {o : Bytes} where
+  pub run-one : count ≡ 1 → PutsEntry v text given out s r o → PutsRun v text count given out s r o
+  run-one e p = record { one = λ f. p; more = λ n. absurd (n e) }
+
+  pub run-more : (count ≡ 1 → ⊥) → PutsLines text count given out s r o → PutsRun v text count given out s r o
+  run-more n p = record { one = λ e. absurd (n e); more = λ f. p }
+
+pub ruleset lines = (lines-put, run-one, run-more)

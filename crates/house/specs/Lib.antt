@@ -1,7 +1,11 @@
 pub mod Writes
 pub mod Keys
+pub mod Sets
 pub mod Doubles
 pub mod Links
+pub mod Runs
+pub mod Chains
+pub mod Windows
 pub mod Forms
 pub mod Answers
 pub mod IsHouse

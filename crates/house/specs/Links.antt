@@ -16,7 +16,7 @@ use Rattle.entries.specs.Tables.{room, entryIn, entriesIn}
 use Rattle.ids.specs.Clashes.{prefixOf}
 use Rattle.house.specs.declared.progress.Progress.{Progress}
 use Rattle.house.specs.Writes.{WroteLines}
-use Rattle.house.specs.Keys.{AllListed, isOtherRecord, prefixIn, picked, seenUnder, isFirst, linesIf, otherLines}
+use Rattle.house.specs.Keys.{isUnder, AllListed, isOtherRecord, prefixIn, picked, seenUnder, isFirst, linesIf, otherLines}
 use Rattle.house.specs.Doubles.{MarksTwice}
 
 -- the slot of a key among n; past them if it is not marked as one of several entries
@@ -95,6 +95,18 @@ pub record PutsFirst (form : Form) (v : Version) (h : Bytes) (t twice heads link
   pub is : AllListed (s .formed) v h (entriesIn form t) → MarksTwice form h t twice → Links form h t twice heads links 0 → k < room form t
       → (out : Bytes) (b : Progress) (ls : List Bytes) → WroteLines given out b ls s old
       → WroteLines given out b (ls ++ linesIf (isFirst h (take k (entriesIn form t)) (entryIn form t k)) (picked v h (prefixIn h (entryIn form t k)) (entriesIn form t))) r new
+
+-- the entries from number `start` on and before r are under the key
+pub record SkipsUnder (form : Form) (h : Bytes) (t : List ℕ) (prefix : Bytes) (start r : ℕ) : Type 0 where
+  pub back : start ≤ r
+  pub within : start ≤ room form t → r ≤ room form t
+  pub under : (m : ℕ) → start ≤ m → m < r → isUnder h prefix (entryIn form t m) ≡ true
+
+-- those after number k and before r are under its key, which is not typed
+pub record SkipsSame (form : Form) (h : Bytes) (t : List ℕ) (k r : ℕ) : Type 0 where
+  pub ahead : k < r
+  pub within : k < room form t → r ≤ room form t
+  pub under : (m : ℕ) → k < m → m < r → (isOtherRecord (entryIn form t k) ≡ true) × (isUnder h (prefixIn h (entryIn form t k)) (entryIn form t m) ≡ true)
 
 pub record PutsOthersBy (form : Form) (v : Version) (h : Bytes) (t twice heads links : List ℕ) (given old : Bytes) (s r : Progress) (new : Bytes) : Type 0 where
   pub is : AllListed (s .formed) v h (entriesIn form t) → MarksTwice form h t twice → Links form h t twice heads links 0

@@ -2,11 +2,11 @@
 use Prim.Native.Nat.{ℕ, zero, suc, _+_, _-_, _≤_}
 use mathlib.Core.Path.{_≡_}
 use mathlib.Core.Bool.{Bool, true, false, _&&_}
-use mathlib.Core.List.{List, [], _∷_}
+use mathlib.Core.List.{List, [], _∷_, _++_}
 use mathlib.Core.Option.{Option, none, some, orElse}
 use lib.Dec.{eqb, ltb}
 use lib.ListN.{length}
-use Rattle.values.specs.Bytes.{Bytes}
+use Rattle.values.specs.Bytes.{Bytes, LF}
 use Rattle.values.specs.Written.{last, onward, Puts}
 use Rattle.values.specs.declared.sink.Sink.{Sink}
 use Rattle.rules.specs.Answer.{ok}
@@ -48,3 +48,12 @@ pub record Readable (v : Version) (l : Bytes) : Type 0 where
 
 pub record PutsEntry (v : Version) (l given old : Bytes) (s r : Progress) (new : Bytes) : Type 0 where
   pub is : Readable v l → (s .formed ≡ true → houseLine v l ≡ l) → WroteLines given old s (houseLine v l ∷ []) r new
+
+-- lines of which none is too long were written, which are this text and an LF
+pub record PutsLines (text : Bytes) (count : ℕ) (given old : Bytes) (s r : Progress) (new : Bytes) : Type 0 where
+  pub is : (ls : List Bytes) → length ls ≡ count → writeLines ls ≡ text ++ LF ∷ [] → ((n start : ℕ) → tooLong (s .limit) n start ls ≡ none) → WroteLines given old s ls r new
+
+-- one line, which may not stand in form, or several such ones
+pub record PutsRun (v : Version) (text : Bytes) (count : ℕ) (given old : Bytes) (s r : Progress) (new : Bytes) : Type 0 where
+  pub one : count ≡ 1 → PutsEntry v text given old s r new
+  pub more : (count ≡ 1 → ⊥) → PutsLines text count given old s r new

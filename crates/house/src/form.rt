@@ -1,5 +1,6 @@
 // The house form of a header: measured first, then written if it may stand and fits; and whether a header is in house form, told by
 // the measuring alone, which holds the form against the header.
+use crate::copying;
 use crate::keys;
 use crate::progress;
 use crate::progress::Progress;
@@ -21,7 +22,7 @@ ghost use Rattle.rules.specs.House.{house};
 ghost use Rattle.records.specs.Formats.{versionOf};
 ghost use Rattle.entries.specs.Values.{limitsOf, limitsBy};
 ghost use Rattle.entries.specs.Tables.{entriesIn};
-ghost use Rattle.house.specs.Forms.{columnLine, PutsRecords, PutsForm, isWhole, measuredAs, WritesForm, ComparesForm};
+ghost use Rattle.house.specs.Forms.{columnLine, PutsRecords, PutsForm, isWhole, measuredAs, IsOwn, WritesForm, ComparesForm};
 ghost use Rattle.header.specs.Verdicts.{imposedOf};
 ghost use Rattle.house.specs.Answers.{refusedAnswer, formAnswered, AnswersForm, HouseCall};
 ghost use Rattle.house.specs.Verdicts.{toldAnswer, verdict, AnswersComparison, IsHouseCall};
@@ -152,7 +153,20 @@ fn outcome_of(measured: Progress, limits: Limits, room: usize) -> FormOutcome
     FormOutcome::Whole(size)
 }
 
-// Nothing is written unless the whole form may stand and fits. Whether the lines stand in form is asked once, and not at each putting.
+// Whether a header of `size` bytes is its own form, which was held against it, and fits.
+fn is_own(end: Sink, size: usize, room: usize) -> bool
+    ensures { λ r. ⌜ IsOwn end size room r ⌝ }
+{
+    if end.at != size {
+        return false;
+    }
+    if end.differs < size {
+        return false;
+    }
+    size <= room
+}
+
+// Nothing is written unless the whole form may stand and fits; a header that is its own form is copied. Whether the lines stand in form is asked once, and not at each putting.
 fn write_form(
     h: &[u8],
     kept: &[u64],
@@ -166,18 +180,14 @@ fn write_form(
     let limits = form.limits();
     let mut nothing = [0u8; 0];
     let formed = keys::are_formed(h, kept, form, version);
-    let measured = put_form(
-        h,
-        kept,
-        form,
-        version,
-        limits.line,
-        formed,
-        &mut nothing,
-        b"",
-    );
+    let measured = put_form(h, kept, form, version, limits.line, formed, &mut nothing, h);
     let outcome = outcome_of(measured, limits, out.len());
     if !outcome.is_whole() {
+        return outcome;
+    }
+    let end = measured.next;
+    if is_own(end, h.len(), out.len()) {
+        copying::copy(out, 0, h);
         return outcome;
     }
     put_form(h, kept, form, version, limits.line, formed, out, b"");
@@ -190,7 +200,8 @@ fn compare_form(h: &[u8], kept: &[u64], form: Form, version: FileFormat) -> Comp
 {
     let limits = form.limits();
     let mut nothing = [0u8; 0];
-    let measured = put_form(h, kept, form, version, limits.line, false, &mut nothing, h);
+    let formed = keys::are_formed(h, kept, form, version);
+    let measured = put_form(h, kept, form, version, limits.line, formed, &mut nothing, h);
     let outcome = outcome_of(measured, limits, limits.header);
     let end = measured.next;
     Compared {

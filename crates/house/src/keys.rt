@@ -1,8 +1,9 @@
 // The entries of a key, as they follow one another in the header.
-use crate::doubles;
 use crate::links;
 use crate::progress;
 use crate::progress::Progress;
+use crate::run;
+use crate::windows;
 use entries::entry::Entry;
 use entries::form::Form;
 use entries::kind;
@@ -15,10 +16,11 @@ ghost use mathlib.Core.Path.{_≡_};
 ghost use Rattle.records.specs.Formats.{versionOf};
 ghost use Rattle.rules.specs.Known.{typedKeys};
 ghost use Rattle.entries.specs.Values.{entryOf};
+ghost use Prim.Native.Nat.{_<_};
 ghost use Rattle.entries.specs.Tables.{entriesIn};
 ghost use Rattle.house.specs.Keys.{isRecord, isUnder, PutsKey, AreFormed, PutsKeys, laterKeys, isTypedRecord, anyTyped, prefixIn, isOtherRecord, PutsOthers};
 ghost use lib.ListN.{length};
-ghost use Rattle.house.specs.Links.{isPast, SeesKey, PutsLinked, PutsFirst, PutsOthersBy, PutsOthersMarked};
+ghost use Rattle.house.specs.Links.{isPast, SeesKey, PutsLinked, PutsFirst, SkipsUnder, SkipsSame, PutsOthersBy, PutsOthersMarked};
 
 // Whether an entry is a map or a text.
 fn is_record(e: Entry) -> bool
@@ -34,7 +36,7 @@ fn is_record(e: Entry) -> bool
 }
 
 // Whether an entry is a record whose line begins with the prefix, `##key=`.
-fn is_under(h: &[u8], e: Entry, prefix: &[u8]) -> bool
+pub fn is_under(h: &[u8], e: Entry, prefix: &[u8]) -> bool
     ensures { λ r. ⌜ r ≡ isUnder (now (h .entry)) (now (prefix .entry)) (entryOf e) ⌝ }
 {
     if !is_record(e) {
@@ -61,9 +63,13 @@ pub fn put_key(
     let mut k = 0;
     while k < table::count(kept, form) {
         let e = table::get(kept, form, k);
-        k += 1;
         if is_under(h, e, prefix) {
-            progress = progress::put_entry(h, e, version, out, given, progress);
+            let run = run::find_run(h, kept, form, prefix, k, progress.limit, progress.formed);
+            let text = bytes::part(h, e.start, run.stop);
+            progress = progress::put_run(text, run.end - k, version, out, given, progress);
+            k = run.end;
+        } else {
+            k += 1;
         }
     }
     progress
@@ -223,12 +229,21 @@ fn put_linked(
     let mut k = first;
     while k < table::count(kept, form) {
         let e = table::get(kept, form, k);
-        k += 1;
+        let near = k + 1;
         if is_under(h, e, prefix) {
-            progress = progress::put_entry(h, e, version, out, given, progress);
-            k = links::next_of(slot, heads, links, k);
+            let next = links::next_of(slot, heads, links, near);
+            if near < next {
+                let line = part::line_part(h, e);
+                progress = progress::put_entry(line, version, out, given, progress);
+                k = next;
+            } else {
+                let run = run::find_run(h, kept, form, prefix, k, progress.limit, progress.formed);
+                let text = bytes::part(h, e.start, run.stop);
+                progress = progress::put_run(text, run.end - k, version, out, given, progress);
+                k = links::next_of(slot, heads, links, run.end);
+            }
         } else {
-            k = links::pass_other(h, e, slot, twice, heads, links, k);
+            k = links::pass_other(h, e, slot, twice, heads, links, near);
         }
     }
     progress
@@ -268,7 +283,7 @@ fn put_if_first(
     let prefix = prefix_part(h, e);
     let slot = links::slot_of(twice, heads, prefix);
     if is_alone(heads, slot) {
-        return progress::put_entry(h, e, version, out, given, s);
+        return progress::put_entry(part::line_part(h, e), version, out, given, s);
     }
     if is_seen(h, kept, form, prefix, slot, twice, heads, links, k) {
         return s;
@@ -288,6 +303,37 @@ fn put_if_first(
         given,
         s,
     )
+}
+
+// Past the entries under the key that follow one another, from number `start` on.
+fn skip_under(h: &[u8], kept: &[u64], form: Form, prefix: &[u8], start: usize) -> usize
+    ensures { λ r. ⌜ SkipsUnder form (now (h .entry)) (now (kept .entry)) (now (prefix .entry)) start r ⌝ }
+{
+    let mut k = start;
+    while k < table::count(kept, form) {
+        if !is_under(h, table::get(kept, form, k), prefix) {
+            return k;
+        }
+        k += 1;
+    }
+    k
+}
+
+// Past an entry, and where none are linked past those after it that are under its key, if that is not typed: none of these is the first of a
+// key. Linked ones are as soon seen not to be.
+fn skip_same(h: &[u8], kept: &[u64], form: Form, heads: &[u32], k: usize) -> usize
+    requires { ⌜ k < length (now kept) ⌝ }
+    ensures { λ r. ⌜ SkipsSame form (now (h .entry)) (now (kept .entry)) k r ⌝ }
+{
+    let next = k + 1;
+    if 0 < heads.len() {
+        return next;
+    }
+    let e = table::get(kept, form, k);
+    if !is_other(e) {
+        return next;
+    }
+    skip_under(h, kept, form, prefix_part(h, e), next)
 }
 
 // The other keys, by first appearance, where the entries are linked and the keys of several are marked in `twice`.
@@ -322,7 +368,7 @@ fn put_others_by(
             given,
             progress,
         );
-        k += 1;
+        k = skip_same(h, kept, form, heads, k);
     }
     progress
 }
@@ -346,8 +392,8 @@ fn put_others_linked(
     put_others_by(h, kept, form, version, twice, heads, links, out, given, s)
 }
 
-// The other keys where there are more entries than links: only keys that several entries have are linked. All marks, heads and links together
-// take 896 KiB of the stack.
+// The other keys where there are more entries than links. A bit for each entry that a header may have, with the marks, heads and nodes of a
+// window, takes 870 KiB of the stack.
 fn put_others_marked(
     h: &[u8],
     kept: &[u64],
@@ -359,22 +405,25 @@ fn put_others_marked(
 ) -> Progress
     ensures { λ r. ⌜ PutsOthers (versionOf version) (now (h .entry)) (entriesIn form (now (kept .entry))) (now (given .entry)) (now (out .entry)) s r (now (out .exit)) ⌝ }
 {
-    let mut twice = [0u64; 8192];
-    doubles::mark_all(h, kept, form, &mut twice);
-    let mut heads = [0xFFFF_FFFFu32; 65536];
-    let mut links = [0xFFFF_FFFFu32; 98304];
-    put_others_linked(
-        h,
-        kept,
-        form,
-        version,
-        &twice,
-        &mut heads,
-        &mut links,
-        out,
-        given,
-        s,
-    )
+    let end = windows::others_end(kept, form);
+    let mut heads = [0u32; 0];
+    let mut links = [0u32; 0];
+    if 2801664 < end {
+        return put_others_linked(
+            h,
+            kept,
+            form,
+            version,
+            &kept[..0],
+            &mut heads,
+            &mut links,
+            out,
+            given,
+            s,
+        );
+    }
+    let mut done = [0u64; 43776];
+    windows::put_windows(h, kept, form, end, version, &mut done, out, given, s)
 }
 
 fn put_others_many(
@@ -474,7 +523,34 @@ fn put_others_sized(
     put_others_marked(h, kept, form, version, out, given, s)
 }
 
-// The other keys, by first appearance. Few entries are looked through in less time than it takes to link them.
+// Few entries are looked through in less time than it takes to link them.
+fn put_others_few(
+    h: &[u8],
+    kept: &[u64],
+    form: Form,
+    version: FileFormat,
+    out: &mut [u8],
+    given: &[u8],
+    s: Progress,
+) -> Progress
+    ensures { λ r. ⌜ PutsOthers (versionOf version) (now (h .entry)) (entriesIn form (now (kept .entry))) (now (given .entry)) (now (out .entry)) s r (now (out .exit)) ⌝ }
+{
+    let unlinked = [0u32; 0];
+    put_others_by(
+        h,
+        kept,
+        form,
+        version,
+        &kept[..0],
+        &unlinked,
+        &unlinked,
+        out,
+        given,
+        s,
+    )
+}
+
+// The other keys, by first appearance.
 pub fn put_others(
     h: &[u8],
     kept: &[u64],
@@ -486,22 +562,11 @@ pub fn put_others(
 ) -> Progress
     ensures { λ r. ⌜ PutsOthers (versionOf version) (now (h .entry)) (entriesIn form (now (kept .entry))) (now (given .entry)) (now (out .entry)) s r (now (out .exit)) ⌝ }
 {
+    if kept.len() <= 128 {
+        return put_others_few(h, kept, form, version, out, given, s);
+    }
     let mut heads = [0u32; 0];
     let mut links = [0u32; 0];
-    if kept.len() <= 128 {
-        return put_others_linked(
-            h,
-            kept,
-            form,
-            version,
-            &kept[..0],
-            &mut heads,
-            &mut links,
-            out,
-            given,
-            s,
-        );
-    }
     put_others_sized(
         h,
         kept,

@@ -1,6 +1,10 @@
 // The house form of a header.
-mod doubles;
+mod bits;
+mod chains;
+mod copying;
 pub mod form;
 mod keys;
 mod links;
 mod progress;
+mod run;
+mod windows;

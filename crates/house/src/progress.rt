@@ -1,6 +1,5 @@
 // Lines of the form, one after another: what does not fit into the output is counted and not written, and all is held against what is given.
-use entries::entry::Entry;
-use entries::part;
+use crate::copying;
 use forms::formed;
 use forms::line;
 use records::file_format::FileFormat;
@@ -9,12 +8,10 @@ use values::sink::Sink;
 ghost use mathlib.Core.Path.{_≡_};
 ghost use Rattle.values.specs.Written.{onward, Puts};
 ghost use Rattle.records.specs.Formats.{versionOf};
-ghost use Rattle.rules.specs.Shown.{lineIn};
-ghost use Rattle.entries.specs.Values.{entryOf};
 ghost use mathlib.Core.List.{[], _∷_};
 ghost use Rattle.rules.specs.Record.{fileformat};
 ghost use Rattle.rules.specs.House.{writeRecord};
-ghost use Rattle.house.specs.Writes.{noted, WroteLines, PutsEntry};
+ghost use Rattle.house.specs.Writes.{noted, WroteLines, PutsEntry, PutsLines, PutsRun};
 
 // How long a line may be; where the writing stands, the number of lines, and the first line that was too long: its number, 0 if
 // none was, and its start. `formed`: the line of each entry stands as the form writes it.
@@ -27,14 +24,14 @@ pub struct Progress {
     pub formed: bool,
 }
 
-// One line more, as far as a number goes.
-fn count_line(lines: usize) -> usize
-    ensures { λ r. ⌜ r ≡ onward lines 1 ⌝ }
+// So many lines more, as far as a number goes.
+fn count_lines(lines: usize, more: usize) -> usize
+    ensures { λ r. ⌜ r ≡ onward lines more ⌝ }
 {
-    if lines < 0xFFFF_FFFF_FFFF_FFFF {
-        return lines + 1;
+    if more <= 0xFFFF_FFFF_FFFF_FFFF - lines {
+        return lines + more;
     }
-    lines
+    0xFFFF_FFFF_FFFF_FFFF
 }
 
 // A line was written whose text ends at `end` and whose ending at `next`.
@@ -44,7 +41,7 @@ fn note_line(s: Progress, end: usize, next: Sink) -> Progress
     let here = s.next;
     let at = here.at;
     let long = s.long;
-    let lines = count_line(s.lines);
+    let lines = count_lines(s.lines, 1);
     if long == 0 {
         if at <= end {
             if s.limit < end - at {
@@ -71,16 +68,14 @@ fn note_line(s: Progress, end: usize, next: Sink) -> Progress
 
 // The line of an entry: most stand as the form writes them, and are copied.
 pub fn put_entry(
-    h: &[u8],
-    e: Entry,
+    line: &[u8],
     version: FileFormat,
     out: &mut [u8],
     given: &[u8],
     s: Progress,
 ) -> Progress
-    ensures { λ r. ⌜ PutsEntry (versionOf version) (lineIn (now (h .entry)) (entryOf e)) (now (given .entry)) (now (out .entry)) s r (now (out .exit)) ⌝ }
+    ensures { λ r. ⌜ PutsEntry (versionOf version) (now (line .entry)) (now (given .entry)) (now (out .entry)) s r (now (out .exit)) ⌝ }
 {
-    let line = part::line_part(h, e);
     if s.formed {
         return put_plain(line, out, given, s);
     }
@@ -117,8 +112,42 @@ pub fn put_plain(text: &[u8], out: &mut [u8], given: &[u8], s: Progress) -> Prog
     ensures { λ r. ⌜ WroteLines (now (given .entry)) (now (out .entry)) s (now (text .entry) ∷ []) r (now (out .exit)) ⌝ }
 {
     let at = s.next;
-    let end = sink::put_bytes(out, given, at, text);
+    let end = copying::put_text(out, given, at, text);
     let cr = line::ends_with_cr(text);
     let next = line::end_line(out, given, end, cr);
     note_line(s, end.at, next)
+}
+
+// Lines one after another, of which none is too long, without the last one's LF.
+fn put_lines(text: &[u8], count: usize, out: &mut [u8], given: &[u8], s: Progress) -> Progress
+    ensures { λ r. ⌜ PutsLines (now (text .entry)) count (now (given .entry)) (now (out .entry)) s r (now (out .exit)) ⌝ }
+{
+    let at = s.next;
+    let end = copying::put_text(out, given, at, text);
+    let next = line::end_line(out, given, end, false);
+    Progress {
+        limit: s.limit,
+        next,
+        lines: count_lines(s.lines, count),
+        long: s.long,
+        start: s.start,
+        formed: s.formed,
+    }
+}
+
+// The lines of a run of entries.
+pub fn put_run(
+    text: &[u8],
+    count: usize,
+    version: FileFormat,
+    out: &mut [u8],
+    given: &[u8],
+    s: Progress,
+) -> Progress
+    ensures { λ r. ⌜ PutsRun (versionOf version) (now (text .entry)) count (now (given .entry)) (now (out .entry)) s r (now (out .exit)) ⌝ }
+{
+    if count == 1 {
+        return put_entry(text, version, out, given, s);
+    }
+    put_lines(text, count, out, given, s)
 }

@@ -1,29 +1,32 @@
--- IDs that lines still to be read may have: what their last bytes tell. Assumes nothing.
-use Prim.Native.Nat.{ℕ, zero, suc, _+_, _-_, _*_, _^_, _≤_, _<_}
+-- Names that lines still to be read may have: what the bytes after their last cut, and their last eight bytes, tell. Assumes nothing.
+use Prim.Native.Nat.{ℕ, zero, suc, _+_, _-_, _*_, _/_, _%_, _^_, _≤_, _<_}
 use native.Mathlib.Omega.{arith}
-use native.Mathlib.Nat.{min-eq-left}
+use native.Mathlib.Nat.{min-eq-left, mod-lt, div-lt-iff-lt-mul}
 use mathlib.Core.Path.{_≡_, refl, sym, ap, subst, _∙_}
 use mathlib.Core.Bool.{Bool, true, false, not, _||_, _&&_, false≢true}
 use mathlib.Core.List.{List, [], _∷_}
+use lib.Bits.{bitXor}
 use lib.Dec.{eqb, leb, ltb}
 use lib.ListN.{length, getD, take, drop, length-drop, length-take, take-append-drop, drop-of-length-le, List·getD-eq-default}
 use lib.Seq.{take-all, drop-drop, getD-take, getD-drop}
-use borrow.Author.Tests.{eqb-true, eqb-false, ne-eqb, leb-true, leb-false, le-leb, lt-leb, ltb-true, ltb-false, lt-ltb, le-ltb}
+use borrow.Author.Tests.{eq-eqb, eqb-true, eqb-false, ne-eqb, leb-true, leb-false, le-leb, lt-leb, ltb-true, ltb-false, lt-ltb, le-ltb}
 use mir.Syntax.{w64}
 use mir.Val.{Fits}
-use Rattle.values.specs.Bytes.{Bytes, is, any, BACKSLASH}
-use Rattle.values.specs.Value.{meaning, unescaped}
+use Rattle.values.specs.Bytes.{Bytes, is, any, before, BACKSLASH, EQUALS}
+use Rattle.values.specs.Value.{meaning, unescaped, isEscapable}
+use Rattle.values.specs.Hash.{wideStep}
 use Rattle.values.specs.Marks.{isNoted, note}
-use Rattle.values.proofs.Tests.{pass, fail, test, or-l, or-r, not-true, not-false}
-use Rattle.values.proofs.Lists.{any-append}
+use Rattle.values.proofs.Tests.{pass, fail, test, or-l, or-r, and-l, and-r, not-true, not-false}
+use Rattle.values.proofs.Lists.{here, any-append, before-hit, before-miss}
 use Rattle.values.proofs.Markings.{note-length, note-own, note-kept}
 use Rattle.rules.specs.Entry.{Entry}
 use Rattle.rules.specs.Shown.{idIn, idMeaning}
+use Rattle.rules.specs.Claims.{keyIn}
 use Rattle.entries.specs.declared.entry.Entry.{Entry as CodeEntry}
 use Rattle.entries.specs.declared.form.Form.{Form}
 use Rattle.entries.specs.Values.{entryOf}
 use Rattle.entries.specs.Tables.{room, entryIn}
-use Rattle.ids.specs.Ahead.{isEnd, idEnd, isEnded, NewId, fourAt, tailHash, noteEnd, noteEnds, notesFrom, hasEscape, notesAhead, tailNoted, isAhead, NextAhead}
+use Rattle.ids.specs.Ahead.{isEnd, isCut, idEnd, isOpened, isEnded, NewName, runOn, runStep, runFrom, once, twice, noteRun, runNoted, fourAt, tailHash, noteTail, noteCut, noteCuts, notesFrom, hasEscape, tailNoted, isAhead, isNear, NextNear}
 
 -- What ends an ID
 
@@ -41,6 +44,49 @@ module _ (b : ℕ) where
   end-quote f g = rw (ne-eqb b 44 f, ne-eqb b 62 g)
 
 pub ruleset ends = (end-comma, end-greater, end-quote)
+
+-- What cuts a name off
+
+module _ (b : ℕ) {q : Bool} (eq : q ≡ isEnd b) where
+  pub cut-end : q ≡ true → true ≡ isCut b
+  unfolding isCut
+  cut-end e = rw (← eq, e)
+
+  module _ (n : q ≡ false) where
+    pub cut-hash : b ≡ 35 → true ≡ isCut b
+    unfolding isCut
+    cut-hash e = rw (← eq, n, eq-eqb b 35 e)
+
+    pub cut-equals : (b ≡ 35 → ⊥) → b ≡ 61 → true ≡ isCut b
+    unfolding isCut
+    cut-equals f e = rw (← eq, n, ne-eqb b 35 f, eq-eqb b 61 e)
+
+    pub cut-backslash : (b ≡ 35 → ⊥) → (b ≡ 61 → ⊥) → eqb b 92 ≡ isCut b
+    unfolding isCut
+    cut-backslash f g = rw (← eq, n, ne-eqb b 35 f, ne-eqb b 61 g)
+
+pub ruleset cuts = (cut-end, cut-hash, cut-equals, cut-backslash)
+
+escapable-cut : (b : ℕ) → isEscapable b ≡ true → isCut b ≡ true
+unfolding isCut isEnd
+escapable-cut b e = elim (test (eqb b 34)) [
+  | pass f ↦ let i = eqb-true b 34 f in rw i
+  | fail f ↦ let i = eqb-true b 92 (rw f at e) in rw i
+]
+
+backslash-cut : (b : ℕ) → is BACKSLASH b ≡ true → isCut b ≡ true
+unfolding isCut isEnd
+backslash-cut b e = let i = eqb-true b 92 e in rw i
+
+-- a byte that is no cut is none that closes a name
+module _ (b : ℕ) (n : isCut b ≡ false) where
+  uncut-end : isEnd b ≡ false
+  unfolding isCut
+  uncut-end = or-l (isEnd b) _ n
+
+  uncut-equals : is EQUALS b ≡ false
+  unfolding isCut
+  uncut-equals = or-l (is EQUALS b) _ (or-r (is 35 b) _ (or-r (isEnd b) _ n))
 
 -- past the header nothing ends an ID
 end-inside : (h : Bytes) (n : ℕ) → isEnd (getD h n 0) ≡ true → n < length h
@@ -70,6 +116,71 @@ module _ (h : Bytes) (x : CodeEntry) {line id : Bytes} (a : line ≡ take (lengt
   ended-by e = e ∙ ap isEnd after-id
 
 pub ruleset endings = (not-ended, ended-by)
+
+-- whether an ID stands after a cut
+module _ (h : Bytes) (x : CodeEntry) where
+  pub opened-none : x .offset ≡ 0 → false ≡ isOpened h (entryOf x)
+  unfolding isOpened
+  opened-none e = rw (lt-leb 1 (x .offset) (omega arith))
+
+  module _ (s : x .offset ≡ 0 → ⊥) {line : Bytes} (a : line ≡ take (length h) (drop (x .start) h)) where
+    byte-before : getD line (x .offset - 1) 0 ≡ getD h (x .start + (x .offset - 1)) 0
+    byte-before = ap (λ (l : Bytes). getD l (x .offset - 1) 0) (a ∙ take-all (length h) (drop (x .start) h) (rw (length-drop (x .start) h) (omega arith))) ∙ getD-drop (x .start) h (x .offset - 1) 0
+
+    opened-is : isCut (getD line (x .offset - 1) 0) ≡ isOpened h (entryOf x)
+    unfolding isOpened
+    opened-is = rw (le-leb 1 (x .offset) (omega (arith, s)), byte-before)
+
+    pub opened-past : length line ≤ x .offset - 1 → false ≡ isOpened h (entryOf x)
+    unfolding isCut isEnd
+    opened-past l = ap isCut (sym (List·getD-eq-default line 0 {n = x .offset - 1} l)) ∙ opened-is
+
+    pub opened-by : {r : Bool} → r ≡ isCut (getD line (x .offset - 1) 0) → r ≡ isOpened h (entryOf x)
+    opened-by e = e ∙ opened-is
+
+pub ruleset openings = (opened-none, opened-past, opened-by)
+
+module _ (h : Bytes) (x : CodeEntry) {q : Bool} (a : q ≡ isOpened h (entryOf x)) where
+  pub set-closed : not q ≡ true → false ≡ (isOpened h (entryOf x) && isEnded h (entryOf x))
+  set-closed n = rw (← a, not-true q n)
+
+  pub set-ended : not q ≡ false → {r : Bool} → r ≡ isEnded h (entryOf x) → r ≡ (isOpened h (entryOf x) && isEnded h (entryOf x))
+  set-ended n f = f ∙ rw (← a, not-false q n)
+
+pub ruleset settings = (set-closed, set-ended)
+
+-- The bytes after the last cut
+
+step-cut : (run b : ℕ) → isCut b ≡ true → runStep run b ≡ 0
+unfolding runStep
+step-cut run b e = rw (runStep, e)
+
+step-uncut : (run b : ℕ) → isCut b ≡ false → runStep run b ≡ runOn run b
+unfolding runStep
+step-uncut run b e = rw (runStep, e)
+
+-- what is left of the run after a backslash
+abbrev stayed : Bool → ℕ → ℕ
+stayed true run = 0
+stayed false run = run
+
+-- an escape ends in a cut in the text and in what it means
+run-unescaped : (after : Bool) (run : ℕ) (t : Bytes) → runFrom run (unescaped after t) ≡ runFrom (stayed after run) t
+unfolding runFrom unescaped
+run-unescaped true run [] = step-cut run 92 (backslash-cut 92 refl)
+run-unescaped false run [] = refl
+run-unescaped true run (b ∷ bs) = elim (test (isEscapable b)) [
+  | pass e ↦ let c = escapable-cut b e in rw (unescaped, e, runFrom, step-cut run b c, step-cut 0 b c) (run-unescaped false 0 bs)
+  | fail e ↦ rw (unescaped, e, runFrom, step-cut run 92 (backslash-cut 92 refl)) (run-unescaped false (runStep 0 b) bs)
+]
+run-unescaped false run (b ∷ bs) = elim (test (is BACKSLASH b)) [
+  | pass e ↦ rw (unescaped, e, runFrom, step-cut run b (backslash-cut b e)) (run-unescaped true run bs)
+  | fail e ↦ rw (unescaped, e, runFrom) (run-unescaped false (runStep run b) bs)
+]
+
+run-meaning : (q : Bool) (t : Bytes) → runFrom 0 (meaning q t) ≡ runFrom 0 t
+run-meaning true t = run-unescaped false 0 t
+run-meaning false t = refl
 
 -- Last bytes
 
@@ -127,10 +238,19 @@ plain-drop n t e = or-r (any (is BACKSLASH) (take n t)) (any (is BACKSLASH) (dro
 plain-take : (n : ℕ) (t : Bytes) → any (is BACKSLASH) t ≡ false → any (is BACKSLASH) (take n t) ≡ false
 plain-take n t e = or-l (any (is BACKSLASH) (take n t)) (any (is BACKSLASH) (drop n t)) (sym (any-append (is BACKSLASH) (take n t) (drop n t)) ∙ ap (any (is BACKSLASH)) (take-append-drop n t) ∙ e)
 
--- the last bytes of all that may be an ID from a place on are noted, and no ID is escaped there
+-- what stands ahead is noted: the runs of all names, and the last bytes of all that may be IDs
 pub record Noted (h : Bytes) (from : ℕ) (ns : List ℕ) : Type 0 where
+  pub runs : (at size : ℕ) → from ≤ at → isCut (getD h at 0) ≡ true → (isEnd (getD h (at + 1 + size) 0) || is EQUALS (getD h (at + 1 + size) 0)) ≡ true
+      → runNoted ns (runFrom 0 (take size (drop (at + 1) h))) ≡ true
   pub tails : (end : ℕ) → from + 8 ≤ end → end < length h → isEnd (getD h end 0) ≡ true → isNoted ns (tailHash h end) ≡ true
-  pub plain : hasEscape h from ≡ false
+
+-- a text whose run is not noted means no name ahead
+pub run-away : (closes : ℕ → Bool) → ((b : ℕ) → closes b ≡ true → (isEnd b || is EQUALS b) ≡ true) → (h : Bytes) (from : ℕ) (ns : List ℕ) → Noted h from ns
+    → (q : Bool) (t : Bytes) → runNoted ns (runFrom 0 t) ≡ false → NewName closes h from (meaning q t) → ⊥
+run-away closes f h from ns noted q t miss new =
+    let text = take (new .size) (drop (new .at + 1) h) in
+    let twin : runFrom 0 t ≡ runFrom 0 text = sym (run-meaning q t) ∙ ap (runFrom 0) (new .text) ∙ run-meaning (new .quoted) text in
+    false≢true (sym miss ∙ ap (runNoted ns) twin ∙ noted .runs (new .at) (new .size) (new .behind) (new .opened) (f (getD h (new .at + 1 + new .size) 0) (new .ended)))
 
 not-no : (b : Bool) → not b ≡ false → b ≡ true
 not-no true e = refl
@@ -163,15 +283,15 @@ module _ (h : Bytes) (ns : List ℕ) (e : Entry) (away : isAhead h ns e ≡ fals
   unfolding idIn
   bare = rw (or-l (e .quoted) _ rest-one)
 
-  pub away-from : (from : ℕ) → Noted h from ns → NewId h from (idMeaning h e) → ⊥
-  away-from from noted new =
-      let at = new .at in
+  pub away-from : (from : ℕ) → Noted h from ns → hasEscape h from ≡ false → NewName isEnd h from (idMeaning h e) → ⊥
+  away-from from noted plain new =
+      let at = new .at + 1 in
       let n = new .size in
       let s = e .start + e .offset in
       let there : at + n < length h = end-inside h (at + n) (new .ended) in
       let at-is : from + (at - from) ≡ at = omega (arith, new .behind) in
       let part : drop (at - from) (drop from h) ≡ drop at h = drop-drop (at - from) from h ∙ ap (λ (k : ℕ). drop k h) at-is in
-      let none : any (is BACKSLASH) (take n (drop at h)) ≡ false = plain-take n (drop at h) (ap (any (is BACKSLASH)) (sym part) ∙ plain-drop (at - from) (drop from h) (noted .plain)) in
+      let none : any (is BACKSLASH) (take n (drop at h)) ≡ false = plain-take n (drop at h) (ap (any (is BACKSLASH)) (sym part) ∙ plain-drop (at - from) (drop from h) plain) in
       let same : take (e .idLength) (drop s h) ≡ take n (drop at h) = sym bare ∙ new .text ∙ plain-meaning (new .quoted) (take n (drop at h)) none in
       let own : length (take (e .idLength) (drop s h)) ≡ e .idLength = length-take (e .idLength) (drop s h) ∙ min-eq-left (rw (length-drop s h) (omega (arith, inside))) in
       let its : length (take n (drop at h)) ≡ n = length-take n (drop at h) ∙ min-eq-left (rw (length-drop at h) (omega (arith, there))) in
@@ -182,119 +302,290 @@ module _ (h : Bytes) (ns : List ℕ) (e : Entry) (away : isAhead h ns e ≡ fals
       false≢true (sym (or-r (not (leb (idEnd e) (length h))) _ rest-three) ∙ ap (isNoted ns) hash ∙ told)
 
 -- the ID of a new line, where it stands as those do that were looked for
-pub new-id : (h : Bytes) (from : ℕ) (e : Entry) → from ≤ e .start → isEnded h e ≡ true → NewId h from (idMeaning h e)
-unfolding idIn isEnded
-new-id h from e b d = record { at = e .start + e .offset; size = e .idLength; quoted = e .quoted; behind = omega arith; text = refl; ended = d }
+pub new-id : (h : Bytes) (from : ℕ) (e : Entry) → from ≤ e .start → (isOpened h e && isEnded h e) ≡ true → NewName isEnd h from (idMeaning h e)
+unfolding idIn isOpened isEnded
+new-id h from e b d =
+    let o = and-l (isOpened h e) (isEnded h e) d in
+    let some = leb-true 1 (e .offset) (and-l (leb 1 (e .offset)) _ o) in
+    let at : e .start + (e .offset - 1) + 1 ≡ e .start + e .offset = omega (arith, some) in
+    record {
+      at = e .start + (e .offset - 1);
+      size = e .idLength;
+      quoted = e .quoted;
+      behind = omega arith;
+      opened = and-r (leb 1 (e .offset)) _ o;
+      text = rw at;
+      ended = rw at (and-r (isOpened h e) (isEnded h e) d);
+    }
 
 -- What the code computes
 
-module _ (h : Bytes) (end : ℕ) (ns : List ℕ) {q : Bool} (eq : q ≡ isEnd (getD h end 0)) where
-  pub end-none : not q ≡ true → ns ≡ noteEnd h end ns
-  unfolding noteEnd
-  end-none e = rw (noteEnd, ← eq, not-true q e)
+turned-small : (a b : ℕ) → a < 2 ^ 57 → b < 128 → a * 128 + b < 2 ^ 64
+turned-small a b h l = omega arith
 
-  module _ (on : not q ≡ false) where
-    pub end-early : end < 8 → ns ≡ noteEnd h end ns
-    unfolding noteEnd
-    end-early l = rw (noteEnd, ← eq, not-false q on, lt-leb 8 end l)
+-- the bits that are turned are those of one number
+pub turned-fits : (run : ℕ) → run < 2 ^ 64 → run % 2 ^ 57 * 128 + run / 2 ^ 57 < 2 ^ 64
+turned-fits run h = turned-small (run % 2 ^ 57) (run / 2 ^ 57) (mod-lt run (omega arith)) (div-lt-iff-lt-mul {k = 2 ^ 57} (omega arith) .1 (omega arith))
 
-    pub end-noted : 8 ≤ end → {hash : ℕ} → hash ≡ tailHash h end → {ns′ : List ℕ} → ns′ ≡ note ns hash → ns′ ≡ noteEnd h end ns
-    unfolding noteEnd
-    end-noted l e f = f ∙ rw (noteEnd, ← eq, not-false q on, le-leb 8 end l, e)
+pub on-is : (run b : ℕ) → bitXor (run % 2 ^ 57 * 128 + run / 2 ^ 57) b ≡ runOn run b
+unfolding runOn
+on-is run b = refl
 
+module _ (run b : ℕ) {q : Bool} (eq : q ≡ isCut b) where
+  pub stepped-cut : q ≡ true → 0 ≡ runStep run b
+  stepped-cut e = sym (step-cut run b (sym eq ∙ e))
+
+  pub stepped-on : q ≡ false → {r : ℕ} → r ≡ runOn run b → r ≡ runStep run b
+  stepped-on e f = f ∙ sym (step-uncut run b (sym eq ∙ e))
+
+pub ruleset steps = (turned-fits, on-is, stepped-cut, stepped-on)
+
+-- the run of a text, of which k bytes were taken
+pub record Running (s : Bytes) (run k : ℕ) : Type 0 where
+  pub still : runFrom 0 s ≡ runFrom run (drop k s)
+
+pub running-start : (s : Bytes) → Running s 0 0
+running-start s = record { still = refl }
+
+module _ {s : Bytes} {run k : ℕ} (g : Running s run k) where
+  pub running-next : k < length s → {r : ℕ} → r ≡ runStep run (getD s k 0) → Running s r (k + 1)
+  unfolding runFrom
+  running-next l e = record { still = g .still ∙ rw (here s k l, e) }
+
+  pub running-end : length s ≤ k → run ≡ runFrom 0 s
+  unfolding runFrom
+  running-end l = sym (g .still ∙ rw (drop-of-length-le s {i = k} l))
+
+pub ruleset runnings = (running-start, running-next, running-end)
+
+-- that of a line's key
+pub record Keying (l : Bytes) (run k : ℕ) : Type 0 where
+  pub still : runFrom 0 (keyIn l) ≡ runFrom run (before (is EQUALS) (drop k l))
+
+pub keying-start : (l : Bytes) → Keying l 0 2
+keying-start l = record { still = refl }
+
+module _ {l : Bytes} {run k : ℕ} (g : Keying l run k) where
+  pub keying-hit : k < length l → getD l k 0 ≡ 61 → run ≡ runFrom 0 (keyIn l)
+  unfolding runFrom
+  keying-hit i e = sym (g .still ∙ rw (here l k i, before-hit (is EQUALS) (getD l k 0) (drop (k + 1) l) (eq-eqb (getD l k 0) 61 e)))
+
+  pub keying-next : k < length l → (getD l k 0 ≡ 61 → ⊥) → {r : ℕ} → r ≡ runStep run (getD l k 0) → Keying l r (k + 1)
+  unfolding runFrom
+  keying-next i n e = record { still = g .still ∙ rw (here l k i, before-miss (is EQUALS) (getD l k 0) (drop (k + 1) l) (ne-eqb (getD l k 0) 61 n), e) }
+
+  pub keying-end : length l ≤ k → run ≡ runFrom 0 (keyIn l)
+  unfolding runFrom before
+  keying-end i = sym (g .still ∙ rw (drop-of-length-le l {i = k} i))
+
+pub ruleset keyings = (keying-start, keying-hit, keying-next, keying-end)
+
+-- two bits
+module _ (ns : List ℕ) (run : ℕ) {o : ℕ} (eo : o ≡ wideStep run 0) where
+  pub run-noting : {ns′ : List ℕ} → ns′ ≡ note ns o → {t : ℕ} → t ≡ wideStep o 0 → {ns″ : List ℕ} → ns″ ≡ note ns′ t → ns″ ≡ noteRun ns run
+  unfolding noteRun
+  run-noting e f g = g ∙ rw (e, f, eo)
+
+  module _ {q : Bool} (a : q ≡ isNoted ns o) where
+    pub run-missed : not q ≡ true → false ≡ runNoted ns run
+    unfolding runNoted
+    run-missed n = rw (← eo, ← a, not-true q n)
+
+    pub run-looked : not q ≡ false → {t : ℕ} → t ≡ wideStep o 0 → {r : Bool} → r ≡ isNoted ns t → r ≡ runNoted ns run
+    unfolding runNoted
+    run-looked n f g = g ∙ rw (← eo, ← a, not-false q n, f)
+
+pub run-asked : (ns : List ℕ) {run of : ℕ} → run ≡ of → {r : Bool} → r ≡ runNoted ns run → r ≡ runNoted ns of
+run-asked ns e f = f ∙ ap (runNoted ns) e
+
+pub ruleset two-bits = (run-noting, run-missed, run-looked, run-asked)
+
+-- what is noted at a place
 module _ (h : Bytes) (end : ℕ) (ns : List ℕ) where
-  end-length : length (noteEnd h end ns) ≡ length ns
-  unfolding noteEnd
-  end-length = elim (test (isEnd (getD h end 0) && leb 8 end)) [
-    | pass e ↦ rw (noteEnd, e) (note-length ns (tailHash h end))
-    | fail e ↦ rw (noteEnd, e)
+  pub tail-early : end < 8 → ns ≡ noteTail h end ns
+  unfolding noteTail
+  tail-early l = rw (noteTail, lt-leb 8 end l)
+
+  pub tail-late : 8 ≤ end → {hash : ℕ} → hash ≡ tailHash h end → {ns′ : List ℕ} → ns′ ≡ note ns hash → ns′ ≡ noteTail h end ns
+  unfolding noteTail
+  tail-late l e f = f ∙ rw (noteTail, le-leb 8 end l, e)
+
+module _ (h : Bytes) (end run : ℕ) (ns : List ℕ) {b : ℕ} (eb : b ≡ getD h end 0) where
+  pub cut-key : b ≡ 61 → {ns′ : List ℕ} → ns′ ≡ noteRun ns run → ns′ ≡ noteCut h end run ns
+  unfolding noteCut
+  cut-key e f = f ∙ rw (noteCut, ← eb, eq-eqb b 61 e)
+
+  module _ (n : b ≡ 61 → ⊥) {q : Bool} (eq : q ≡ isEnd b) where
+    pub cut-none : not q ≡ true → ns ≡ noteCut h end run ns
+    unfolding noteCut
+    cut-none e = rw (noteCut, ← eb, ne-eqb b 61 n, ← eb, ← eq, not-true q e)
+
+    pub cut-id : not q ≡ false → {ns′ : List ℕ} → ns′ ≡ noteRun ns run → {ns″ : List ℕ} → ns″ ≡ noteTail h end ns′ → ns″ ≡ noteCut h end run ns
+    unfolding noteCut
+    cut-id e f g = g ∙ rw (noteCut, ← eb, ne-eqb b 61 n, ← eb, ← eq, not-false q e, f)
+
+pub ruleset notings-at = (tail-early, tail-late, cut-key, cut-none, cut-id)
+
+-- what was noted stays so, and the notes are as many
+record Kept (ns ns′ : List ℕ) : Type 0 where
+  long : length ns′ ≡ length ns
+  kept : (n : ℕ) → isNoted ns n ≡ true → isNoted ns′ n ≡ true
+
+kept-same : (ns : List ℕ) → Kept ns ns
+kept-same ns = record { long = refl; kept = λ n a. a }
+
+kept-note : (ns : List ℕ) (n : ℕ) → Kept ns (note ns n)
+kept-note ns n = record { long = note-length ns n; kept = note-kept ns n }
+
+kept-then : {xs ys zs : List ℕ} → Kept xs ys → Kept ys zs → Kept xs zs
+kept-then a b = record { long = b .long ∙ a .long; kept = λ n c. b .kept n (a .kept n c) }
+
+kept-run : (ns : List ℕ) (run : ℕ) → Kept ns (noteRun ns run)
+unfolding noteRun
+kept-run ns run = kept-then (kept-note ns (once run)) (kept-note (note ns (once run)) (twice run))
+
+kept-tail : (h : Bytes) (end : ℕ) (ns : List ℕ) → Kept ns (noteTail h end ns)
+unfolding noteTail
+kept-tail h end ns = elim (test (leb 8 end)) [ pass e ↦ rw (noteTail, e) (kept-note ns (tailHash h end)) | fail e ↦ rw (noteTail, e) (kept-same ns) ]
+
+kept-cut : (h : Bytes) (end run : ℕ) (ns : List ℕ) → Kept ns (noteCut h end run ns)
+unfolding noteCut
+kept-cut h end run ns = elim (test (is EQUALS (getD h end 0))) [
+  | pass e ↦ rw (noteCut, e) (kept-run ns run)
+  | fail e ↦ elim (test (isEnd (getD h end 0))) [
+    | pass f ↦ rw (noteCut, e, f) (kept-then (kept-run ns run) (kept-tail h end (noteRun ns run)))
+    | fail f ↦ rw (noteCut, e, f) (kept-same ns)
   ]
-
-  end-kept : (n : ℕ) → isNoted ns n ≡ true → isNoted (noteEnd h end ns) n ≡ true
-  unfolding noteEnd
-  end-kept n a = elim (test (isEnd (getD h end 0) && leb 8 end)) [
-    | pass e ↦ rw (noteEnd, e) (note-kept ns (tailHash h end) n a)
-    | fail e ↦ rw (noteEnd, e) a
-  ]
-
-  end-own : isEnd (getD h end 0) ≡ true → 8 ≤ end → isNoted (noteEnd h end ns) (tailHash h end) ≡ true
-  unfolding noteEnd
-  end-own e l = rw (noteEnd, e, le-leb 8 end l) (note-own ns (tailHash h end))
-
-pub end-long : (h : Bytes) (end : ℕ) (ns : List ℕ) {ns′ : List ℕ} → ns′ ≡ noteEnd h end ns → length ns′ ≡ length ns
-end-long h end ns e = ap length e ∙ end-length h end ns
-
-pub ruleset tails = (end-none, end-early, end-noted, end-long)
-
--- what was noted stays so
-ends-kept : (h : Bytes) (k n : ℕ) (ns : List ℕ) (m : ℕ) → isNoted ns m ≡ true → isNoted (noteEnds h k n ns) m ≡ true
-unfolding noteEnds
-ends-kept h k zero ns m a = a
-ends-kept h k (suc n) ns m a = ends-kept h (k + 1) n (noteEnd h k ns) m (end-kept h k ns m a)
-
-ends-noted : (h : Bytes) (k n : ℕ) (ns : List ℕ) (end : ℕ) → k ≤ end → end < k + n → isEnd (getD h end 0) ≡ true → 8 ≤ end → isNoted (noteEnds h k n ns) (tailHash h end) ≡ true
-unfolding noteEnds
-ends-noted h k zero ns end a b e l = absurd (omega arith)
-ends-noted h k (suc n) ns end a b e l = elim (test (eqb end k)) [
-  | pass f ↦
-      let i : k ≡ end = sym (eqb-true end k f) in
-      ends-kept h (k + 1) n (noteEnd h k ns) (tailHash h end) (subst (λ (x : ℕ). isNoted (noteEnd h x ns) (tailHash h end) ≡ true) (sym i) (end-own h end ns e l))
-  | fail f ↦ let i = eqb-false end k f in ends-noted h (k + 1) n (noteEnd h k ns) end (omega (arith, i)) (omega arith) e l
 ]
 
-pub noted : (h : Bytes) (from : ℕ) (ns : List ℕ) → hasEscape h from ≡ false → Noted h from (notesFrom h from ns)
-noted h from ns e = record { tails = λ end a b f. ends-noted h from (length h - from) ns end (omega arith) (omega arith) f (omega arith); plain = e }
+kept-cuts : (h : Bytes) (k n run : ℕ) (ns : List ℕ) → Kept ns (noteCuts h k n run ns)
+unfolding noteCuts
+kept-cuts h k zero run ns = kept-same ns
+kept-cuts h k (suc n) run ns = kept-then (kept-cut h k run ns) (kept-cuts h (k + 1) n (runStep run (getD h k 0)) (noteCut h k run ns))
+
+run-kept : {ns ns′ : List ℕ} → Kept ns ns′ → (run : ℕ) → runNoted ns run ≡ true → runNoted ns′ run ≡ true
+unfolding runNoted
+run-kept {ns} k run a = rw (k .kept (once run) (and-l (isNoted ns (once run)) _ a), k .kept (twice run) (and-r (isNoted ns (once run)) _ a))
+
+run-own : (ns : List ℕ) (run : ℕ) → runNoted (noteRun ns run) run ≡ true
+unfolding noteRun runNoted
+run-own ns run = rw (note-kept (note ns (once run)) (twice run) (once run) (note-own ns (once run)), note-own (note ns (once run)) (twice run))
+
+cut-own : (h : Bytes) (end run : ℕ) (ns : List ℕ) → (isEnd (getD h end 0) || is EQUALS (getD h end 0)) ≡ true → runNoted (noteCut h end run ns) run ≡ true
+unfolding noteCut
+cut-own h end run ns a = elim (test (is EQUALS (getD h end 0))) [
+  | pass e ↦ rw (noteCut, e) (run-own ns run)
+  | fail e ↦ elim (test (isEnd (getD h end 0))) [
+    | pass f ↦ rw (noteCut, e, f) (run-kept (kept-tail h end (noteRun ns run)) run (run-own ns run))
+    | fail f ↦ absurd (false≢true (rw (e, f) at a))
+  ]
+]
+
+end-equals : (b : ℕ) → isEnd b ≡ true → is EQUALS b ≡ false
+unfolding isEnd
+end-equals b e = elim (test (is EQUALS b)) [
+  | pass f ↦ let i = eqb-true b 61 f in absurd (false≢true (rw i at e))
+  | fail f ↦ f
+]
+
+tail-own : (h : Bytes) (end run : ℕ) (ns : List ℕ) → isEnd (getD h end 0) ≡ true → 8 ≤ end → isNoted (noteCut h end run ns) (tailHash h end) ≡ true
+unfolding noteCut noteTail
+tail-own h end run ns e l = rw (noteCut, end-equals (getD h end 0) e, e, noteTail, le-leb 8 end l) (note-own (noteRun ns run) (tailHash h end))
+
+module _ (h : Bytes) where
+  -- a text from k on, up to a byte that closes a name
+  text-noted : (size k n run : ℕ) (ns : List ℕ) → k + n ≤ length h → size < n → (isEnd (getD h (k + size) 0) || is EQUALS (getD h (k + size) 0)) ≡ true
+      → runNoted (noteCuts h k n run ns) (runFrom run (take size (drop k h))) ≡ true
+  unfolding noteCuts runFrom
+  text-noted size k zero run ns a b c = absurd (omega arith)
+  text-noted zero k (suc n) run ns a b c =
+      let i : k + 0 ≡ k = omega arith in
+      run-kept (kept-cuts h (k + 1) n (runStep run (getD h k 0)) (noteCut h k run ns)) run (cut-own h k run ns (rw i at c))
+  text-noted (suc size) k (suc n) run ns a b c =
+      let i : k + suc size ≡ k + 1 + size = omega arith in
+      rw (here h k (omega arith)) (text-noted size (k + 1) n (runStep run (getD h k 0)) (noteCut h k run ns) (omega arith) (omega arith) (rw i at c))
+
+  -- a name after a cut d bytes on
+  name-noted : (d k n run : ℕ) (ns : List ℕ) (size : ℕ) → k + n ≤ length h → d + 1 + size < n → isCut (getD h (k + d) 0) ≡ true
+      → (isEnd (getD h (k + d + 1 + size) 0) || is EQUALS (getD h (k + d + 1 + size) 0)) ≡ true → runNoted (noteCuts h k n run ns) (runFrom 0 (take size (drop (k + d + 1) h))) ≡ true
+  unfolding noteCuts
+  name-noted d k zero run ns size a b c e = absurd (omega arith)
+  name-noted zero k (suc n) run ns size a b c e =
+      let i : k + 0 ≡ k = omega arith in
+      rw (i, step-cut run (getD h k 0) (rw i at c)) (text-noted size (k + 1) n 0 (noteCut h k run ns) (omega arith) (omega arith) (rw i at e))
+  name-noted (suc d) k (suc n) run ns size a b c e =
+      let i : k + suc d ≡ k + 1 + d = omega arith in
+      rw i (name-noted d (k + 1) n (runStep run (getD h k 0)) (noteCut h k run ns) size (omega arith) (omega arith) (rw i at c) (rw i at e))
+
+  tail-noted : (k n run : ℕ) (ns : List ℕ) (end : ℕ) → k ≤ end → end < k + n → isEnd (getD h end 0) ≡ true → 8 ≤ end → isNoted (noteCuts h k n run ns) (tailHash h end) ≡ true
+  unfolding noteCuts
+  tail-noted k zero run ns end a b e l = absurd (omega arith)
+  tail-noted k (suc n) run ns end a b e l = elim (test (eqb end k)) [
+    | pass f ↦
+        let i : k ≡ end = sym (eqb-true end k f) in
+        kept-cuts h (k + 1) n (runStep run (getD h k 0)) (noteCut h k run ns) .kept (tailHash h end) (subst (λ (x : ℕ). isNoted (noteCut h x run ns) (tailHash h end) ≡ true) (sym i) (tail-own h end run ns e l))
+    | fail f ↦ let i = eqb-false end k f in tail-noted (k + 1) n (runStep run (getD h k 0)) (noteCut h k run ns) end (omega (arith, i)) (omega arith) e l
+  ]
+
+-- nothing closes a name past the header
+closed-inside : (h : Bytes) (n : ℕ) → (isEnd (getD h n 0) || is EQUALS (getD h n 0)) ≡ true → n < length h
+unfolding isEnd
+closed-inside h n e = elim (test (ltb n (length h))) [
+  | pass f ↦ ltb-true n (length h) f
+  | fail f ↦ absurd (false≢true (ap (λ (b : ℕ). isEnd b || is EQUALS b) (sym (List·getD-eq-default h 0 {n = n} (ltb-false n (length h) f))) ∙ e))
+]
+
+pub noted : (h : Bytes) (from : ℕ) (ns : List ℕ) → Noted h from (notesFrom h from ns)
+noted h from ns = record {
+  runs = λ at size a b c.
+      let l = closed-inside h (at + 1 + size) c in
+      let i : from + (at - from) ≡ at = omega arith in
+      let r = name-noted h (at - from) from (length h - from) 0 ns size (omega arith) (omega arith) (rw i b) (rw i c) in
+      rw i at r;
+  tails = λ end a b f. tail-noted h from (length h - from) 0 ns end (omega arith) (omega arith) f (omega arith);
+}
 
 -- the places before k were looked at
-pub record Looking (h : Bytes) (from : ℕ) (ns₀ ns : List ℕ) (k : ℕ) : Type 0 where
+pub record Looking (h : Bytes) (from : ℕ) (ns₀ ns : List ℕ) (run k : ℕ) : Type 0 where
   pub long : length ns ≡ length ns₀
-  pub inside : k ≤ length h
-  pub still : notesFrom h from ns₀ ≡ noteEnds h k (length h - k) ns
+  pub still : notesFrom h from ns₀ ≡ noteCuts h k (length h - k) run ns
 
--- q is whether a backslash was found
-module _ (h : Bytes) (from : ℕ) (ns : List ℕ) where
-  pub past-plain : length h ≤ from → true ≡ not (hasEscape h from)
-  unfolding any
-  past-plain l = rw (drop-of-length-le h {i = from} l)
+pub looking-start : (h : Bytes) (from : ℕ) (ns : List ℕ) → Looking h from ns ns 0 from
+looking-start h from ns = record { long = refl; still = refl }
 
-  pub past-notes : length h ≤ from → ns ≡ notesAhead h from ns
-  unfolding notesAhead noteEnds any
-  past-notes l = let none : length h - from ≡ 0 = omega arith in rw (notesAhead, drop-of-length-le h {i = from} l, none)
-
-  module _ (l : from < length h) {q : Bool} (a : q ≡ any (is BACKSLASH) (take (length h - from) (drop from h))) where
-    pub escape-is : q ≡ hasEscape h from
-    escape-is = a ∙ ap (any (is BACKSLASH)) (take-all (length h - from) (drop from h) (rw (length-drop from h) (omega arith)))
-
-    pub escaped-no : q ≡ true → false ≡ not (hasEscape h from)
-    escaped-no e = rw (← escape-is, e)
-
-    pub escaped-notes : q ≡ true → ns ≡ notesAhead h from ns
-    unfolding notesAhead
-    escaped-notes e = rw (notesAhead, ← escape-is, e)
-
-    pub plain-yes : q ≡ false → true ≡ not (hasEscape h from)
-    plain-yes e = rw (← escape-is, e)
-
-    pub looking-start : Looking h from ns ns from
-    looking-start = record { long = refl; inside = omega arith; still = refl }
-
-module _ {h : Bytes} {from : ℕ} {ns₀ ns : List ℕ} {k : ℕ} (g : Looking h from ns₀ ns k) where
+module _ {h : Bytes} {from : ℕ} {ns₀ ns : List ℕ} {run k : ℕ} (g : Looking h from ns₀ ns run k) where
   pub looking-long : length ns ≡ length ns₀
   looking-long = g .long
 
-  pub looking-next : k < length h → {ns′ : List ℕ} → ns′ ≡ noteEnd h k ns → Looking h from ns₀ ns′ (k + 1)
-  unfolding noteEnds
-  looking-next l e =
-      let more : length h - k ≡ suc (length h - (k + 1)) = omega arith in
-      record { long = end-long h k ns e ∙ g .long; inside = omega arith; still = g .still ∙ rw (more, e) }
+  module _ (l : k < length h) {q : Bool} (a : q ≡ isCut (getD h k 0)) where
+    more : notesFrom h from ns₀ ≡ noteCuts h (k + 1) (length h - (k + 1)) (runStep run (getD h k 0)) (noteCut h k run ns)
+    unfolding noteCuts
+    more = let i : length h - k ≡ suc (length h - (k + 1)) = omega arith in g .still ∙ rw i
 
-  pub looked-notes : length h ≤ k → from < length h → {q : Bool} → q ≡ any (is BACKSLASH) (take (length h - from) (drop from h)) → q ≡ false → ns ≡ notesAhead h from ns₀
-  unfolding notesAhead noteEnds
-  looked-notes l m a e =
-      let none : length h - k ≡ 0 = omega arith in
-      sym (rw (notesAhead, ← escape-is h from ns m a, e) (g .still ∙ rw none))
+    pub looking-cut : q ≡ true → {ns′ : List ℕ} → ns′ ≡ noteCut h k run ns → Looking h from ns₀ ns′ 0 (k + 1)
+    looking-cut e f = record {
+      long = ap length f ∙ kept-cut h k run ns .long ∙ g .long;
+      still = more ∙ rw (step-cut run (getD h k 0) (sym a ∙ e), f);
+    }
 
-pub ruleset lookings = (past-plain, past-notes, escaped-no, escaped-notes, plain-yes, looking-start, looking-next, looking-long, looked-notes, end-long)
+    pub looking-on : q ≡ false → {r : ℕ} → r ≡ runOn run (getD h k 0) → Looking h from ns₀ ns r (k + 1)
+    unfolding noteCut
+    looking-on e f =
+        let n = sym a ∙ e in
+        let none : noteCut h k run ns ≡ ns = rw (noteCut, uncut-equals (getD h k 0) n, uncut-end (getD h k 0) n) in
+        record { long = g .long; still = more ∙ rw (none, step-uncut run (getD h k 0) n, f) }
+
+  pub looked-notes : length h ≤ k → ns ≡ notesFrom h from ns₀
+  unfolding noteCuts
+  looked-notes l = let none : length h - k ≡ 0 = omega arith in sym (g .still ∙ rw none)
+
+pub looked-plain : (h : Bytes) (from : ℕ) {p : Bytes} → p ≡ take (length h) (drop from h) → {q : Bool} → q ≡ any (is BACKSLASH) p → not q ≡ not (hasEscape h from)
+looked-plain h from e f = ap not (f ∙ ap (any (is BACKSLASH)) (e ∙ take-all (length h) (drop from h) (rw (length-drop from h) (omega arith))))
+
+pub cut-long : (h : Bytes) (end run : ℕ) (ns : List ℕ) {ns′ : List ℕ} → ns′ ≡ noteCut h end run ns → length ns′ ≡ length ns
+cut-long h end run ns e = ap length e ∙ kept-cut h end run ns .long
+
+pub ruleset lookings = (looking-start, looking-long, looking-cut, looking-on, looked-notes, looked-plain, cut-long)
 
 -- whether an entry's ID lies in the header
 module _ (h : Bytes) (x : CodeEntry) where
@@ -358,31 +649,37 @@ module _ (h : Bytes) (ns : List ℕ) (x : CodeEntry) where
 pub ruleset aheads = (ahead-other, ahead-quoted, ahead-short, ahead-by-tail)
 
 -- the next one: those from the first on up to k need not be marked
-pub record Nexting (h : Bytes) (form : Form) (t ns : List ℕ) (first k : ℕ) : Type 0 where
+pub record Nexting (h : Bytes) (form : Form) (t : List ℕ) (plain : Bool) (ns : List ℕ) (first k : ℕ) : Type 0 where
+  pub plain-is : plain ≡ true
   pub later : first ≤ k
-  pub spared : (n : ℕ) → first ≤ n → n < k → isAhead h ns (entryIn form t n) ≡ false
+  pub spared : (n : ℕ) → first ≤ n → n < k → isNear h plain ns (entryIn form t n) ≡ false
 
-pub next-start : (h : Bytes) (form : Form) (t ns : List ℕ) (k : ℕ) → Nexting h form t ns k k
-next-start h form t ns k = record { later = omega arith; spared = λ n a b. absurd (omega arith) }
+module _ (h : Bytes) (form : Form) (t : List ℕ) (plain : Bool) (ns : List ℕ) (k : ℕ) where
+  pub next-any : not plain ≡ true → NextNear h form t plain ns k k
+  next-any p = record { later = omega arith; spared = λ n a b. absurd (omega arith); stops = λ i. rw p }
 
-module _ {h : Bytes} {form : Form} {t ns : List ℕ} {first k : ℕ} (g : Nexting h form t ns first k) where
-  pub next-none : {m : ℕ} → m ≡ room form t → m ≤ k → NextAhead h form t ns first k
+  pub next-start : not plain ≡ false → Nexting h form t plain ns k k
+  next-start p = record { plain-is = not-false plain p; later = omega arith; spared = λ n a b. absurd (omega arith) }
+
+module _ {h : Bytes} {form : Form} {t : List ℕ} {plain : Bool} {ns : List ℕ} {first k : ℕ} (g : Nexting h form t plain ns first k) where
+  pub next-none : {m : ℕ} → m ≡ room form t → m ≤ k → NextNear h form t plain ns first k
   next-none em l = record { later = g .later; spared = g .spared; stops = λ i. absurd (omega arith) }
 
   module _ {e : CodeEntry} (ee : entryOf e ≡ entryIn form t k) {q : Bool} (eq : q ≡ isAhead h ns (entryOf e)) where
-    asked : q ≡ isAhead h ns (entryIn form t k)
-    asked = eq ∙ ap (isAhead h ns) ee
+    asked : isNear h plain ns (entryIn form t k) ≡ q
+    asked = rw (g .plain-is, ← ee) (sym eq)
 
-    pub next-found : q ≡ true → NextAhead h form t ns first k
-    next-found f = record { later = g .later; spared = g .spared; stops = λ i. sym asked ∙ f }
+    pub next-found : q ≡ true → NextNear h form t plain ns first k
+    next-found f = record { later = g .later; spared = g .spared; stops = λ i. asked ∙ f }
 
-    pub next-away : q ≡ false → Nexting h form t ns first (k + 1)
+    pub next-away : q ≡ false → Nexting h form t plain ns first (k + 1)
     next-away f = record {
+      plain-is = g .plain-is;
       later = omega (arith, g .later);
       spared = λ n a b. elim (test (eqb n k)) [
-        | pass i ↦ rw (eqb-true n k i) (sym asked ∙ f)
+        | pass i ↦ rw (eqb-true n k i) (asked ∙ f)
         | fail i ↦ g .spared n a (omega (arith, eqb-false n k i))
       ];
     }
 
-pub ruleset nexts = (next-start, next-none, next-found, next-away)
+pub ruleset nexts = (next-any, next-start, next-none, next-found, next-away)

@@ -5,13 +5,14 @@ use mathlib.Core.Path.{_≡_, refl, sym, ap, subst, _∙_}
 use mathlib.Core.Bool.{Bool, true, false, not, _&&_, _||_, false≢true}
 use mathlib.Core.List.{List, [], _∷_, _++_, append-assoc}
 use lib.Dec.{eqb, leb, ltb}
-use lib.ListN.{length, drop, take, replicate}
-use borrow.Author.Tests.{eqb-true, eqb-false, ltb-true, ltb-false, leb-true, leb-false, lt-leb, lt-ltb, le-ltb, ne-eqb}
-use Rattle.values.specs.Bytes.{Bytes, is, any, before, starts, same}
+use lib.ListN.{length, drop, getD, take, take-append-drop, length-append}
+use lib.Seq.{take-at, drop-drop, take-append-seam, getD-drop, getD-append-seam}
+use borrow.Author.Tests.{eqb-true, eqb-false, ltb-true, ltb-false, leb-true, leb-false, lt-leb, lt-ltb, le-ltb, ne-eqb, eq-eqb}
+use Rattle.values.specs.Bytes.{Bytes, is, any, before, starts, same, EQUALS}
 use Rattle.values.specs.Value.{meaning}
 use Rattle.values.specs.Hash.{wideBasis, wideStep, wideFrom}
 use Rattle.values.specs.Marks.{isMet, meet}
-use Rattle.values.proofs.Tests.{pass, fail, test, and-l, and-r, not-true, not-false}
+use Rattle.values.proofs.Tests.{pass, fail, test, or-l, or-r, and-l, and-r, not-true, not-false}
 use Rattle.values.proofs.Sames.{same-sound}
 use Rattle.values.proofs.Lists.{before-none, before-stop}
 use Rattle.values.proofs.Fields.{before-part}
@@ -24,22 +25,22 @@ use Rattle.entries.specs.Values.{entryOf}
 use Rattle.entries.specs.declared.form.Form.{Form}
 use Rattle.entries.specs.Tables.{room, entriesIn, entryIn}
 use Rattle.entries.proofs.Stored.{entries-here, entries-past}
-use Rattle.ids.specs.Clashes.{prefixOf, hasKey, keySeen, isOfKey, isOfId, idSeen, clashBy, clashIn}
-use Rattle.ids.specs.Marks.{keyHash, underHash, idHash, markUnder, markEntry, markAll, Marked, MarkedFrom, markNoted, markBy, isFar, notesRoom, markAhead, keyFound, idFound, clashFound}
-use Rattle.ids.specs.Ahead.{isEnded, NewId, hasEscape, notesFrom, notesAhead, isAhead, NextAhead}
+use Rattle.ids.specs.Clashes.{prefixOf, Prefixes, hasKey, keySeen, isOfKey, isOfId, idSeen, clashBy, clashIn}
+use Rattle.ids.specs.Marks.{keyHash, prefixHash, underHash, idHash, markUnder, markEntry, Marked, MarkedFrom, markId, markKey, markMap, markNames, markNoted, isFar, AheadMarked, keyFound, idFound, clashFound}
+use Rattle.ids.specs.Ahead.{isEnd, isCut, isOpened, isEnded, NewName, runFrom, runNoted, hasEscape, notesFrom, isNear, NextNear}
 use Rattle.ids.proofs.Seen.{met-by}
-use Rattle.ids.proofs.Aheads.{new-id, Noted, noted, away-kind, away-from}
+use Rattle.ids.proofs.Aheads.{new-id, Noted, noted, run-away, away-kind, away-from}
 use Rattle.rules.specs.Claims.{All, keyIn}
 use Rattle.rules.proofs.Records.{starts-is}
 
 -- What is marked stays so
 
-pub entry-length : (h : Bytes) (e : Entry) (ms : List ℕ) → length (markEntry h e ms) ≡ length ms
+pub under-length : (h : Bytes) (key : ℕ) (e : Entry) (ms : List ℕ) → length (markUnder h key e ms) ≡ length ms
 unfolding markUnder
-entry-length h e ms = elim (test (ltb (e .kind) 7)) [
+under-length h key e ms = elim (test (ltb (e .kind) 7)) [
   | pass l ↦ rw (markUnder, l) (meet-length ms _)
   | fail l ↦ elim (test (eqb (e .kind) 7)) [
-    | pass k ↦ rw (markUnder, l, k) (meet-length (meet ms (idHash (keyHash h e) (e .kind) (idMeaning h e))) _ ∙ meet-length ms _)
+    | pass k ↦ rw (markUnder, l, k) (meet-length (meet ms (idHash key (e .kind) (idMeaning h e))) _ ∙ meet-length ms _)
     | fail k ↦ rw (markUnder, l, k) (meet-length ms _)
   ]
 ]
@@ -60,11 +61,11 @@ entry-own h e ms =
       ]
     ]
 
-one-kept : (h : Bytes) (e : Entry) (ms : List ℕ) (hash : ℕ) → isMet ms hash ≡ true → isMet (markEntry h e ms) hash ≡ true
+one-kept : (h : Bytes) (key : ℕ) (e : Entry) (ms : List ℕ) (hash : ℕ) → isMet ms hash ≡ true → isMet (markUnder h key e ms) hash ≡ true
 unfolding markUnder
-one-kept h e ms hash a =
-    let i = idHash (keyHash h e) (e .kind) (idMeaning h e) in
-    let u = underHash (keyHash h e) (e .kind) in
+one-kept h key e ms hash a =
+    let i = idHash key (e .kind) (idMeaning h e) in
+    let u = underHash key (e .kind) in
     elim (test (ltb (e .kind) 7)) [
       | pass l ↦ rw (markUnder, l) (meet-kept ms i hash a)
       | fail l ↦ elim (test (eqb (e .kind) 7)) [
@@ -75,38 +76,21 @@ one-kept h e ms hash a =
 
 -- what is marked is so whatever stands ahead
 pub marked-from : (h : Bytes) (from : ℕ) (ms : List ℕ) (e : Entry) → Marked h ms e → MarkedFrom h from ms e
-marked-from h from ms e m = record { id = λ a b n. m .id a b; key = m .key }
+marked-from h from ms e m = record { id = λ a b k n. m .id a b; key = λ a b n. m .key a b }
 
--- and so are those that were
-from-kept : (h : Bytes) (from : ℕ) (e : Entry) (ms : List ℕ) (x : Entry) → MarkedFrom h from ms x → MarkedFrom h from (markEntry h e ms) x
-from-kept h from e ms x m = record { id = λ b c n. one-kept h e ms _ (m .id b c n); key = λ b c. one-kept h e ms _ (m .key b c) }
+-- where all that was met is so still
+kept-from : (h : Bytes) (from : ℕ) (ms ms′ : List ℕ) → ((hash : ℕ) → isMet ms hash ≡ true → isMet ms′ hash ≡ true) → (es : List Entry) → All (MarkedFrom h from ms) es → All (MarkedFrom h from ms′) es
+kept-from h from ms ms′ f [] a = tt
+kept-from h from ms ms′ f (x ∷ es) a = (record { id = λ b c k n. f _ (a .0 .id b c k n); key = λ b c n. f _ (a .0 .key b c n) }, kept-from h from ms ms′ f es (a .1))
 
-pub all-kept : (h : Bytes) (from : ℕ) (e : Entry) (ms : List ℕ) (es : List Entry) → All (MarkedFrom h from ms) es → All (MarkedFrom h from (markEntry h e ms)) es
-all-kept h from e ms [] a = tt
-all-kept h from e ms (x ∷ es) a = (from-kept h from e ms x (a .0), all-kept h from e ms es (a .1))
-
--- all that are marked one after the other
-all-length : (h : Bytes) (es : List Entry) (ms : Bytes) → length (markAll h es ms) ≡ length ms
-unfolding markAll
-all-length h [] ms = refl
-all-length h (e ∷ es) ms = all-length h es (markEntry h e ms) ∙ entry-length h e ms
-
-still-marked : (h : Bytes) (from : ℕ) (es fs : List Entry) (ms : Bytes) → All (MarkedFrom h from ms) fs → All (MarkedFrom h from (markAll h es ms)) fs
-unfolding markAll
-still-marked h from [] fs ms a = a
-still-marked h from (e ∷ es) fs ms a = still-marked h from es fs (markEntry h e ms) (all-kept h from e ms fs a)
-
-all-marked : (h : Bytes) (from : ℕ) (es : List Entry) (ms : Bytes) → All (MarkedFrom h from (markAll h es ms)) es
-unfolding markAll
-all-marked h from [] ms = tt
-all-marked h from (e ∷ es) ms =
-    (still-marked h from es (e ∷ []) (markEntry h e ms) (marked-from h from (markEntry h e ms) e (entry-own h e ms), tt) .0, all-marked h from es (markEntry h e ms))
+pub under-kept : (h : Bytes) (from key : ℕ) (e : Entry) (ms : List ℕ) (es : List Entry) → All (MarkedFrom h from ms) es → All (MarkedFrom h from (markUnder h key e ms)) es
+under-kept h from key e ms = kept-from h from ms (markUnder h key e ms) (one-kept h key e ms)
 
 -- where there are no marks, all may have been met
 pub unmarked-all : (h : Bytes) (from : ℕ) (es : List Entry) (ms : Bytes) → length ms ≡ 0 → All (MarkedFrom h from ms) es
 unfolding isMet
 unmarked-all h from [] ms z = tt
-unmarked-all h from (e ∷ es) ms z = (record { id = λ a b n. rw z; key = λ a b. rw z }, unmarked-all h from es ms z)
+unmarked-all h from (e ∷ es) ms z = (record { id = λ a b k n. rw z; key = λ a b n. rw z }, unmarked-all h from es ms z)
 
 -- What the scans find is marked
 
@@ -126,17 +110,34 @@ module _ (h : Bytes) (e : Entry) where
   unfolding keyHash
   hash-other l = rw (keyHash, le-ltb (e .kind) 7 l)
 
+-- the hash by a line's `##key=` is that of its key
+pub prefix-own : (h prefix : Bytes) (e : Entry) → prefix ≡ prefixOf (keyIn (lineIn h e)) → prefixHash prefix (e .kind) ≡ keyHash h e
+unfolding prefixHash keyHash
+prefix-own h prefix e own = elim (test (ltb (e .kind) 7)) [
+  | pass l ↦ rw (prefixHash, keyHash, l)
+  | fail l ↦
+      let k = keyIn (lineIn h e) in
+      let n : length prefix ≡ 2 + length k + 1 = ap length own ∙ rw (length-append k (61 ∷ [])) (omega arith) in
+      let m : length prefix - 1 - 2 ≡ length k = omega arith in
+      rw (prefixHash, keyHash, l, le-ltb (length prefix) 3 (omega arith), m, own) (ap (wideFrom wideBasis) (take-at k (61 ∷ []) (length k) refl))
+]
+
 either-way : (b : Bool) → (b || true) ≡ true
 either-way true = refl
 either-way false = refl
 
 -- e is the new entry, whose line begins with the prefix
 module _ (h : Bytes) (from : ℕ) (ms : List ℕ) (prefix : Bytes) (e : Entry) (own : prefix ≡ prefixOf (keyIn (lineIn h e))) where
+  key-is : (x : Entry) → starts prefix (lineIn h x) ≡ true → keyIn (lineIn h x) ≡ keyIn (lineIn h e)
+  key-is x s = key-own (keyIn (lineIn h e)) (lineIn h x) (before-none (is 61) (drop 2 (lineIn h e))) (ap (λ (p : Bytes). starts p (lineIn h x)) (sym own) ∙ s)
+
   same-key : 7 ≤ e .kind → (x : Entry) → 7 ≤ x .kind → starts prefix (lineIn h x) ≡ true → keyHash h x ≡ keyHash h e
-  same-key l x m s =
-      sym (hash-other h x m)
-      ∙ ap (wideFrom wideBasis) (key-own (keyIn (lineIn h e)) (lineIn h x) (before-none (is 61) (drop 2 (lineIn h e))) (ap (λ (p : Bytes). starts p (lineIn h x)) (sym own) ∙ s))
-      ∙ hash-other h e l
+  same-key l x m s = sym (hash-other h x m) ∙ ap (wideFrom wideBasis) (key-is x s) ∙ hash-other h e l
+
+  -- the key of an entry stands ahead where the new one's does
+  key-there : (x : Entry) → x .kind ≡ e .kind → isOfKey h prefix (e .kind) x ≡ true → (7 ≤ e .kind → NewName (is EQUALS) h from (keyIn (lineIn h e))) → 7 ≤ x .kind → NewName (is EQUALS) h from (keyIn (lineIn h x))
+  unfolding isOfKey
+  key-there x k u w l = subst (NewName (is EQUALS) h from) (sym (key-is x (rw (le-ltb (e .kind) 7 (omega arith)) at u))) (w (omega arith))
 
   same-id-key : (x : Entry) → x .kind ≡ e .kind → isOfKey h prefix (e .kind) x ≡ true → keyHash h x ≡ keyHash h e
   unfolding isOfKey
@@ -145,42 +146,70 @@ module _ (h : Bytes) (from : ℕ) (ms : List ℕ) (prefix : Bytes) (e : Entry) (
     | fail l ↦ let t = ltb-false (e .kind) 7 l in same-key t x (omega arith) (rw l at u)
   ]
 
-  key-marked : 7 ≤ e .kind → (kind : ℕ) → 7 ≤ kind → kind ≤ 8 → (es : List Entry) → All (MarkedFrom h from ms) es → keySeen h prefix kind es ≡ true → isMet ms (underHash (keyHash h e) kind) ≡ true
+  key-marked : 7 ≤ e .kind → NewName (is EQUALS) h from (keyIn (lineIn h e)) → (kind : ℕ) → 7 ≤ kind → kind ≤ 8 → (es : List Entry) → All (MarkedFrom h from ms) es
+      → keySeen h prefix kind es ≡ true → isMet ms (underHash (keyHash h e) kind) ≡ true
   unfolding keySeen hasKey
-  key-marked o kind l m [] a f = absurd (false≢true f)
-  key-marked o kind l m (x ∷ es) a f = elim (test (hasKey h prefix kind x)) [
+  key-marked o w kind l m [] a f = absurd (false≢true f)
+  key-marked o w kind l m (x ∷ es) a f = elim (test (hasKey h prefix kind x)) [
     | pass g ↦
         let k = eqb-true (x .kind) kind (and-l (eqb (x .kind) kind) (starts prefix (lineIn h x)) g) in
-        let b = same-key o x (omega arith) (and-r (eqb (x .kind) kind) (starts prefix (lineIn h x)) g) in
-        subst (λ (c : ℕ). isMet ms (underHash c kind) ≡ true) b (subst (λ (n : ℕ). isMet ms (underHash (keyHash h x) n) ≡ true) k (a .0 .key (omega arith) (omega arith)))
-    | fail g ↦ key-marked o kind l m es (a .1) (rw g at f)
+        let s = and-r (eqb (x .kind) kind) (starts prefix (lineIn h x)) g in
+        let y = a .0 .key (omega arith) (omega arith) (subst (NewName (is EQUALS) h from) (sym (key-is x s)) w) in
+        subst (λ (c : ℕ). isMet ms (underHash c kind) ≡ true) (same-key o x (omega arith) s) (subst (λ (n : ℕ). isMet ms (underHash (keyHash h x) n) ≡ true) k y)
+    | fail g ↦ key-marked o w kind l m es (a .1) (rw g at f)
   ]
 
-  id-marked : 2 ≤ e .kind → e .kind ≤ 7 → NewId h from (idMeaning h e) → (es : List Entry) → All (MarkedFrom h from ms) es → idSeen h prefix (e .kind) (idMeaning h e) es ≡ true → isMet ms (idHash (keyHash h e) (e .kind) (idMeaning h e)) ≡ true
+  id-marked : 2 ≤ e .kind → e .kind ≤ 7 → (7 ≤ e .kind → NewName (is EQUALS) h from (keyIn (lineIn h e))) → NewName isEnd h from (idMeaning h e) → (es : List Entry) → All (MarkedFrom h from ms) es → idSeen h prefix (e .kind) (idMeaning h e) es ≡ true → isMet ms (idHash (keyHash h e) (e .kind) (idMeaning h e)) ≡ true
   unfolding idSeen isOfId
-  id-marked n l w [] a f = absurd (false≢true f)
-  id-marked n l w (x ∷ es) a f = elim (test (isOfId h prefix (e .kind) (idMeaning h e) x)) [
+  id-marked n l v w [] a f = absurd (false≢true f)
+  id-marked n l v w (x ∷ es) a f = elim (test (isOfId h prefix (e .kind) (idMeaning h e) x)) [
     | pass g ↦
         let k = eqb-true (x .kind) (e .kind) (and-l (eqb (x .kind) (e .kind)) (isOfKey h prefix (e .kind) x && same (idMeaning h x) (idMeaning h e)) g) in
         let r = and-r (eqb (x .kind) (e .kind)) (isOfKey h prefix (e .kind) x && same (idMeaning h x) (idMeaning h e)) g in
-        let b = same-id-key x k (and-l (isOfKey h prefix (e .kind) x) (same (idMeaning h x) (idMeaning h e)) r) in
+        let o = and-l (isOfKey h prefix (e .kind) x) (same (idMeaning h x) (idMeaning h e)) r in
+        let b = same-id-key x k o in
         let i = same-sound (idMeaning h x) (idMeaning h e) (and-r (isOfKey h prefix (e .kind) x) (same (idMeaning h x) (idMeaning h e)) r) in
         subst (λ (c : ℕ). isMet ms (idHash c (e .kind) (idMeaning h e)) ≡ true) b
         (subst (λ (n : ℕ). isMet ms (idHash (keyHash h x) n (idMeaning h e)) ≡ true) k
-        (subst (λ (y : Bytes). isMet ms (idHash (keyHash h x) (x .kind) y) ≡ true) i (a .0 .id (omega arith) (omega arith) (subst (NewId h from) (sym i) w))))
-    | fail g ↦ id-marked n l w es (a .1) (rw g at f)
+        (subst (λ (y : Bytes). isMet ms (idHash (keyHash h x) (x .kind) y) ≡ true) i (a .0 .id (omega arith) (omega arith) (key-there x k o v) (subst (NewName isEnd h from) (sym i) w))))
+    | fail g ↦ id-marked n l v w es (a .1) (rw g at f)
   ]
 
-  key-sure : 7 ≤ e .kind → (kind : ℕ) → 7 ≤ kind → kind ≤ 8 → (es : List Entry) → All (MarkedFrom h from ms) es → keyFound h es ms prefix (keyHash h e) kind ≡ keySeen h prefix kind es
+  key-sure : 7 ≤ e .kind → NewName (is EQUALS) h from (keyIn (lineIn h e)) → (kind : ℕ) → 7 ≤ kind → kind ≤ 8 → (es : List Entry) → All (MarkedFrom h from ms) es
+      → keyFound h es ms prefix (keyHash h e) kind ≡ keySeen h prefix kind es
   unfolding keyFound
-  key-sure o kind l m es a = sure (isMet ms (underHash (keyHash h e) kind)) (keySeen h prefix kind es) (key-marked o kind l m es a)
+  key-sure o w kind l m es a = sure (isMet ms (underHash (keyHash h e) kind)) (keySeen h prefix kind es) (key-marked o w kind l m es a)
 
-  id-sure : 2 ≤ e .kind → e .kind ≤ 7 → from ≤ e .start → (es : List Entry) → All (MarkedFrom h from ms) es → idFound h es ms prefix (keyHash h e) e ≡ idSeen h prefix (e .kind) (idMeaning h e) es
+  id-sure : 2 ≤ e .kind → e .kind ≤ 7 → (7 ≤ e .kind → NewName (is EQUALS) h from (keyIn (lineIn h e))) → from ≤ e .start → (es : List Entry) → All (MarkedFrom h from ms) es → idFound h es ms prefix (keyHash h e) e ≡ idSeen h prefix (e .kind) (idMeaning h e) es
   unfolding idFound
-  id-sure n l b es a = sure (isMet ms (idHash (keyHash h e) (e .kind) (idMeaning h e)) || not (isEnded h e)) (idSeen h prefix (e .kind) (idMeaning h e) es) (λ f. elim (test (isEnded h e)) [
-    | pass d ↦ rw (d, id-marked n l (new-id h from e b d) es a f)
+  id-sure n l v b es a = sure (isMet ms (idHash (keyHash h e) (e .kind) (idMeaning h e)) || not (isOpened h e && isEnded h e)) (idSeen h prefix (e .kind) (idMeaning h e) es) (λ f. elim (test (isOpened h e && isEnded h e)) [
+    | pass d ↦ rw (d, id-marked n l v (new-id h from e b d) es a f)
     | fail d ↦ rw d (either-way (isMet ms (idHash (keyHash h e) (e .kind) (idMeaning h e))))
   ])
+
+-- the key of a new line, which begins with its prefix
+new-key : (h : Bytes) (from : ℕ) (e : Entry) → from ≤ e .start → starts (prefixOf (keyIn (lineIn h e))) (lineIn h e) ≡ true → NewName (is EQUALS) h from (keyIn (lineIn h e))
+unfolding lineIn isCut isEnd
+new-key h from e b s =
+    let l = lineIn h e in
+    let k = keyIn l in
+    let r = drop (length (prefixOf k)) l in
+    let y = drop (e .length) (drop (e .start) h) in
+    let whole : drop (e .start) h ≡ prefixOf k ++ (r ++ y)
+    = sym (take-append-drop (e .length) (drop (e .start) h)) ∙ ap (_++ y) (starts-is (prefixOf k) l s) ∙ append-assoc (prefixOf k) r y in
+    let two : e .start + 1 + 1 ≡ e .start + 2 = omega arith in
+    let rest : drop (e .start + 1 + 1) h ≡ k ++ 61 ∷ (r ++ y) = rw two (sym (drop-drop 2 (e .start) h)) ∙ ap (drop 2) whole ∙ append-assoc k (61 ∷ []) (r ++ y) in
+    let hash : getD h (e .start + 1) 0 ≡ 35 = sym (getD-drop (e .start) h 1 0) ∙ ap (λ (x : Bytes). getD x 1 0) whole in
+    let end : getD h (e .start + 1 + 1 + length k) 0 ≡ 61 = sym (getD-drop (e .start + 1 + 1) h (length k) 0) ∙ ap (λ (x : Bytes). getD x (length k) 0) rest ∙ getD-append-seam k 61 (r ++ y) 0 in
+    record {
+      at = e .start + 1;
+      size = length k;
+      quoted = false;
+      behind = omega arith;
+      opened = ap isCut hash;
+      text = sym (ap (take (length k)) rest ∙ take-append-seam k (61 ∷ (r ++ y)));
+      ended = ap (is EQUALS) end;
+    }
 
 -- of a typed kind no key is asked for
 typed-only : (kind : ℕ) (i m n x y : Bool) → kind < 7 → clashBy kind i m x ≡ clashBy kind i n y
@@ -193,19 +222,21 @@ unfolding clashBy
 other-clash kind i j m x l = rw (clashBy, le-ltb kind 7 (omega arith), ne-eqb kind 7 (λ k. omega arith))
 
 -- where all entries are marked that it may clash with, what is not marked is not among them
-pub clash-sure : (h : Bytes) (from : ℕ) (es : List Entry) (ms : List ℕ) (prefix : Bytes) (e : Entry) → prefix ≡ prefixOf (keyIn (lineIn h e)) → 2 ≤ e .kind → from ≤ e .start
-    → All (MarkedFrom h from ms) es → clashFound h es ms prefix e ≡ clashIn h es prefix e
-clash-sure h from es ms prefix e own n b a = elim (test (ltb (e .kind) 7)) [
-  | pass l ↦ let t = ltb-true (e .kind) 7 l in rw (id-sure h from ms prefix e own n (omega arith) b es a) (typed-only (e .kind) _ _ _ _ _ t)
-  | fail l ↦
-      let t = ltb-false (e .kind) 7 l in
-      let u = key-sure h from ms prefix e own t textKind (omega arith) (omega arith) es a in
-      let m = key-sure h from ms prefix e own t (mapKind other) (omega arith) (omega arith) es a in
-      elim (test (leb (e .kind) 7)) [
-        | pass q ↦ rw (id-sure h from ms prefix e own n (leb-true (e .kind) 7 q) b es a, u, m)
-        | fail q ↦ rw (u, m) (other-clash (e .kind) _ _ _ _ (omega (arith, leb-false (e .kind) 7 q)))
-      ]
-]
+pub clash-sure : (h : Bytes) (from : ℕ) (es : List Entry) (ms : List ℕ) (prefix : Bytes) (e : Entry) → Prefixes prefix (lineIn h e) → 2 ≤ e .kind
+    → from ≤ e .start → All (MarkedFrom h from ms) es → clashFound h es ms prefix e ≡ clashIn h es prefix e
+clash-sure h from es ms prefix e own n b a =
+    let w = new-key h from e b (ap (λ (p : Bytes). starts p (lineIn h e)) (sym (own .key)) ∙ own .first) in
+    elim (test (ltb (e .kind) 7)) [
+      | pass l ↦ let t = ltb-true (e .kind) 7 l in rw (id-sure h from ms prefix e (own .key) n (omega arith) (λ m. w) b es a) (typed-only (e .kind) _ _ _ _ _ t)
+      | fail l ↦
+          let t = ltb-false (e .kind) 7 l in
+          let u = key-sure h from ms prefix e (own .key) t w textKind (omega arith) (omega arith) es a in
+          let m = key-sure h from ms prefix e (own .key) t w (mapKind other) (omega arith) (omega arith) es a in
+          elim (test (leb (e .kind) 7)) [
+            | pass q ↦ rw (id-sure h from ms prefix e (own .key) n (leb-true (e .kind) 7 q) (λ m. w) b es a, u, m)
+            | fail q ↦ rw (u, m) (other-clash (e .kind) _ _ _ _ (omega (arith, leb-false (e .kind) 7 q)))
+          ]
+    ]
 
 -- What the code computes
 
@@ -234,6 +265,14 @@ not-same true false e = absurd (false≢true e)
 not-same false true e = absurd (false≢true (sym e))
 not-same false false e = refl
 
+not-no : (b : Bool) → true ≡ not b → b ≡ false
+not-no true e = e
+not-no false e = refl
+
+not-no′ : (b : Bool) → not b ≡ false → b ≡ true
+not-no′ true e = refl
+not-no′ false e = sym e
+
 not-not : (b : Bool) → b ≡ not (not b)
 not-not true = refl
 not-not false = refl
@@ -250,9 +289,9 @@ module _ (h : Bytes) (es : List Entry) (ms : List ℕ) (prefix : Bytes) (key kin
 
 -- m is what the marks answered, q whether that settles it
 module _ (h : Bytes) (es : List Entry) (ms : List ℕ) (prefix : Bytes) (key : ℕ) (x : CodeEntry) {hash : ℕ} (eh : hash ≡ idHash key (x .kind) (idMeaning h (entryOf x))) {m : Bool} (e : m ≡ isMet ms hash)
-    {q : Bool} (d : q ≡ not (m || not (isEnded h (entryOf x)))) where
-  told : {b : Bool} → q ≡ not b → (isMet ms (idHash key (x .kind) (idMeaning h (entryOf x))) || not (isEnded h (entryOf x))) ≡ b
-  told {b} f = rw (← eh, ← e) (not-same (m || not (isEnded h (entryOf x))) b (sym d ∙ f))
+    {q : Bool} (d : q ≡ not (m || not (isOpened h (entryOf x) && isEnded h (entryOf x)))) where
+  told : {b : Bool} → q ≡ not b → (isMet ms (idHash key (x .kind) (idMeaning h (entryOf x))) || not (isOpened h (entryOf x) && isEnded h (entryOf x))) ≡ b
+  told {b} f = rw (← eh, ← e) (not-same (m || not (isOpened h (entryOf x) && isEnded h (entryOf x))) b (sym d ∙ f))
 
   pub id-unmarked : q ≡ true → false ≡ idFound h es ms prefix key (entryOf x)
   unfolding idFound
@@ -263,11 +302,11 @@ module _ (h : Bytes) (es : List Entry) (ms : List ℕ) (prefix : Bytes) (key : �
   unfolding idFound
   id-looked f ep g = g ∙ rw (ep, told {b = true} f)
 
-pub free-met : (h : Bytes) (x : CodeEntry) {m : Bool} → m ≡ true → false ≡ not (m || not (isEnded h (entryOf x)))
+pub free-met : (h : Bytes) (x : CodeEntry) {m : Bool} → m ≡ true → false ≡ not (m || not (isOpened h (entryOf x) && isEnded h (entryOf x)))
 free-met h x e = rw e
 
-pub free-ended : (h : Bytes) (x : CodeEntry) {m : Bool} → m ≡ false → {r : Bool} → r ≡ isEnded h (entryOf x) → r ≡ not (m || not (isEnded h (entryOf x)))
-free-ended h x e f = f ∙ rw e (not-not (isEnded h (entryOf x)))
+pub free-ended : (h : Bytes) (x : CodeEntry) {m : Bool} → m ≡ false → {r : Bool} → r ≡ (isOpened h (entryOf x) && isEnded h (entryOf x)) → r ≡ not (m || not (isOpened h (entryOf x) && isEnded h (entryOf x)))
+free-ended h x e f = f ∙ rw e (not-not (isOpened h (entryOf x) && isEnded h (entryOf x)))
 
 pub ruleset frees = (free-met, free-ended)
 
@@ -279,60 +318,180 @@ unmarked h ms e l = record { id = λ a b. absurd (omega arith); key = λ a b. ab
 pub unmarked-last : (h ms : Bytes) (e : Entry) → 8 < e .kind → Marked h ms e
 unmarked-last h ms e l = record { id = λ a b. absurd (omega arith); key = λ a b. absurd (omega arith) }
 
--- The entries before number k are marked
+-- What may stand ahead is marked
 
-pub record Marking (h : Bytes) (form : Form) (t : List ℕ) (ms₀ ms : Bytes) (k : ℕ) : Type 0 where
-  pub still : markAll h (entriesIn form t) ms₀ ≡ markAll h (drop k (entriesIn form t)) ms
-  pub long : length ms ≡ length ms₀
+module _ (h : Bytes) (ns : List ℕ) (e : Entry) (ms : List ℕ) where
+  id-length : length (markId h ns e ms) ≡ length ms
+  unfolding markId
+  id-length = elim (test (runNoted ns (runFrom 0 (idIn h e)))) [ pass f ↦ rw (markId, f) (meet-length ms _) | fail f ↦ rw (markId, f) ]
 
-pub marking-start : (h : Bytes) (form : Form) (t : List ℕ) (ms : Bytes) → Marking h form t ms ms 0
-marking-start h form t ms = record { still = refl; long = refl }
+  key-length : length (markKey h ns e ms) ≡ length ms
+  unfolding markKey
+  key-length = elim (test (runNoted ns (runFrom 0 (keyIn (lineIn h e))))) [ pass f ↦ rw (markKey, f) (meet-length ms _) | fail f ↦ rw (markKey, f) ]
 
-module _ {h : Bytes} {form : Form} {t : List ℕ} {ms₀ ms : Bytes} {k : ℕ} (g : Marking h form t ms₀ ms k) {n : ℕ} (en : n ≡ room form t) where
-  pub marking-end : n ≤ k → ms ≡ markAll h (entriesIn form t) ms₀
-  unfolding markAll
-  marking-end l = sym (g .still ∙ rw (entries-past form t k (rw (← en) l)))
+  id-kept : (hash : ℕ) → isMet ms hash ≡ true → isMet (markId h ns e ms) hash ≡ true
+  unfolding markId
+  id-kept hash a = elim (test (runNoted ns (runFrom 0 (idIn h e)))) [ pass f ↦ rw (markId, f) (meet-kept ms _ hash a) | fail f ↦ rw (markId, f) a ]
 
-  pub marking-next : k < n → {e : CodeEntry} → entryOf e ≡ entryIn form t k → {ns : Bytes} → ns ≡ markEntry h (entryOf e) ms → Marking h form t ms₀ ns (k + 1)
-  unfolding markAll
-  marking-next l {e} ee {ns} f = record { still = g .still ∙ rw (entries-here form t k (rw (← en) l), ← ee, f); long = ap length f ∙ entry-length h (entryOf e) ms ∙ g .long }
+  key-kept : (hash : ℕ) → isMet ms hash ≡ true → isMet (markKey h ns e ms) hash ≡ true
+  unfolding markKey
+  key-kept hash a = elim (test (runNoted ns (runFrom 0 (keyIn (lineIn h e))))) [ pass f ↦ rw (markKey, f) (meet-kept ms _ hash a) | fail f ↦ rw (markKey, f) a ]
 
-pub marking-long : {h : Bytes} {form : Form} {t : List ℕ} {ms₀ ms : Bytes} {k : ℕ} → Marking h form t ms₀ ms k → length ms ≡ length ms₀
-marking-long g = g .long
+  module _ (from : ℕ) (noted : Noted h from ns) where
+    id-ahead : NewName isEnd h from (idMeaning h e) → isMet (markId h ns e ms) (idHash (keyHash h e) (e .kind) (idMeaning h e)) ≡ true
+    unfolding markId
+    id-ahead w = elim (test (runNoted ns (runFrom 0 (idIn h e)))) [
+      | pass f ↦ rw (markId, f) (meet-own ms _)
+      | fail f ↦ absurd (run-away isEnd (λ b i. rw i) h from ns noted (e .quoted) (idIn h e) f w)
+    ]
 
-pub ruleset markings = (marking-start, marking-end, marking-next, marking-long)
+    key-ahead : NewName (is EQUALS) h from (keyIn (lineIn h e)) → isMet (markKey h ns e ms) (underHash (keyHash h e) (e .kind)) ≡ true
+    unfolding markKey
+    key-ahead w = elim (test (runNoted ns (runFrom 0 (keyIn (lineIn h e))))) [
+      | pass f ↦ rw (markKey, f) (meet-own ms _)
+      | fail f ↦ absurd (run-away (is EQUALS) (λ b i. rw i (either-way (isEnd b))) h from ns noted false (keyIn (lineIn h e)) f w)
+    ]
+
+module _ (h : Bytes) (ns : List ℕ) (e : Entry) (ms : List ℕ) where
+  abbrev under : ℕ
+  under = underHash (keyHash h e) (e .kind)
+
+  map-length : length (markMap h ns e ms) ≡ length ms
+  unfolding markMap
+  map-length = elim (test (runNoted ns (runFrom 0 (keyIn (lineIn h e))))) [ pass f ↦ rw (markMap, f) (id-length h ns e (meet ms under) ∙ meet-length ms under) | fail f ↦ rw (markMap, f) ]
+
+  map-kept : (hash : ℕ) → isMet ms hash ≡ true → isMet (markMap h ns e ms) hash ≡ true
+  unfolding markMap
+  map-kept hash a = elim (test (runNoted ns (runFrom 0 (keyIn (lineIn h e))))) [
+    | pass f ↦ rw (markMap, f) (id-kept h ns e (meet ms under) hash (meet-kept ms under hash a))
+    | fail f ↦ rw (markMap, f) a
+  ]
+
+  map-marked : (from : ℕ) → Noted h from ns → 7 ≤ e .kind → MarkedFrom h from (markMap h ns e ms) e
+  unfolding markMap
+  map-marked from noted l = elim (test (runNoted ns (runFrom 0 (keyIn (lineIn h e))))) [
+    | pass f ↦ rw (markMap, f) (record {
+      id = λ a b k w. id-ahead h ns e (meet ms under) from noted w;
+      key = λ a b w. id-kept h ns e (meet ms under) under (meet-own ms under);
+    })
+    | fail f ↦
+        let away = run-away (is EQUALS) (λ b i. rw i (either-way (isEnd b))) h from ns noted false (keyIn (lineIn h e)) f in
+        record { id = λ a b k w. absurd (away (k l)); key = λ a b w. absurd (away w) }
+  ]
+
+module _ (h : Bytes) (ns : List ℕ) (e : Entry) (ms : List ℕ) where
+  names-length : length (markNames h ns e ms) ≡ length ms
+  unfolding markNames
+  names-length = elim (test (ltb (e .kind) 7)) [
+    | pass l ↦ rw (markNames, l) (id-length h ns e ms)
+    | fail l ↦ elim (test (eqb (e .kind) 7)) [
+      | pass k ↦ rw (markNames, l, k) (map-length h ns e ms)
+      | fail k ↦ rw (markNames, l, k) (key-length h ns e ms)
+    ]
+  ]
+
+  names-kept : (hash : ℕ) → isMet ms hash ≡ true → isMet (markNames h ns e ms) hash ≡ true
+  unfolding markNames
+  names-kept hash a = elim (test (ltb (e .kind) 7)) [
+    | pass l ↦ rw (markNames, l) (id-kept h ns e ms hash a)
+    | fail l ↦ elim (test (eqb (e .kind) 7)) [
+      | pass k ↦ rw (markNames, l, k) (map-kept h ns e ms hash a)
+      | fail k ↦ rw (markNames, l, k) (key-kept h ns e ms hash a)
+    ]
+  ]
+
+  names-marked : (from : ℕ) → Noted h from ns → MarkedFrom h from (markNames h ns e ms) e
+  unfolding markNames
+  names-marked from noted = elim (test (ltb (e .kind) 7)) [
+    | pass l ↦ rw (markNames, l) (record { id = λ a b k w. id-ahead h ns e ms from noted w; key = λ a b w. absurd (omega (arith, ltb-true (e .kind) 7 l)) })
+    | fail l ↦ elim (test (eqb (e .kind) 7)) [
+      | pass k ↦ rw (markNames, l, k) (map-marked h ns e ms from noted (ltb-false (e .kind) 7 l))
+      | fail k ↦
+          let ne = eqb-false (e .kind) 7 k in
+          rw (markNames, l, k) (record { id = λ a b k w. absurd (ne (omega (arith, ltb-false (e .kind) 7 l))); key = λ a b w. key-ahead h ns e ms from noted w })
+    ]
+  ]
+
+-- what the code's tests answered
+module _ (h : Bytes) (ns : List ℕ) (x : CodeEntry) (ms : List ℕ) where
+  module _ {p : Bytes} (ep : p ≡ idIn h (entryOf x)) {q : Bool} (a : q ≡ runNoted ns (runFrom 0 p)) where
+    pub id-spared : not q ≡ true → ms ≡ markId h ns (entryOf x) ms
+    unfolding markId
+    id-spared n = rw (markId, ← ep, ← a, not-true q n)
+
+    pub id-noted : not q ≡ false → {key : ℕ} → key ≡ keyHash h (entryOf x) → {hash : ℕ} → hash ≡ idHash key (x .kind) (idMeaning h (entryOf x)) → {ms′ : List ℕ} → ms′ ≡ meet ms hash → ms′ ≡ markId h ns (entryOf x) ms
+    unfolding markId
+    id-noted n ek eh f = f ∙ rw (eh, ek) (sym (rw (markId, ← ep, ← a, not-false q n, ← ep)))
+
+  module _ {p : Bytes} (ep : p ≡ lineIn h (entryOf x)) {q : Bool} (a : q ≡ runNoted ns (runFrom 0 (keyIn p))) where
+    pub key-spared : not q ≡ true → ms ≡ markKey h ns (entryOf x) ms
+    unfolding markKey
+    key-spared n = rw (markKey, ← ep, ← a, not-true q n)
+
+    pub key-noted : not q ≡ false → {key : ℕ} → key ≡ keyHash h (entryOf x) → {hash : ℕ} → hash ≡ underHash key (x .kind) → {ms′ : List ℕ} → ms′ ≡ meet ms hash → ms′ ≡ markKey h ns (entryOf x) ms
+    unfolding markKey
+    key-noted n ek eh f = f ∙ rw (eh, ek) (sym (rw (markKey, ← ep, ← a, not-false q n)))
+
+    pub map-spared : not q ≡ true → ms ≡ markMap h ns (entryOf x) ms
+    unfolding markMap
+    map-spared n = rw (markMap, ← ep, ← a, not-true q n)
+
+    pub map-noted : not q ≡ false → {key : ℕ} → key ≡ keyHash h (entryOf x) → {hash : ℕ} → hash ≡ underHash key (x .kind) → {ms′ : List ℕ} → ms′ ≡ meet ms hash
+        → {ms″ : List ℕ} → ms″ ≡ markId h ns (entryOf x) ms′ → ms″ ≡ markMap h ns (entryOf x) ms
+    unfolding markMap
+    map-noted n ek eh f g = g ∙ rw (f, eh, ek) (sym (rw (markMap, ← ep, ← a, not-false q n)))
+
+  pub names-typed : x .kind < 7 → {ms′ : List ℕ} → ms′ ≡ markId h ns (entryOf x) ms → ms′ ≡ markNames h ns (entryOf x) ms
+  unfolding markNames
+  names-typed l f = f ∙ rw (markNames, lt-ltb (x .kind) 7 l)
+
+  module _ (l : 7 ≤ x .kind) where
+    pub names-map : x .kind ≡ 7 → {ms′ : List ℕ} → ms′ ≡ markMap h ns (entryOf x) ms → ms′ ≡ markNames h ns (entryOf x) ms
+    unfolding markNames
+    names-map k f = f ∙ rw (markNames, le-ltb (x .kind) 7 l, eq-eqb (x .kind) 7 k)
+
+    pub names-text : (x .kind ≡ 7 → ⊥) → {ms′ : List ℕ} → ms′ ≡ markKey h ns (entryOf x) ms → ms′ ≡ markNames h ns (entryOf x) ms
+    unfolding markNames
+    names-text n f = f ∙ rw (markNames, le-ltb (x .kind) 7 l, ne-eqb (x .kind) 7 n)
+
+pub ruleset namings = (id-spared, id-noted, key-spared, key-noted, map-spared, map-noted, names-typed, names-map, names-text)
 
 -- Entries that need not be marked are passed over
 
-module _ (h : Bytes) (ns : List ℕ) where
-  noted-kept : (from : ℕ) (es fs : List Entry) (ms : List ℕ) → All (MarkedFrom h from ms) fs → All (MarkedFrom h from (markNoted h ns es ms)) fs
+module _ (h : Bytes) (plain : Bool) (ns : List ℕ) where
+  noted-kept : (from : ℕ) (es fs : List Entry) (ms : List ℕ) → All (MarkedFrom h from ms) fs → All (MarkedFrom h from (markNoted h plain ns es ms)) fs
   unfolding markNoted
   noted-kept from [] fs ms a = a
-  noted-kept from (e ∷ es) fs ms a = elim (test (isAhead h ns e)) [
-    | pass f ↦ rw (markNoted, f) (noted-kept from es fs (markEntry h e ms) (all-kept h from e ms fs a))
+  noted-kept from (e ∷ es) fs ms a = elim (test (isNear h plain ns e)) [
+    | pass f ↦ rw (markNoted, f) (noted-kept from es fs (markNames h ns e ms) (kept-from h from ms (markNames h ns e ms) (names-kept h ns e ms) fs a))
     | fail f ↦ rw (markNoted, f) (noted-kept from es fs ms a)
   ]
 
-  noted-all : (from : ℕ) → Noted h from ns → (es : List Entry) (ms : List ℕ) → All (MarkedFrom h from (markNoted h ns es ms)) es
+  -- by its last bytes an entry is none of the names ahead
+  spared-marked : (from : ℕ) → Noted h from ns → plain ≡ not (hasEscape h from) → (e : Entry) (ms : List ℕ) → isNear h plain ns e ≡ false → MarkedFrom h from ms e
+  spared-marked from noted p e ms f =
+      let none = not-no (hasEscape h from) (sym (not-no′ plain (or-l (not plain) _ f)) ∙ p) in
+      let away = or-r (not plain) _ f in
+      record { id = λ b c k w. absurd (away-from h ns e away from noted none w); key = λ b c w. absurd (omega (arith, away-kind h ns e away)) }
+
+  noted-all : (from : ℕ) → Noted h from ns → plain ≡ not (hasEscape h from) → (es : List Entry) (ms : List ℕ) → All (MarkedFrom h from (markNoted h plain ns es ms)) es
   unfolding markNoted
-  noted-all from noted [] ms = tt
-  noted-all from noted (e ∷ es) ms = elim (test (isAhead h ns e)) [
-    | pass f ↦ rw (markNoted, f) (noted-kept from es (e ∷ []) (markEntry h e ms) (marked-from h from (markEntry h e ms) e (entry-own h e ms), tt) .0, noted-all from noted es (markEntry h e ms))
-    | fail f ↦
-        rw (markNoted, f)
-        (record { id = λ b c w. absurd (away-from h ns e f from noted w); key = λ b c. absurd (omega (arith, away-kind h ns e f)) }, noted-all from noted es ms)
+  noted-all from noted p [] ms = tt
+  noted-all from noted p (e ∷ es) ms = elim (test (isNear h plain ns e)) [
+    | pass f ↦ rw (markNoted, f) (noted-kept from es (e ∷ []) (markNames h ns e ms) (names-marked h ns e ms from noted, tt) .0, noted-all from noted p es (markNames h ns e ms))
+    | fail f ↦ rw (markNoted, f) (noted-kept from es (e ∷ []) ms (spared-marked from noted p e ms f, tt) .0, noted-all from noted p es ms)
   ]
 
-  noted-length : (es : List Entry) (ms : List ℕ) → length (markNoted h ns es ms) ≡ length ms
+  noted-length : (es : List Entry) (ms : List ℕ) → length (markNoted h plain ns es ms) ≡ length ms
   unfolding markNoted
   noted-length [] ms = refl
-  noted-length (e ∷ es) ms = elim (test (isAhead h ns e)) [
-    | pass f ↦ rw (markNoted, f) (noted-length es (markEntry h e ms) ∙ entry-length h e ms)
+  noted-length (e ∷ es) ms = elim (test (isNear h plain ns e)) [
+    | pass f ↦ rw (markNoted, f) (noted-length es (markNames h ns e ms) ∙ names-length h ns e ms)
     | fail f ↦ rw (markNoted, f) (noted-length es ms)
   ]
 
-  passed-over : (form : Form) (t ms : List ℕ) (k d : ℕ) → ((n : ℕ) → k ≤ n → n < k + d → isAhead h ns (entryIn form t n) ≡ false)
-      → markNoted h ns (drop k (entriesIn form t)) ms ≡ markNoted h ns (drop (k + d) (entriesIn form t)) ms
+  passed-over : (form : Form) (t ms : List ℕ) (k d : ℕ) → ((n : ℕ) → k ≤ n → n < k + d → isNear h plain ns (entryIn form t n) ≡ false)
+      → markNoted h plain ns (drop k (entriesIn form t)) ms ≡ markNoted h plain ns (drop (k + d) (entriesIn form t)) ms
   unfolding markNoted
   passed-over form t ms k zero f = let i : k + 0 ≡ k = omega arith in rw i
   passed-over form t ms k (suc d) f = elim (test (ltb k (room form t))) [
@@ -346,102 +505,51 @@ module _ (h : Bytes) (ns : List ℕ) where
 
 -- What is left to mark by the notes, from number k on
 
-pub record Noting (h : Bytes) (form : Form) (t ns ms₀ ms : List ℕ) (k : ℕ) : Type 0 where
+pub record Noting (h : Bytes) (form : Form) (t : List ℕ) (plain : Bool) (ns ms₀ ms : List ℕ) (k : ℕ) : Type 0 where
   pub long : length ms ≡ length ms₀
-  pub still : markNoted h ns (entriesIn form t) ms₀ ≡ markNoted h ns (drop k (entriesIn form t)) ms
+  pub still : markNoted h plain ns (entriesIn form t) ms₀ ≡ markNoted h plain ns (drop k (entriesIn form t)) ms
 
-pub noting-start : (h : Bytes) (form : Form) (t ns ms : List ℕ) → Noting h form t ns ms ms 0
-noting-start h form t ns ms = record { long = refl; still = refl }
+pub noting-start : (h : Bytes) (form : Form) (t : List ℕ) (plain : Bool) (ns ms : List ℕ) → Noting h form t plain ns ms ms 0
+noting-start h form t plain ns ms = record { long = refl; still = refl }
 
-module _ {h : Bytes} {form : Form} {t ns ms₀ ms : List ℕ} {k : ℕ} (g : Noting h form t ns ms₀ ms k) {r : ℕ} (a : NextAhead h form t ns k r) where
-  up-to : markNoted h ns (entriesIn form t) ms₀ ≡ markNoted h ns (drop r (entriesIn form t)) ms
+module _ {h : Bytes} {form : Form} {t : List ℕ} {plain : Bool} {ns ms₀ ms : List ℕ} {k : ℕ} (g : Noting h form t plain ns ms₀ ms k) {r : ℕ} (a : NextNear h form t plain ns k r) where
+  up-to : markNoted h plain ns (entriesIn form t) ms₀ ≡ markNoted h plain ns (drop r (entriesIn form t)) ms
   up-to =
       let i : k + (r - k) ≡ r = omega (arith, a .later) in
-      g .still ∙ passed-over h ns form t ms k (r - k) (λ n b c. a .spared n b (omega (arith, a .later))) ∙ ap (λ (n : ℕ). markNoted h ns (drop n (entriesIn form t)) ms) i
+      g .still ∙ passed-over h plain ns form t ms k (r - k) (λ n b c. a .spared n b (omega (arith, a .later))) ∙ ap (λ (n : ℕ). markNoted h plain ns (drop n (entriesIn form t)) ms) i
 
-  pub noting-end : {m : ℕ} → m ≡ room form t → m ≤ r → ms ≡ markNoted h ns (entriesIn form t) ms₀
+  pub noting-end : {m : ℕ} → m ≡ room form t → m ≤ r → ms ≡ markNoted h plain ns (entriesIn form t) ms₀
   unfolding markNoted
   noting-end em l = sym (up-to ∙ rw (entries-past form t r (rw (← em) l)))
 
-  pub noting-next : {m : ℕ} → m ≡ room form t → r < m → {e : CodeEntry} → entryOf e ≡ entryIn form t r → {ms′ : List ℕ} → ms′ ≡ markEntry h (entryOf e) ms → Noting h form t ns ms₀ ms′ (r + 1)
+  pub noting-next : {m : ℕ} → m ≡ room form t → r < m → {e : CodeEntry} → entryOf e ≡ entryIn form t r → {ms′ : List ℕ} → ms′ ≡ markNames h ns (entryOf e) ms → Noting h form t plain ns ms₀ ms′ (r + 1)
   unfolding markNoted
   noting-next em l {e} ee f =
       let here : r < room form t = rw (← em) l in
       record {
-        long = ap length f ∙ entry-length h (entryOf e) ms ∙ g .long;
+        long = ap length f ∙ names-length h ns (entryOf e) ms ∙ g .long;
         still = up-to ∙ rw (entries-here form t r here, markNoted, a .stops here, ← ee, ← f);
       }
 
   pub noting-less : {m : ℕ} → m ≡ room form t → r < m → room form t - (r + 1) < room form t - k
   noting-less em l = omega (arith, a .later)
 
-pub noting-long : {h : Bytes} {form : Form} {t ns ms₀ ms : List ℕ} {k : ℕ} → Noting h form t ns ms₀ ms k → length ms ≡ length ms₀
+pub noting-long : {h : Bytes} {form : Form} {t : List ℕ} {plain : Bool} {ns ms₀ ms : List ℕ} {k : ℕ} → Noting h form t plain ns ms₀ ms k → length ms ≡ length ms₀
 noting-long g = g .long
 
 pub ruleset notings = (noting-start, noting-end, noting-next, noting-less, noting-long)
 
 -- What lines from a place on may clash with is marked
 
-module _ (h : Bytes) (from : ℕ) (ns : List ℕ) (es : List Entry) (ms : List ℕ) where
-  by-marked : All (MarkedFrom h from (markBy h from ns es ms)) es
-  unfolding markBy
-  by-marked = elim (test (hasEscape h from)) [
-    | pass e ↦ rw (markBy, e) (all-marked h from es ms)
-    | fail e ↦ rw (markBy, e) (noted-all h (notesFrom h from ns) from (noted h from ns e) es ms)
-  ]
-
-  by-length : length (markBy h from ns es ms) ≡ length ms
-  unfolding markBy
-  by-length = elim (test (hasEscape h from)) [
-    | pass e ↦ rw (markBy, e) (all-length h es ms)
-    | fail e ↦ rw (markBy, e) (noted-length h (notesFrom h from ns) es ms)
-  ]
-
-  pub by-long : {ms′ : List ℕ} → ms′ ≡ markBy h from ns es ms → length ms′ ≡ length ms
-  by-long e = ap length e ∙ by-length
-
-  -- q is what looking ahead answered
-  module _ {q : Bool} (a : q ≡ not (hasEscape h from)) where
-    pub by-noted : q ≡ true → {ns′ : List ℕ} → ns′ ≡ notesAhead h from ns → {ms′ : List ℕ} → ms′ ≡ markNoted h ns′ es ms → ms′ ≡ markBy h from ns es ms
-    unfolding markBy notesAhead
-    by-noted e f g = let none = not-same (hasEscape h from) false (sym a ∙ e) in g ∙ rw (f, markBy, notesAhead, none)
-
-    pub by-all : q ≡ false → {ms′ : List ℕ} → ms′ ≡ markAll h es ms → ms′ ≡ markBy h from ns es ms
-    unfolding markBy
-    by-all e g = let some = not-same (hasEscape h from) true (sym a ∙ e) in g ∙ rw (markBy, some)
-
-pub ruleset bys = (by-noted, by-all, by-long)
-
-module _ (h : Bytes) (from : ℕ) (es : List Entry) (ms : List ℕ) where
-  pub ahead-marked : All (MarkedFrom h from (markAhead h from es ms)) es
-  ahead-marked = by-marked h from (replicate (notesRoom (isFar h from)) 0) es ms
-
-  pub ahead-long : {ms′ : List ℕ} → ms′ ≡ markAhead h from es ms → length ms′ ≡ length ms
-  ahead-long = by-long h from (replicate (notesRoom (isFar h from)) 0) es ms
-
-  module _ {q : Bool} (a : q ≡ isFar h from) where
-    pub ahead-many : q ≡ true → {ms′ : List ℕ} → ms′ ≡ markBy h from (replicate 8192 0) es ms → ms′ ≡ markAhead h from es ms
-    ahead-many f e = e ∙ rw (← a, f)
-
-    module _ (f : q ≡ false) {z : Bool} (b : z ≡ not (hasEscape h from)) where
-      ahead-few : {ms′ : List ℕ} → ms′ ≡ markBy h from (replicate 512 0) es ms → ms′ ≡ markAhead h from es ms
-      ahead-few e = e ∙ rw (← a, f)
-
-      pub few-noted : z ≡ true → {ns : List ℕ} → ns ≡ notesAhead h from (replicate 512 0) → {ms′ : List ℕ} → ms′ ≡ markNoted h ns es ms → ms′ ≡ markAhead h from es ms
-      few-noted e i g = ahead-few (by-noted h from (replicate 512 0) es ms b e i g)
-
-      pub few-all : z ≡ false → {ms′ : List ℕ} → ms′ ≡ markAll h es ms → ms′ ≡ markAhead h from es ms
-      few-all e g = ahead-few (by-all h from (replicate 512 0) es ms b e g)
+-- plain and ns are what looking ahead answered
+pub by-noted : (h : Bytes) (from : ℕ) (ns₀ : List ℕ) (es : List Entry) (ms : List ℕ) {plain : Bool} → plain ≡ not (hasEscape h from) → {ns : List ℕ} → ns ≡ notesFrom h from ns₀
+    → {ms′ : List ℕ} → ms′ ≡ markNoted h plain ns es ms → AheadMarked h from ms′ es
+by-noted h from ns₀ es ms {plain} e {ns} f g = record { all = rw g (noted-all h plain ns from (rw f (noted h from ns₀)) e es ms) }
 
 pub far-past : (h : Bytes) (from : ℕ) → length h < from → false ≡ isFar h from
 far-past h from l = sym (lt-leb 16384 (length h - from) (omega arith))
 
-pub ahead-none : (h : Bytes) (from : ℕ) (form : Form) (t ms : List ℕ) {n : ℕ} → n ≡ room form t → n ≡ 0 → ms ≡ markAhead h from (entriesIn form t) ms
-unfolding markBy markAll markNoted
-ahead-none h from form t ms en z =
-    let none : entriesIn form t ≡ [] = entries-past form t 0 (omega arith) in
-    elim (test (hasEscape h from)) [ pass e ↦ rw (markBy, e, none) | fail e ↦ rw (markBy, e, none) ]
-
-pub ruleset aheads-marked = (ahead-none, ahead-many, few-noted, few-all, ahead-long)
+pub ahead-none : (h : Bytes) (from : ℕ) (form : Form) (t ms : List ℕ) {n : ℕ} → n ≡ room form t → n ≡ 0 → AheadMarked h from ms (entriesIn form t)
+ahead-none h from form t ms en z = let none : entriesIn form t ≡ [] = entries-past form t 0 (omega arith) in record { all = rw none tt }
 
 pub ruleset scans = (key-unmarked, key-looked, id-unmarked, id-looked, met-by)

@@ -2,18 +2,19 @@
 use Prim.Native.Nat.{ℕ, _+_, _-_, _<_, _≤_}
 use native.Mathlib.Omega.{arith}
 use mathlib.Core.Path.{_≡_, refl, sym, ap, _∙_}
-use mathlib.Core.Bool.{Bool, true, false, not, _||_, true≢false, false≢true}
+use mathlib.Core.Bool.{Bool, true, false, not, _||_, _&&_, true≢false, false≢true}
 use mathlib.Core.List.{List, [], _∷_}
-use lib.Dec.{eqb}
-use lib.ListN.{length, getD, drop}
-use borrow.Author.Tests.{eq-eqb, ne-eqb, eqb-false, lt-ltb, le-ltb}
+use lib.Dec.{eqb, ltb}
+use lib.ListN.{length, getD, take, drop}
+use borrow.Author.Tests.{eq-eqb, ne-eqb, eqb-true, eqb-false, ltb-true, ltb-false, lt-ltb, le-ltb}
 use Rattle.values.specs.Bytes.{Bytes, starts, same}
 use Rattle.values.specs.Value.{meaning}
+use Rattle.values.specs.Hash.{wideBasis, wideFrom}
 use Rattle.values.specs.Marks.{meet}
-use Rattle.values.proofs.Tests.{not-true, and-off}
+use Rattle.values.proofs.Tests.{pass, fail, test, not-true, not-false, and-off}
 use Rattle.values.proofs.Sames.{differ}
 use Rattle.rules.specs.Known.{other}
-use Rattle.rules.specs.Entry.{Entry}
+use Rattle.rules.specs.Entry.{Entry, textKind, mapKind}
 use Rattle.rules.specs.Shown.{lineIn, idIn, idMeaning}
 use Rattle.entries.specs.declared.entry.Entry.{Entry as CodeEntry}
 use Rattle.entries.specs.Values.{entryOf}
@@ -21,7 +22,7 @@ use Rattle.entries.specs.declared.form.Form.{Form}
 use Rattle.entries.specs.Tables.{room, entriesIn, entryIn}
 use Rattle.entries.proofs.Stored.{entries-here, entries-past}
 use Rattle.ids.specs.Clashes.{hasKey, keySeen, isOfKey, isOfId, idSeen, mapClash, clashBy, lastOf, MayEqual, Candidate}
-use Rattle.ids.specs.Marks.{keyHash, underHash, idHash, markUnder, markEntry, clashUnder, clashFound}
+use Rattle.ids.specs.Marks.{prefixHash, underHash, idHash, markUnder, meetId, meetKey, keyFound, idFound, otherSort, mixedFound, twiceFound, clashOf, clashUnder}
 use Rattle.ids.specs.declared.scan.Clash.{Clash}
 use Rattle.ids.specs.declared.scan.Clash.the-variants.{Free, TypedId, Mixed, OtherId}
 
@@ -167,72 +168,145 @@ module _ {h prefix : Bytes} {kind : ℕ} {id : Bytes} {quoted : Bool} {form : Fo
 
 pub ruleset ids = (ids-start, ids-end, ids-other, ids-miss, ids-hit)
 
--- What is answered of the two scans
+-- What is answered of the two scans, by the code's tests
 
-module _ {t : Bool} (i : Bool) {x : Bool} (et : t ≡ x) where
-  pub map-mixed : t ≡ true → Mixed ≡ mapClash x i
-  map-mixed e = rw (← et, e)
+pub prefix-typed : (prefix : Bytes) (kind : ℕ) → kind < 7 → wideBasis ≡ prefixHash prefix kind
+unfolding prefixHash
+prefix-typed prefix kind l = rw (prefixHash, lt-ltb kind 7 l)
 
-module _ {t x : Bool} (et : t ≡ x) (e : t ≡ false) {r i : Bool} (er : r ≡ i) where
-  pub map-twice : r ≡ true → OtherId ≡ mapClash x i
-  map-twice f = rw (← et, e, ← er, f)
+pub prefix-short : (prefix : Bytes) (kind : ℕ) → 7 ≤ kind → length prefix < 3 → wideBasis ≡ prefixHash prefix kind
+unfolding prefixHash
+prefix-short prefix kind l s = rw (prefixHash, le-ltb kind 7 l, lt-ltb (length prefix) 3 s)
 
-  pub map-free : r ≡ false → Free ≡ mapClash x i
-  map-free f = rw (← et, e, ← er, f)
+pub prefix-key : (prefix : Bytes) (kind : ℕ) → 7 ≤ kind → 3 ≤ length prefix → {r : ℕ} → r ≡ wideFrom wideBasis (take (length prefix - 1 - 2) (drop 2 prefix)) → r ≡ prefixHash prefix kind
+unfolding prefixHash
+prefix-key prefix kind l s e = e ∙ rw (prefixHash, le-ltb kind 7 l, le-ltb (length prefix) 3 s)
 
-pub marked-twice : (ms : List ℕ) (i : ℕ) {a : List ℕ} → a ≡ meet ms i → {hash j : ℕ} → hash ≡ j → {b : List ℕ} → b ≡ meet a hash → b ≡ meet (meet ms i) j
-marked-twice ms i e f g = g ∙ rw (e, f)
+pub ruleset prefixes = (prefix-typed, prefix-short, prefix-key)
 
-pub ruleset map-clashes = (map-mixed, map-twice, map-free, marked-twice)
+pub sort-text : (kind : ℕ) → kind ≡ 7 → 8 ≡ otherSort kind
+unfolding otherSort
+sort-text kind e = rw (otherSort, eq-eqb kind 7 e)
 
-module _ (kind : ℕ) {i : Bool} (m x : Bool) (l : kind < 7) {r : Bool} (er : r ≡ i) where
-  pub typed-clash : r ≡ true → TypedId ≡ clashBy kind i m x
-  unfolding clashBy
-  typed-clash e = rw (clashBy, lt-ltb kind 7 l, ← er, e)
+pub sort-map : (kind : ℕ) → (kind ≡ 7 → ⊥) → 7 ≡ otherSort kind
+unfolding otherSort
+sort-map kind ne = rw (otherSort, ne-eqb kind 7 ne)
 
-  pub typed-free : r ≡ false → Free ≡ clashBy kind i m x
-  unfolding clashBy
-  typed-free e = rw (clashBy, lt-ltb kind 7 l, ← er, e)
+pub ruleset sorts = (sort-text, sort-map)
 
-pub map-clash : (kind : ℕ) (i m x : Bool) → 7 ≤ kind → kind ≡ 7 → {r : Clash} → r ≡ mapClash m i → r ≡ clashBy kind i m x
-unfolding clashBy
-map-clash kind i m x l ek e = e ∙ rw (clashBy, le-ltb kind 7 l, eq-eqb kind 7 ek)
+module _ (h : Bytes) (es : List Entry) (ms : List ℕ) (prefix : Bytes) (key : ℕ) where
+  pub unmixed : (kind : ℕ) → kind < 7 → false ≡ mixedFound h es ms prefix key kind
+  unfolding mixedFound
+  unmixed kind l = rw (mixedFound, lt-ltb kind 7 l)
 
-module _ (kind : ℕ) (i m : Bool) {x : Bool} (l : 7 ≤ kind) (ne : kind ≡ 7 → ⊥) {t : Bool} (et : t ≡ x) where
-  pub text-mixed : t ≡ true → Mixed ≡ clashBy kind i m x
-  unfolding clashBy
-  text-mixed e = rw (clashBy, le-ltb kind 7 l, ne-eqb kind 7 ne, ← et, e)
+  pub mixed-by : (kind : ℕ) → 7 ≤ kind → {o : ℕ} → o ≡ otherSort kind → {r : Bool} → r ≡ keyFound h es ms prefix key o → r ≡ mixedFound h es ms prefix key kind
+  unfolding mixedFound
+  mixed-by kind l a b = b ∙ rw (mixedFound, le-ltb kind 7 l, a)
 
-  pub text-free : t ≡ false → Free ≡ clashBy kind i m x
-  unfolding clashBy
-  text-free e = rw (clashBy, le-ltb kind 7 l, ne-eqb kind 7 ne, ← et, e)
+  module _ (e : Entry) where
+    pub never-twice : 7 < e .kind → false ≡ twiceFound h es ms prefix key e
+    unfolding twiceFound
+    never-twice l = rw (twiceFound, lt-ltb 7 (e .kind) l)
 
--- and what is marked
-module _ (h : Bytes) (key : ℕ) (e : Entry) (ms : List ℕ) {ns : List ℕ} where
-  pub typed-marked : e .kind < 7 → ns ≡ meet ms (idHash key (e .kind) (idMeaning h e)) → ns ≡ markUnder h key e ms
-  unfolding markUnder
-  typed-marked l a = a ∙ rw (markUnder, lt-ltb (e .kind) 7 l)
+    pub twice-by : e .kind ≤ 7 → {r : Bool} → r ≡ idFound h es ms prefix key e → r ≡ twiceFound h es ms prefix key e
+    unfolding twiceFound
+    twice-by l a = a ∙ rw (twiceFound, le-ltb 7 (e .kind) l)
 
-  pub map-marked : 7 ≤ e .kind → e .kind ≡ 7 → ns ≡ meet (meet ms (idHash key (e .kind) (idMeaning h e))) (underHash key (e .kind)) → ns ≡ markUnder h key e ms
-  unfolding markUnder
-  map-marked l ek a = a ∙ rw (markUnder, le-ltb (e .kind) 7 l, eq-eqb (e .kind) 7 ek)
+module _ (h : Bytes) (key : ℕ) (e : Entry) (ms : List ℕ) where
+  pub never-marked : 7 < e .kind → ms ≡ meetId h key e ms
+  unfolding meetId
+  never-marked l = rw (meetId, lt-ltb 7 (e .kind) l)
 
-  pub text-marked : 7 ≤ e .kind → (e .kind ≡ 7 → ⊥) → ns ≡ meet ms (underHash key (e .kind)) → ns ≡ markUnder h key e ms
-  unfolding markUnder
-  text-marked l ne a = a ∙ rw (markUnder, le-ltb (e .kind) 7 l, ne-eqb (e .kind) 7 ne)
+  pub marked-by : e .kind ≤ 7 → {ns : List ℕ} → ns ≡ meet ms (idHash key (e .kind) (idMeaning h e)) → ns ≡ meetId h key e ms
+  unfolding meetId
+  marked-by l a = a ∙ rw (meetId, le-ltb 7 (e .kind) l)
+
+pub ruleset mixes = (unmixed, mixed-by)
+
+pub ruleset twices = (never-twice, twice-by, never-marked, marked-by)
+
+pub key-unmarked : (key kind : ℕ) (ms : List ℕ) → kind < 7 → ms ≡ meetKey key kind ms
+unfolding meetKey
+key-unmarked key kind ms l = rw (meetKey, lt-ltb kind 7 l)
+
+pub key-marked : (key kind : ℕ) (ms : List ℕ) → 7 ≤ kind → {hash : ℕ} → hash ≡ underHash key kind → {ns : List ℕ} → ns ≡ meet ms hash → ns ≡ meetKey key kind ms
+unfolding meetKey
+key-marked key kind ms l a b = b ∙ rw (meetKey, le-ltb kind 7 l, a)
+
+pub ruleset keys-marked = (key-unmarked, key-marked)
+
+module _ (kind : ℕ) (twice mixed : Bool) where
+  pub of-mixed : mixed ≡ true → Mixed ≡ clashOf kind twice mixed
+  unfolding clashOf
+  of-mixed e = rw (clashOf, e)
+
+  module _ (e : mixed ≡ false) where
+    pub of-free : not twice ≡ true → Free ≡ clashOf kind twice mixed
+    unfolding clashOf
+    of-free f = rw (clashOf, e, not-true twice f)
+
+    pub of-typed : not twice ≡ false → kind < 7 → TypedId ≡ clashOf kind twice mixed
+    unfolding clashOf
+    of-typed f l = rw (clashOf, e, not-false twice f, lt-ltb kind 7 l)
+
+    pub of-other : not twice ≡ false → 7 ≤ kind → OtherId ≡ clashOf kind twice mixed
+    unfolding clashOf
+    of-other f l = rw (clashOf, e, not-false twice f, le-ltb kind 7 l)
+
+pub ruleset all-clashes = (of-mixed, of-free, of-typed, of-other)
+
+-- a typed kind has no other sort; a map's is a text, a text's a map, and a text has no ID
+by-tests : (l n k i t m : Bool) → (l ≡ true → n ≡ false) → (k ≡ true → n ≡ false) → (l ≡ false → k ≡ false → n ≡ true)
+    → _≡_ {A = Clash} (elim (not l && elim k [ true ↦ t | false ↦ m ]) [ true ↦ Mixed | false ↦ elim (not n && i) [ true ↦ elim l [ true ↦ TypedId | false ↦ OtherId ] | false ↦ Free ] ])
+    (elim l [ true ↦ elim i [ true ↦ TypedId | false ↦ Free ] | false ↦ elim k [ true ↦ mapClash t i | false ↦ elim m [ true ↦ Mixed | false ↦ Free ] ] ])
+by-tests true true k i t m a b c = absurd (true≢false (a refl))
+by-tests true false k true t m a b c = refl
+by-tests true false k false t m a b c = refl
+by-tests false true true i t m a b c = absurd (true≢false (b refl))
+by-tests false false true i true m a b c = refl
+by-tests false false true true false m a b c = refl
+by-tests false false true false false m a b c = refl
+by-tests false false false i t m a b c = absurd (false≢true (c refl refl))
+by-tests false true false i t true a b c = refl
+by-tests false true false i t false a b c = refl
+
+by-sort : (kind : ℕ) (i t m : Bool) → clashOf kind (not (ltb 7 kind) && i) (not (ltb kind 7) && elim (eqb kind 7) [ true ↦ t | false ↦ m ]) ≡ clashBy kind i t m
+unfolding clashOf clashBy
+by-sort kind i t m =
+    by-tests (ltb kind 7) (ltb 7 kind) (eqb kind 7) i t m (λ l. le-ltb 7 kind (omega (arith, ltb-true kind 7 l))) (λ e. le-ltb 7 kind (omega (arith, eqb-true kind 7 e)))
+    (λ l e. lt-ltb 7 kind (omega (arith, ltb-false kind 7 l, eqb-false kind 7 e)))
+
+-- What is marked
 
 -- a mark by a hash that the code computed
 pub met-by : (ms : List ℕ) {hash is : ℕ} → hash ≡ is → {ns : List ℕ} → ns ≡ meet ms hash → ns ≡ meet ms is
 met-by ms e f = f ∙ rw e
 
--- the key's hash that the code computed is the entry's
-module _ (h : Bytes) (e : Entry) {key : ℕ} (ek : key ≡ keyHash h e) where
-  pub clash-under : (es : List Entry) (ms : List ℕ) (prefix : Bytes) {r : Clash} → r ≡ clashUnder h es ms prefix key e → r ≡ clashFound h es ms prefix e
-  clash-under es ms prefix f = f ∙ ap (λ (k : ℕ). clashUnder h es ms prefix k e) ek
+both-marked : (h : Bytes) (key : ℕ) (e : Entry) (ms : List ℕ) → meetKey key (e .kind) (meetId h key e ms) ≡ markUnder h key e ms
+unfolding meetKey meetId markUnder
+both-marked h key e ms = elim (test (ltb (e .kind) 7)) [
+  | pass l ↦ let n = le-ltb 7 (e .kind) (omega (arith, ltb-true (e .kind) 7 l)) in rw (meetKey, meetId, markUnder, l, n)
+  | fail l ↦ elim (test (eqb (e .kind) 7)) [
+    | pass k ↦ let n = le-ltb 7 (e .kind) (omega (arith, eqb-true (e .kind) 7 k)) in rw (meetKey, meetId, markUnder, l, k, n)
+    | fail k ↦ let n = lt-ltb 7 (e .kind) (omega (arith, ltb-false (e .kind) 7 l, eqb-false (e .kind) 7 k)) in rw (meetKey, meetId, markUnder, l, k, n)
+  ]
+]
 
-  pub marked-under : (ms : List ℕ) {ns : List ℕ} → ns ≡ markUnder h key e ms → ns ≡ markEntry h e ms
-  marked-under ms f = f ∙ ap (λ (k : ℕ). markUnder h k e ms) ek
+-- what answers the needs of `find_clash`; key is the hash that the code computed
+module _ (h prefix : Bytes) (new : CodeEntry) {key : ℕ} (ek : key ≡ prefixHash prefix (new .kind)) (ms : List ℕ) where
+  by-key : (es : List Entry) (kind : ℕ)
+      → keyFound h es ms prefix key (otherSort kind) ≡ elim (eqb kind 7) [ true ↦ keyFound h es ms prefix key textKind | false ↦ keyFound h es ms prefix key (mapKind other) ]
+  unfolding otherSort
+  by-key es kind = elim (test (eqb kind 7)) [ pass k ↦ rw (otherSort, k) | fail k ↦ rw (otherSort, k) ]
 
-pub ruleset clashes = (typed-clash, typed-free, map-clash, text-mixed, text-free, typed-marked, map-marked, text-marked, met-by, marked-twice)
+  pub clash-found : (es : List Entry) {mixed : Bool} → mixed ≡ mixedFound h es ms prefix key (new .kind) → {twice : Bool} → twice ≡ twiceFound h es ms prefix key (entryOf new)
+      → {r : Clash} → r ≡ clashOf (new .kind) twice mixed → r ≡ clashUnder h es ms prefix (prefixHash prefix (new .kind)) (entryOf new)
+  unfolding mixedFound twiceFound
+  clash-found es a b c =
+      c ∙ rw (a, b, by-key es (new .kind)) (by-sort (new .kind) (idFound h es ms prefix key (entryOf new)) (keyFound h es ms prefix key textKind) (keyFound h es ms prefix key (mapKind other)))
+      ∙ ap (λ (k : ℕ). clashUnder h es ms prefix k (entryOf new)) ek
 
-pub ruleset keyed = (clash-under, marked-under)
+  pub clash-marked : {a : List ℕ} → a ≡ meetId h key (entryOf new) ms → {b : List ℕ} → b ≡ meetKey key (new .kind) a → b ≡ markUnder h (prefixHash prefix (new .kind)) (entryOf new) ms
+  clash-marked f g = g ∙ ap (meetKey key (new .kind)) f ∙ both-marked h key (entryOf new) ms ∙ ap (λ (k : ℕ). markUnder h k (entryOf new) ms) ek
+
+pub ruleset founds = (clash-found, clash-marked)

@@ -1,12 +1,14 @@
--- What may be the ID of a line that is still to be read, told by its last bytes: an entry whose ID is none of these need not be marked. Assumes nothing.
-use Prim.Native.Nat.{ℕ, zero, suc, _+_, _-_, _*_, _≤_, _<_}
+-- What may be the ID or the key of a line that is still to be read: an entry whose ID and key are none of these need not be marked. Assumes nothing.
+use Prim.Native.Nat.{ℕ, zero, suc, _+_, _-_, _*_, _/_, _%_, _^_, _≤_, _<_}
 use mathlib.Core.Path.{_≡_}
 use mathlib.Core.Bool.{Bool, true, false, not, _||_, _&&_}
-use mathlib.Core.List.{List}
+use mathlib.Core.List.{List, [], _∷_}
+use lib.Bits.{bitXor}
 use lib.Dec.{leb, ltb}
 use lib.ListN.{length, getD, take, drop}
-use Rattle.values.specs.Bytes.{Bytes, is, any, BACKSLASH, COMMA, GREATER, QUOTE}
+use Rattle.values.specs.Bytes.{Bytes, is, any, BACKSLASH, COMMA, EQUALS, GREATER, QUOTE}
 use Rattle.values.specs.Value.{meaning}
+use Rattle.values.specs.Hash.{wideStep}
 use Rattle.values.specs.Marks.{isNoted, note}
 use Rattle.rules.specs.Entry.{Entry}
 use Rattle.entries.specs.declared.form.Form.{Form}
@@ -16,21 +18,55 @@ use Rattle.entries.specs.Tables.{room, entryIn}
 unfoldable pub isEnd : ℕ → Bool
 isEnd b = is COMMA b || (is GREATER b || is QUOTE b)
 
+-- a name is cut off after one of these, a key by `#`: it stands after one, and what an escape means is one
+unfoldable pub isCut : ℕ → Bool
+isCut b = isEnd b || (is 35 b || (is EQUALS b || is BACKSLASH b))
+
 -- the place after an entry's ID
 abbrev pub idEnd : Entry → ℕ
 idEnd e = e .start + e .offset + e .idLength
 
+unfoldable pub isOpened : Bytes → Entry → Bool
+isOpened h e = leb 1 (e .offset) && isCut (getD h (e .start + (e .offset - 1)) 0)
+
 unfoldable pub isEnded : Bytes → Entry → Bool
 isEnded h e = isEnd (getD h (idEnd e) 0)
 
--- an ID that a line may have which begins at `from` or later
-pub record NewId (h : Bytes) (from : ℕ) (id : Bytes) : Type 0 where
+-- a name that a line may have which begins at `from` or later, before a byte that closes it
+pub record NewName (closes : ℕ → Bool) (h : Bytes) (from : ℕ) (name : Bytes) : Type 0 where
   pub at : ℕ
   pub size : ℕ
   pub quoted : Bool
   pub behind : from ≤ at
-  pub text : id ≡ meaning quoted (take size (drop at h))
-  pub ended : isEnd (getD h (at + size) 0) ≡ true
+  pub opened : isCut (getD h at 0) ≡ true
+  pub text : name ≡ meaning quoted (take size (drop (at + 1) h))
+  pub ended : closes (getD h (at + 1 + size) 0) ≡ true
+
+-- The bytes after the last cut
+
+-- a hash of them, and of one byte more: the bits before are turned by seven
+unfoldable pub runOn : ℕ → ℕ → ℕ
+runOn run b = bitXor (run % 2 ^ 57 * 128 + run / 2 ^ 57) b
+
+unfoldable pub runStep : ℕ → ℕ → ℕ
+runStep run b = elim (isCut b) [ true ↦ 0 | false ↦ runOn run b ]
+
+unfoldable pub runFrom : ℕ → Bytes → ℕ
+runFrom run [] = run
+runFrom run (b ∷ bs) = runFrom (runStep run b) bs
+
+-- noted by two bits
+abbrev pub once : ℕ → ℕ
+once run = wideStep run 0
+
+abbrev pub twice : ℕ → ℕ
+twice run = wideStep (once run) 0
+
+unfoldable pub noteRun : List ℕ → ℕ → List ℕ
+noteRun ns run = note (note ns (once run)) (twice run)
+
+unfoldable pub runNoted : List ℕ → ℕ → Bool
+runNoted ns run = isNoted ns (once run) && isNoted ns (twice run)
 
 -- Last bytes
 
@@ -42,37 +78,45 @@ fourAt h at = getD h at 0 + getD h (at + 1) 0 * 256 + getD h (at + 2) 0 * 65536 
 unfoldable pub tailHash : Bytes → ℕ → ℕ
 tailHash h end = (fourAt h (end - 8) + fourAt h (end - 4) * 33) * 39084873
 
--- a place where an ID may end is noted by the bytes before it
-unfoldable pub noteEnd : Bytes → ℕ → List ℕ → List ℕ
-noteEnd h end ns = elim (isEnd (getD h end 0) && leb 8 end) [ true ↦ note ns (tailHash h end) | false ↦ ns ]
+unfoldable pub noteTail : Bytes → ℕ → List ℕ → List ℕ
+noteTail h end ns = elim (leb 8 end) [ true ↦ note ns (tailHash h end) | false ↦ ns ]
+
+-- What stands ahead
+
+-- a place where a key may end is noted by the run before it, one where an ID may by its last bytes too
+unfoldable pub noteCut : Bytes → ℕ → ℕ → List ℕ → List ℕ
+noteCut h end run ns = elim (is EQUALS (getD h end 0)) [
+  | true ↦ noteRun ns run
+  | false ↦ elim (isEnd (getD h end 0)) [ true ↦ noteTail h end (noteRun ns run) | false ↦ ns ]
+]
 
 -- so many places from k on
-unfoldable pub noteEnds : Bytes → ℕ → ℕ → List ℕ → List ℕ
-noteEnds h k zero ns = ns
-noteEnds h k (suc n) ns = noteEnds h (k + 1) n (noteEnd h k ns)
+unfoldable pub noteCuts : Bytes → ℕ → ℕ → ℕ → List ℕ → List ℕ
+noteCuts h k zero run ns = ns
+noteCuts h k (suc n) run ns = noteCuts h (k + 1) n (runStep run (getD h k 0)) (noteCut h k run ns)
 
 -- all from a place on
 abbrev pub notesFrom : Bytes → ℕ → List ℕ → List ℕ
-notesFrom h from ns = noteEnds h from (length h - from) ns
+notesFrom h from ns = noteCuts h from (length h - from) 0 ns
 
--- where a backslash stands an ID may be escaped, and have other bytes than it means
+-- where a backslash stands a name may be escaped, and have other bytes than it means
 abbrev pub hasEscape : Bytes → ℕ → Bool
 hasEscape h from = any (is BACKSLASH) (drop from h)
-
--- the notes, where no ID is escaped
-unfoldable pub notesAhead : Bytes → ℕ → List ℕ → List ℕ
-notesAhead h from ns = elim (hasEscape h from) [ true ↦ ns | false ↦ notesFrom h from ns ]
 
 -- of an ID that lies outside nothing is known
 unfoldable pub tailNoted : Bytes → List ℕ → Entry → Bool
 tailNoted h ns e = not (leb (idEnd e) (length h)) || isNoted ns (tailHash h (idEnd e))
 
--- whether an entry has to be marked: only a bare ID of eight bytes or more is looked at
+-- whether an entry may have to be marked, by its last bytes: only those of a bare ID of eight or more are looked at
 unfoldable pub isAhead : Bytes → List ℕ → Entry → Bool
 isAhead h ns e = leb 7 (e .kind) || (e .quoted || (ltb (e .idLength) 8 || tailNoted h ns e))
 
--- the entries from number k up to r need not be marked, and entry r has to be if there is one
-pub record NextAhead (h : Bytes) (form : Form) (t ns : List ℕ) (k r : ℕ) : Type 0 where
+-- where a name may be escaped the last bytes tell nothing
+abbrev pub isNear : Bytes → Bool → List ℕ → Entry → Bool
+isNear h plain ns e = not plain || isAhead h ns e
+
+-- the entries from number k up to r need not be marked, and entry r may have to be if there is one
+pub record NextNear (h : Bytes) (form : Form) (t : List ℕ) (plain : Bool) (ns : List ℕ) (k r : ℕ) : Type 0 where
   pub later : k ≤ r
-  pub spared : (n : ℕ) → k ≤ n → n < r → isAhead h ns (entryIn form t n) ≡ false
-  pub stops : r < room form t → isAhead h ns (entryIn form t r) ≡ true
+  pub spared : (n : ℕ) → k ≤ n → n < r → isNear h plain ns (entryIn form t n) ≡ false
+  pub stops : r < room form t → isNear h plain ns (entryIn form t r) ≡ true

@@ -10,6 +10,7 @@ use Rattle.values.specs.Value.{meaning}
 use Rattle.rules.specs.Known.{other}
 use Rattle.rules.specs.Entry.{Entry, mapKind, textKind}
 use Rattle.rules.specs.Shown.{lineIn, idMeaning}
+use Rattle.rules.specs.Claims.{keyIn}
 use Rattle.ids.specs.declared.scan.Clash.{Clash}
 use Rattle.ids.specs.declared.scan.Clash.the-variants.{Free, TypedId, Mixed, OtherId}
 
@@ -23,6 +24,11 @@ clashNumber OtherId = 21
 -- a record's line through its first `=`
 abbrev pub prefixOf : Bytes → Bytes
 prefixOf k = ascii "##" ++ (k ++ 61 ∷ [])
+
+-- the prefix with which a line begins
+pub record Prefixes (prefix line : Bytes) : Type 0 where
+  pub key : prefix ≡ prefixOf (keyIn line)
+  pub first : starts prefix line ≡ true
 
 -- an entry of this kind whose line begins with the prefix
 unfoldable pub hasKey : Bytes → Bytes → ℕ → Entry → Bool

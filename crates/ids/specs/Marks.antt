@@ -4,17 +4,18 @@ use mathlib.Core.Path.{_≡_}
 use mathlib.Core.Bool.{Bool, true, false, not, _||_, _&&_}
 use mathlib.Core.List.{List, [], _∷_}
 use lib.Dec.{eqb, leb, ltb}
-use lib.ListN.{length, replicate}
-use Rattle.values.specs.Bytes.{Bytes}
+use lib.ListN.{length, take, drop}
+use Rattle.values.specs.Bytes.{Bytes, is, EQUALS}
 use Rattle.values.specs.Hash.{wideBasis, wideStep, wideFrom}
 use Rattle.values.specs.Marks.{isMet, meet}
 use Rattle.rules.specs.Known.{other}
 use Rattle.rules.specs.Entry.{Entry, mapKind, textKind}
-use Rattle.rules.specs.Shown.{lineIn, idMeaning}
-use Rattle.rules.specs.Claims.{keyIn}
-use Rattle.ids.specs.Ahead.{isEnded, NewId, hasEscape, notesFrom, isAhead}
+use Rattle.rules.specs.Shown.{lineIn, idIn, idMeaning}
+use Rattle.rules.specs.Claims.{All, keyIn}
+use Rattle.ids.specs.Ahead.{isEnd, isOpened, isEnded, NewName, runFrom, runNoted, isNear}
 use Rattle.ids.specs.Clashes.{keySeen, idSeen, clashBy}
 use Rattle.ids.specs.declared.scan.Clash.{Clash}
+use Rattle.ids.specs.declared.scan.Clash.the-variants.{Free, TypedId, Mixed, OtherId}
 
 -- what an entry's hashes begin with: a typed kind has one key, an other record's key is told by its line
 unfoldable pub keyHash : Bytes → Entry → ℕ
@@ -27,6 +28,18 @@ underHash key kind = wideStep key kind
 -- and one with this ID
 unfoldable pub idHash : ℕ → ℕ → Bytes → ℕ
 idHash key kind id = wideFrom (underHash key kind) id
+
+-- the same by a line's `##key=`
+unfoldable pub prefixHash : Bytes → ℕ → ℕ
+prefixHash prefix kind = elim (ltb kind 7 || ltb (length prefix) 3) [ true ↦ wideBasis | false ↦ wideFrom wideBasis (take (length prefix - 1 - 2) (drop 2 prefix)) ]
+
+-- the ID of a kind that has one
+unfoldable pub meetId : Bytes → ℕ → Entry → List ℕ → List ℕ
+meetId h key e ms = elim (ltb 7 (e .kind)) [ true ↦ ms | false ↦ meet ms (idHash key (e .kind) (idMeaning h e)) ]
+
+-- the key of an other record
+unfoldable pub meetKey : ℕ → ℕ → List ℕ → List ℕ
+meetKey key kind ms = elim (ltb kind 7) [ true ↦ ms | false ↦ meet ms (underHash key kind) ]
 
 -- a typed kind's ID; an other map's ID, and its key; a text's key
 unfoldable pub markUnder : Bytes → ℕ → Entry → List ℕ → List ℕ
@@ -41,10 +54,6 @@ markUnder h key e ms = elim (ltb (e .kind) 7) [
 abbrev pub markEntry : Bytes → Entry → List ℕ → List ℕ
 markEntry h e ms = markUnder h (keyHash h e) e ms
 
-unfoldable pub markAll : Bytes → List Entry → List ℕ → List ℕ
-markAll h [] ms = ms
-markAll h (e ∷ es) ms = markAll h es (markEntry h e ms)
-
 -- what is marked of an entry that a new line may clash with
 pub record Marked (h : Bytes) (ms : List ℕ) (e : Entry) : Type 0 where
   pub id : 2 ≤ e .kind → e .kind ≤ 7 → isMet ms (idHash (keyHash h e) (e .kind) (idMeaning h e)) ≡ true
@@ -52,28 +61,38 @@ pub record Marked (h : Bytes) (ms : List ℕ) (e : Entry) : Type 0 where
 
 -- what is marked of an entry that a line from there on may clash with
 pub record MarkedFrom (h : Bytes) (from : ℕ) (ms : List ℕ) (e : Entry) : Type 0 where
-  pub id : 2 ≤ e .kind → e .kind ≤ 7 → NewId h from (idMeaning h e) → isMet ms (idHash (keyHash h e) (e .kind) (idMeaning h e)) ≡ true
-  pub key : 7 ≤ e .kind → e .kind ≤ 8 → isMet ms (underHash (keyHash h e) (e .kind)) ≡ true
+  pub id : 2 ≤ e .kind → e .kind ≤ 7 → (7 ≤ e .kind → NewName (is EQUALS) h from (keyIn (lineIn h e))) → NewName isEnd h from (idMeaning h e) → isMet ms (idHash (keyHash h e) (e .kind) (idMeaning h e)) ≡ true
+  pub key : 7 ≤ e .kind → e .kind ≤ 8 → NewName (is EQUALS) h from (keyIn (lineIn h e)) → isMet ms (underHash (keyHash h e) (e .kind)) ≡ true
 
--- the entries that have to be marked by the notes of what stands ahead
-unfoldable pub markNoted : Bytes → List ℕ → List Entry → List ℕ → List ℕ
-markNoted h ns [] ms = ms
-markNoted h ns (e ∷ es) ms = markNoted h ns es (elim (isAhead h ns e) [ true ↦ markEntry h e ms | false ↦ ms ])
+-- what of an entry may stand ahead, by the notes of what stands there
 
--- by notes of what stands ahead, after those in ns; all entries, where an ID ahead may be escaped
-unfoldable pub markBy : Bytes → ℕ → List ℕ → List Entry → List ℕ → List ℕ
-markBy h from ns es ms = elim (hasEscape h from) [ true ↦ markAll h es ms | false ↦ markNoted h (notesFrom h from ns) es ms ]
+unfoldable pub markId : Bytes → List ℕ → Entry → List ℕ → List ℕ
+markId h ns e ms = elim (runNoted ns (runFrom 0 (idIn h e))) [ true ↦ meet ms (idHash (keyHash h e) (e .kind) (idMeaning h e)) | false ↦ ms ]
+
+unfoldable pub markKey : Bytes → List ℕ → Entry → List ℕ → List ℕ
+markKey h ns e ms = elim (runNoted ns (runFrom 0 (keyIn (lineIn h e)))) [ true ↦ meet ms (underHash (keyHash h e) (e .kind)) | false ↦ ms ]
+
+-- the ID of a map only under a key that may
+unfoldable pub markMap : Bytes → List ℕ → Entry → List ℕ → List ℕ
+markMap h ns e ms = elim (runNoted ns (runFrom 0 (keyIn (lineIn h e)))) [ true ↦ markId h ns e (meet ms (underHash (keyHash h e) (e .kind))) | false ↦ ms ]
+
+unfoldable pub markNames : Bytes → List ℕ → Entry → List ℕ → List ℕ
+markNames h ns e ms = elim (ltb (e .kind) 7) [
+  | true ↦ markId h ns e ms
+  | false ↦ elim (eqb (e .kind) 7) [ true ↦ markMap h ns e ms | false ↦ markKey h ns e ms ]
+]
+
+-- of all entries; where no name ahead is escaped, only of those that are near
+unfoldable pub markNoted : Bytes → Bool → List ℕ → List Entry → List ℕ → List ℕ
+markNoted h plain ns [] ms = ms
+markNoted h plain ns (e ∷ es) ms = markNoted h plain ns es (elim (isNear h plain ns e) [ true ↦ markNames h ns e ms | false ↦ ms ])
 
 abbrev pub isFar : Bytes → ℕ → Bool
 isFar h from = leb 16384 (length h - from)
 
--- few words for the notes of a short part, more for those of a long one
-abbrev pub notesRoom : Bool → ℕ
-notesRoom true = 8192
-notesRoom false = 512
-
-abbrev pub markAhead : Bytes → ℕ → List Entry → List ℕ → List ℕ
-markAhead h from es ms = markBy h from (replicate (notesRoom (isFar h from)) 0) es ms
+-- all that lines from a place on may clash with is marked
+pub record AheadMarked (h : Bytes) (from : ℕ) (ms : List ℕ) (es : List Entry) : Type 0 where
+  pub all : All (MarkedFrom h from ms) es
 
 -- What is found of a new line: nothing is looked for where the marks tell that it isn't there
 
@@ -81,7 +100,21 @@ unfoldable pub keyFound : Bytes → List Entry → List ℕ → Bytes → ℕ �
 keyFound h es ms prefix key kind = isMet ms (underHash key kind) && keySeen h prefix kind es
 
 unfoldable pub idFound : Bytes → List Entry → List ℕ → Bytes → ℕ → Entry → Bool
-idFound h es ms prefix key e = (isMet ms (idHash key (e .kind) (idMeaning h e)) || not (isEnded h e)) && idSeen h prefix (e .kind) (idMeaning h e) es
+idFound h es ms prefix key e = (isMet ms (idHash key (e .kind) (idMeaning h e)) || not (isOpened h e && isEnded h e)) && idSeen h prefix (e .kind) (idMeaning h e) es
+
+-- a text beside a map, a map beside a text
+unfoldable pub otherSort : ℕ → ℕ
+otherSort kind = elim (eqb kind 7) [ true ↦ textKind | false ↦ mapKind other ]
+
+unfoldable pub mixedFound : Bytes → List Entry → List ℕ → Bytes → ℕ → ℕ → Bool
+mixedFound h es ms prefix key kind = not (ltb kind 7) && keyFound h es ms prefix key (otherSort kind)
+
+unfoldable pub twiceFound : Bytes → List Entry → List ℕ → Bytes → ℕ → Entry → Bool
+twiceFound h es ms prefix key e = not (ltb 7 (e .kind)) && idFound h es ms prefix key e
+
+-- by whether the ID was seen, and the key with the other sort
+unfoldable pub clashOf : ℕ → Bool → Bool → Clash
+clashOf kind twice mixed = elim mixed [ true ↦ Mixed | false ↦ elim twice [ true ↦ elim (ltb kind 7) [ true ↦ TypedId | false ↦ OtherId ] | false ↦ Free ] ]
 
 abbrev pub clashUnder : Bytes → List Entry → List ℕ → Bytes → ℕ → Entry → Clash
 clashUnder h es ms prefix key e = clashBy (e .kind) (idFound h es ms prefix key e) (keyFound h es ms prefix key textKind) (keyFound h es ms prefix key (mapKind other))

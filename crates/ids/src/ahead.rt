@@ -1,17 +1,19 @@
-// IDs that lines still to be read may have, told by their last bytes: an entry whose ID is none of these need not be marked.
+// Names that lines still to be read may have as IDs or as keys: an entry whose ID and key are none of these need not be marked.
 use entries::entry::Entry;
 use entries::form::Form;
 use entries::kind;
 use entries::table;
 use values::bytes;
+use values::hash;
 use values::marks;
 ghost use mathlib.Core.Path.{_≡_};
-ghost use mathlib.Core.Bool.{not};
+ghost use mathlib.Core.Bool.{not, _&&_};
 ghost use Prim.Native.Nat.{_+_, _^_, _≤_, _<_};
 ghost use lib.Dec.{leb};
 ghost use lib.ListN.{length, getD};
 ghost use Rattle.entries.specs.Values.{entryOf};
-ghost use Rattle.ids.specs.Ahead.{isEnd, idEnd, isEnded, fourAt, tailHash, noteEnd, hasEscape, notesAhead, tailNoted, isAhead, NextAhead};
+ghost use Rattle.rules.specs.Claims.{keyIn};
+ghost use Rattle.ids.specs.Ahead.{isEnd, isCut, idEnd, isOpened, isEnded, runOn, runStep, runFrom, noteRun, runNoted, fourAt, tailHash, noteTail, noteCut, hasEscape, notesFrom, tailNoted, isAhead, NextNear};
 
 // A bare ID ends before `,` or `>`, one between quotes before `"`.
 fn is_end(b: u8) -> bool
@@ -26,8 +28,39 @@ fn is_end(b: u8) -> bool
     b == b'"'
 }
 
-// Whether the byte after the ID of an entry is one of these.
-pub fn is_ended(h: &[u8], e: Entry) -> bool
+// Where a name is cut off: its bytes are looked at from the last of these on, after which it stands, or which it has or means.
+fn is_cut(b: u8) -> bool
+    ensures { λ r. ⌜ r ≡ isCut b ⌝ }
+{
+    if is_end(b) {
+        return true;
+    }
+    if b == b'#' {
+        return true;
+    }
+    if b == b'=' {
+        return true;
+    }
+    b == b'\\'
+}
+
+// Whether the ID of an entry stands after such a byte.
+fn is_opened(h: &[u8], e: Entry) -> bool
+    ensures { λ r. ⌜ r ≡ isOpened (now (h .entry)) (entryOf e) ⌝ }
+{
+    if e.offset == 0 {
+        return false;
+    }
+    let line = bytes::piece(h, e.start, h.len());
+    let at = e.offset - 1;
+    if line.len() <= at {
+        return false;
+    }
+    is_cut(line[at])
+}
+
+// Whether the byte after it is one that ends an ID.
+fn is_ended(h: &[u8], e: Entry) -> bool
     ensures { λ r. ⌜ r ≡ isEnded (now (h .entry)) (entryOf e) ⌝ }
 {
     let line = bytes::piece(h, e.start, h.len());
@@ -37,6 +70,96 @@ pub fn is_ended(h: &[u8], e: Entry) -> bool
         return false;
     }
     is_end(id[at])
+}
+
+// Whether the ID of an entry stands as those do that are looked for ahead.
+pub fn is_set(h: &[u8], e: Entry) -> bool
+    ensures { λ r. ⌜ r ≡ (isOpened (now (h .entry)) (entryOf e) && isEnded (now (h .entry)) (entryOf e)) ⌝ }
+{
+    if !is_opened(h, e) {
+        return false;
+    }
+    is_ended(h, e)
+}
+
+// A byte more: the bits before are turned by seven, so that those of nine bytes stand side by side.
+fn run_on(run: u64, b: u8) -> u64
+    ensures { λ r. ⌜ r ≡ runOn run b ⌝ }
+{
+    (run % 0x200_0000_0000_0000 * 128 + run / 0x200_0000_0000_0000) ^ (b as u64)
+}
+
+fn run_step(run: u64, b: u8) -> u64
+    ensures { λ r. ⌜ r ≡ runStep run b ⌝ }
+{
+    if is_cut(b) {
+        return 0;
+    }
+    run_on(run, b)
+}
+
+// A hash of the bytes after the last cut: of a text as of what it means, since an escaped byte is a cut in both.
+fn run_of(s: &[u8]) -> u64
+    ensures { λ r. ⌜ r ≡ runFrom 0 (now (s .entry)) ⌝ }
+{
+    let mut run: u64 = 0;
+    let mut k: usize = 0;
+    while k < s.len() {
+        let b = s[k];
+        k += 1;
+        run = run_step(run, b);
+    }
+    run
+}
+
+// That of a line's key.
+fn key_run(line: &[u8]) -> u64
+    ensures { λ r. ⌜ r ≡ runFrom 0 (keyIn (now (line .entry))) ⌝ }
+{
+    let mut run: u64 = 0;
+    let mut k: usize = 2;
+    while k < line.len() {
+        let b = line[k];
+        if b == b'=' {
+            return run;
+        }
+        k += 1;
+        run = run_step(run, b);
+    }
+    run
+}
+
+// By two bits, which few of very many other names have.
+fn note_run(notes: &mut [u64], run: u64)
+    ensures { λ _. ⌜ now (notes .exit) ≡ noteRun (now (notes .entry)) run ⌝ }
+{
+    let once = hash::wide_step(run, 0);
+    marks::note(notes, once);
+    marks::note(notes, hash::wide_step(once, 0));
+}
+
+fn is_run_noted(notes: &[u64], run: u64) -> bool
+    ensures { λ r. ⌜ r ≡ runNoted (now (notes .entry)) run ⌝ }
+{
+    let once = hash::wide_step(run, 0);
+    if !marks::is_noted(notes, once) {
+        return false;
+    }
+    marks::is_noted(notes, hash::wide_step(once, 0))
+}
+
+// Whether a name ahead may mean what this text does.
+pub fn is_text_ahead(notes: &[u64], text: &[u8]) -> bool
+    ensures { λ r. ⌜ r ≡ runNoted (now (notes .entry)) (runFrom 0 (now (text .entry))) ⌝ }
+{
+    is_run_noted(notes, run_of(text))
+}
+
+// Whether one may be the key of this line.
+pub fn is_key_ahead(notes: &[u64], line: &[u8]) -> bool
+    ensures { λ r. ⌜ r ≡ runNoted (now (notes .entry)) (runFrom 0 (keyIn (now (line .entry)))) ⌝ }
+{
+    is_run_noted(notes, key_run(line))
 }
 
 fn byte_at(h: &[u8], at: usize) -> u8
@@ -70,37 +193,52 @@ fn tail_hash(h: &[u8], end: usize) -> u64
     (a + b * 33) * 39084873
 }
 
-// Notes the bytes before a place where an ID may end.
-fn note_end(h: &[u8], end: usize, notes: &mut [u64])
+fn note_tail(h: &[u8], end: usize, notes: &mut [u64])
     requires { ⌜ end < length (now h) ⌝ }
-    ensures { λ _. ⌜ now (notes .exit) ≡ noteEnd (now (h .entry)) end (now (notes .entry)) ⌝ }
+    ensures { λ _. ⌜ now (notes .exit) ≡ noteTail (now (h .entry)) end (now (notes .entry)) ⌝ }
 {
-    if !is_end(h[end]) {
-        return;
-    }
     if end < 8 {
         return;
     }
     marks::note(notes, tail_hash(h, end));
 }
 
-// Notes the last bytes of all that may be an ID from `from` on; no where a backslash stands there, since an escaped ID may have other bytes.
+// Notes what stands before a place: a key may end there, or an ID.
+fn note_cut(h: &[u8], end: usize, run: u64, notes: &mut [u64])
+    requires { ⌜ end < length (now h) ⌝ }
+    ensures { λ _. ⌜ now (notes .exit) ≡ noteCut (now (h .entry)) end run (now (notes .entry)) ⌝ }
+{
+    let b = h[end];
+    if b == b'=' {
+        note_run(notes, run);
+        return;
+    }
+    if !is_end(b) {
+        return;
+    }
+    note_run(notes, run);
+    note_tail(h, end, notes);
+}
+
+// Notes all names that may stand from `from` on; yes where no backslash does, so that what is spelt otherwise is another name.
 pub fn look_ahead(h: &[u8], from: usize, notes: &mut [u64]) -> bool
     ensures plain { λ r. ⌜ r ≡ not (hasEscape (now (h .entry)) from) ⌝ }
-    ensures notes { λ _. ⌜ now (notes .exit) ≡ notesAhead (now (h .entry)) from (now (notes .entry)) ⌝ }
+    ensures notes { λ _. ⌜ now (notes .exit) ≡ notesFrom (now (h .entry)) from (now (notes .entry)) ⌝ }
 {
-    if h.len() <= from {
-        return true;
-    }
-    if bytes::has(&h[from..], b'\\') {
-        return false;
-    }
+    let mut run: u64 = 0;
     let mut k = from;
     while k < h.len() {
-        note_end(h, k, notes);
+        let b = h[k];
+        let end = k;
         k += 1;
+        if is_cut(b) {
+            note_cut(h, end, run, notes);
+            run = 0;
+        } else {
+            run = run_on(run, b);
+        }
     }
-    true
+    !bytes::has(bytes::piece(h, from, h.len()), b'\\')
 }
 
 // Whether an entry's ID lies in the header.
@@ -128,7 +266,7 @@ fn is_tail_noted(h: &[u8], e: Entry, notes: &[u64]) -> bool
     marks::is_noted(notes, tail_hash(h, e.start + e.offset + e.id_length))
 }
 
-// Whether an entry has to be marked.
+// Whether an entry may have to be marked, by its last bytes: a cheap test that most entries fail.
 fn is_ahead(h: &[u8], e: Entry, notes: &[u64]) -> bool
     ensures { λ r. ⌜ r ≡ isAhead (now (h .entry)) (now (notes .entry)) (entryOf e) ⌝ }
 {
@@ -145,10 +283,20 @@ fn is_ahead(h: &[u8], e: Entry, notes: &[u64]) -> bool
     is_tail_noted(h, e, notes)
 }
 
-// The first entry from number k on that has to be marked, or the end.
-pub fn next_ahead(h: &[u8], kept: &[u64], form: Form, notes: &[u64], first: usize) -> usize
-    ensures { λ r. ⌜ NextAhead (now (h .entry)) form (now (kept .entry)) (now (notes .entry)) first r ⌝ }
+// The first entry from number k on that may have to be marked, or the end; where names ahead may be spelt otherwise, any may.
+pub fn next_near(
+    h: &[u8],
+    kept: &[u64],
+    form: Form,
+    plain: bool,
+    notes: &[u64],
+    first: usize,
+) -> usize
+    ensures { λ r. ⌜ NextNear (now (h .entry)) form (now (kept .entry)) plain (now (notes .entry)) first r ⌝ }
 {
+    if !plain {
+        return first;
+    }
     let mut k = first;
     while k < table::count(kept, form) {
         if is_ahead(h, table::get(kept, form, k), notes) {

@@ -10,16 +10,15 @@ use values::hash;
 use values::marks;
 use values::string;
 ghost use mathlib.Core.Path.{_≡_};
-ghost use mathlib.Core.Bool.{not, _||_};
+ghost use mathlib.Core.Bool.{not, _||_, _&&_};
 ghost use Rattle.values.specs.Value.{meaning};
 ghost use Rattle.values.specs.Marks.{meet};
-ghost use Rattle.rules.specs.Entry.{textKind};
 ghost use Rattle.rules.specs.Shown.{idMeaning};
 ghost use Rattle.entries.specs.Values.{entryOf};
 ghost use Rattle.entries.specs.Tables.{entriesIn};
-ghost use Rattle.ids.specs.Clashes.{lastOf, isOfKey, MayEqual, Candidate, keySeen, idSeen, mapClash};
-ghost use Rattle.ids.specs.Ahead.{isEnded};
-ghost use Rattle.ids.specs.Marks.{keyHash, underHash, idHash, markUnder, markEntry, markAll, markNoted, markBy, isFar, markAhead, keyFound, idFound, clashUnder, clashFound};
+ghost use Rattle.ids.specs.Clashes.{lastOf, isOfKey, MayEqual, Candidate, keySeen, idSeen};
+ghost use Rattle.ids.specs.Ahead.{isOpened, isEnded};
+ghost use Rattle.ids.specs.Marks.{keyHash, prefixHash, underHash, idHash, markUnder, markId, markKey, markMap, markNames, markNoted, isFar, AheadMarked, keyFound, idFound, otherSort, mixedFound, twiceFound, meetId, meetKey, clashOf, clashUnder};
 
 pub enum Clash {
     Free,
@@ -183,12 +182,12 @@ fn has_key(
 
 // Whether no entry has the new one's ID, by the marks: of an ID that stands otherwise than those that were looked for ahead they tell nothing.
 fn is_free(h: &[u8], met: bool, new: Entry) -> bool
-    ensures { λ r. ⌜ r ≡ not (met || not (isEnded (now (h .entry)) (entryOf new))) ⌝ }
+    ensures { λ r. ⌜ r ≡ not (met || not (isOpened (now (h .entry)) (entryOf new) && isEnded (now (h .entry)) (entryOf new))) ⌝ }
 {
     if met {
         return false;
     }
-    ahead::is_ended(h, new)
+    ahead::is_set(h, new)
 }
 
 // The new entry's ID is marked by that.
@@ -219,33 +218,35 @@ fn has_id(
     )
 }
 
-fn find_map_clash(
+// Whether a record of the other sort, a text beside a map or a map beside a text, stands under the new one's key.
+fn is_mixed(
     h: &[u8],
     kept: &[u64],
     form: Form,
-    marks: &mut [u64],
+    marks: &[u64],
     prefix: &[u8],
     key: u64,
-    new: Entry,
-) -> Clash
-    ensures clash { λ r.
-        ⌜ r ≡ mapClash (keyFound (now (h .entry)) (entriesIn form (now (kept .entry))) (now (marks .entry)) (now (prefix .entry)) key textKind)
-        (idFound (now (h .entry)) (entriesIn form (now (kept .entry))) (now (marks .entry)) (now (prefix .entry)) key (entryOf new)) ⌝ }
-    ensures marks { λ _. ⌜ now (marks .exit) ≡ meet (meet (now (marks .entry)) (idHash key (new .kind) (idMeaning (now (h .entry)) (entryOf new)))) (underHash key (new .kind)) ⌝ }
+    kind: u8,
+) -> bool
+    ensures { λ r. ⌜ r ≡ mixedFound (now (h .entry)) (entriesIn form (now (kept .entry))) (now (marks .entry)) (now (prefix .entry)) key kind ⌝ }
 {
-    let mixed = has_key(h, kept, form, marks, prefix, key, kind::OTHER_TEXT);
-    let found = has_id(h, kept, form, marks, prefix, key, new);
-    marks::meet_hash(marks, under_hash(key, new.kind));
-    if mixed {
-        return Clash::Mixed;
+    if kind < kind::OTHER_MAP {
+        return false;
     }
-    if found {
-        return Clash::OtherId;
-    }
-    Clash::Free
+    has_key(h, kept, form, marks, prefix, key, other_sort(kind))
 }
 
-fn find_under(
+fn other_sort(kind: u8) -> u8
+    ensures { λ r. ⌜ r ≡ otherSort kind ⌝ }
+{
+    if kind == kind::OTHER_MAP {
+        return kind::OTHER_TEXT;
+    }
+    kind::OTHER_MAP
+}
+
+// As `has_id`, of a kind that has one.
+fn is_twice(
     h: &[u8],
     kept: &[u64],
     form: Form,
@@ -253,29 +254,56 @@ fn find_under(
     prefix: &[u8],
     key: u64,
     new: Entry,
-) -> Clash
-    ensures clash { λ r. ⌜ r ≡ clashUnder (now (h .entry)) (entriesIn form (now (kept .entry))) (now (marks .entry)) (now (prefix .entry)) key (entryOf new) ⌝ }
-    ensures marks { λ _. ⌜ now (marks .exit) ≡ markUnder (now (h .entry)) key (entryOf new) (now (marks .entry)) ⌝ }
+) -> bool
+    ensures found { λ r. ⌜ r ≡ twiceFound (now (h .entry)) (entriesIn form (now (kept .entry))) (now (marks .entry)) (now (prefix .entry)) key (entryOf new) ⌝ }
+    ensures marks { λ _. ⌜ now (marks .exit) ≡ meetId (now (h .entry)) key (entryOf new) (now (marks .entry)) ⌝ }
 {
-    if new.kind < kind::OTHER_MAP {
-        if has_id(h, kept, form, marks, prefix, key, new) {
-            return Clash::TypedId;
-        }
-        return Clash::Free;
+    if kind::OTHER_MAP < new.kind {
+        return false;
     }
-    if new.kind == kind::OTHER_MAP {
-        return find_map_clash(h, kept, form, marks, prefix, key, new);
+    has_id(h, kept, form, marks, prefix, key, new)
+}
+
+fn meet_key(marks: &mut [u64], key: u64, kind: u8)
+    ensures { λ _. ⌜ now (marks .exit) ≡ meetKey key kind (now (marks .entry)) ⌝ }
+{
+    if kind < kind::OTHER_MAP {
+        return;
     }
-    let mixed = has_key(h, kept, form, marks, prefix, key, kind::OTHER_MAP);
-    marks::meet_hash(marks, under_hash(key, new.kind));
+    marks::meet_hash(marks, under_hash(key, kind));
+}
+
+fn clash_of(kind: u8, twice: bool, mixed: bool) -> Clash
+    ensures { λ r. ⌜ r ≡ clashOf kind twice mixed ⌝ }
+{
     if mixed {
         return Clash::Mixed;
     }
-    Clash::Free
+    if !twice {
+        return Clash::Free;
+    }
+    if kind < kind::OTHER_MAP {
+        return Clash::TypedId;
+    }
+    Clash::OtherId
+}
+
+// What a new entry's hashes begin with, by its `##key=`.
+fn prefix_hash(prefix: &[u8], kind: u8) -> u64
+    ensures { λ r. ⌜ r ≡ prefixHash (now (prefix .entry)) kind ⌝ }
+{
+    if kind < kind::OTHER_MAP {
+        return hash::WIDE_BASIS;
+    }
+    if prefix.len() < 3 {
+        return hash::WIDE_BASIS;
+    }
+    let end = prefix.len() - 1;
+    hash::wide_from(hash::WIDE_BASIS, &prefix[2..end], false)
 }
 
 // What is wrong with a new line beside the entries kept so far, which are marked; it is marked too. `new` is its entry,
-// `prefix` its `##key=`.
+// `prefix` its `##key=`. Each part is called here alone, so that the compiler makes it a part of the caller.
 pub fn find_clash(
     h: &[u8],
     kept: &[u64],
@@ -284,71 +312,84 @@ pub fn find_clash(
     prefix: &[u8],
     new: Entry,
 ) -> Clash
-    ensures clash { λ r. ⌜ r ≡ clashFound (now (h .entry)) (entriesIn form (now (kept .entry))) (now (marks .entry)) (now (prefix .entry)) (entryOf new) ⌝ }
-    ensures marks { λ _. ⌜ now (marks .exit) ≡ markEntry (now (h .entry)) (entryOf new) (now (marks .entry)) ⌝ }
+    ensures clash { λ r. ⌜ r ≡ clashUnder (now (h .entry)) (entriesIn form (now (kept .entry))) (now (marks .entry)) (now (prefix .entry)) (prefixHash (now (prefix .entry)) (new .kind)) (entryOf new) ⌝ }
+    ensures marks { λ _. ⌜ now (marks .exit) ≡ markUnder (now (h .entry)) (prefixHash (now (prefix .entry)) (new .kind)) (entryOf new) (now (marks .entry)) ⌝ }
 {
-    find_under(h, kept, form, marks, prefix, key_hash(h, new), new)
+    let key = prefix_hash(prefix, new.kind);
+    let mixed = is_mixed(h, kept, form, marks, prefix, key, new.kind);
+    let twice = is_twice(h, kept, form, marks, prefix, key, new);
+    meet_key(marks, key, new.kind);
+    clash_of(new.kind, twice, mixed)
 }
 
-fn mark_under(h: &[u8], key: u64, e: Entry, marks: &mut [u64])
-    ensures { λ _. ⌜ now (marks .exit) ≡ markUnder (now (h .entry)) key (entryOf e) (now (marks .entry)) ⌝ }
+// The ID of an entry, where it may stand ahead.
+fn mark_id(h: &[u8], e: Entry, notes: &[u64], marks: &mut [u64])
+    ensures { λ _. ⌜ now (marks .exit) ≡ markId (now (h .entry)) (now (notes .entry)) (entryOf e) (now (marks .entry)) ⌝ }
+{
+    if !ahead::is_text_ahead(notes, part::id_part(h, e)) {
+        return;
+    }
+    marks::meet_hash(marks, id_hash(h, key_hash(h, e), e));
+}
+
+// That there is a text under a key, where that may stand ahead.
+fn mark_key(h: &[u8], e: Entry, notes: &[u64], marks: &mut [u64])
+    ensures { λ _. ⌜ now (marks .exit) ≡ markKey (now (h .entry)) (now (notes .entry)) (entryOf e) (now (marks .entry)) ⌝ }
+{
+    if !ahead::is_key_ahead(notes, part::line_part(h, e)) {
+        return;
+    }
+    marks::meet_hash(marks, under_hash(key_hash(h, e), e.kind));
+}
+
+// That there is a map under a key, and its ID, where both may: under a key that does not its ID is no other's.
+fn mark_map(h: &[u8], e: Entry, notes: &[u64], marks: &mut [u64])
+    ensures { λ _. ⌜ now (marks .exit) ≡ markMap (now (h .entry)) (now (notes .entry)) (entryOf e) (now (marks .entry)) ⌝ }
+{
+    if !ahead::is_key_ahead(notes, part::line_part(h, e)) {
+        return;
+    }
+    marks::meet_hash(marks, under_hash(key_hash(h, e), e.kind));
+    mark_id(h, e, notes, marks);
+}
+
+// What a new line may clash with.
+fn mark_entry(h: &[u8], e: Entry, notes: &[u64], marks: &mut [u64])
+    ensures { λ _. ⌜ now (marks .exit) ≡ markNames (now (h .entry)) (now (notes .entry)) (entryOf e) (now (marks .entry)) ⌝ }
 {
     if e.kind < kind::OTHER_MAP {
-        marks::meet_hash(marks, id_hash(h, key, e));
+        mark_id(h, e, notes, marks);
         return;
     }
     if e.kind == kind::OTHER_MAP {
-        marks::meet_hash(marks, id_hash(h, key, e));
-        marks::meet_hash(marks, under_hash(key, e.kind));
+        mark_map(h, e, notes, marks);
         return;
     }
-    marks::meet_hash(marks, under_hash(key, e.kind));
+    mark_key(h, e, notes, marks);
 }
 
-// What a new line may clash with is marked: an ID, or that there is a map or a text under a key.
-fn mark_entry(h: &[u8], e: Entry, marks: &mut [u64])
-    ensures { λ _. ⌜ now (marks .exit) ≡ markEntry (now (h .entry)) (entryOf e) (now (marks .entry)) ⌝ }
-{
-    mark_under(h, key_hash(h, e), e, marks);
-}
-
-// Marks all entries of a table, so that a scan of them may be left out.
-fn mark_all(h: &[u8], kept: &[u64], form: Form, marks: &mut [u64])
-    ensures { λ _. ⌜ now (marks .exit) ≡ markAll (now (h .entry)) (entriesIn form (now (kept .entry))) (now (marks .entry)) ⌝ }
-{
-    let mut k = 0;
-    while k < table::count(kept, form) {
-        let e = table::get(kept, form, k);
-        k += 1;
-        mark_entry(h, e, marks);
-    }
-}
-
-// Marks the entries whose IDs may stand ahead, by the notes of what stands there.
-fn mark_noted(h: &[u8], kept: &[u64], form: Form, notes: &[u64], marks: &mut [u64])
-    ensures { λ _. ⌜ now (marks .exit) ≡ markNoted (now (h .entry)) (now (notes .entry)) (entriesIn form (now (kept .entry))) (now (marks .entry)) ⌝ }
+// Marks the entries whose names may stand ahead, by the notes of what stands there.
+fn mark_noted(h: &[u8], kept: &[u64], form: Form, plain: bool, notes: &[u64], marks: &mut [u64])
+    ensures { λ _. ⌜ now (marks .exit) ≡ markNoted (now (h .entry)) plain (now (notes .entry)) (entriesIn form (now (kept .entry))) (now (marks .entry)) ⌝ }
 {
     let mut k: usize = 0;
     loop {
-        k = ahead::next_ahead(h, kept, form, notes, k);
+        k = ahead::next_near(h, kept, form, plain, notes, k);
         if table::count(kept, form) <= k {
             return;
         }
         let e = table::get(kept, form, k);
-        mark_entry(h, e, marks);
+        mark_entry(h, e, notes, marks);
         k += 1;
     }
 }
 
-// By notes of what stands from `from` on; all entries, where an ID there may be escaped.
+// Marks what lines from `from` on may clash with, by notes of what stands there, beside those that were.
 fn mark_by(h: &[u8], from: usize, kept: &[u64], form: Form, notes: &mut [u64], marks: &mut [u64])
-    ensures { λ _. ⌜ now (marks .exit) ≡ markBy (now (h .entry)) from (now (notes .entry)) (entriesIn form (now (kept .entry))) (now (marks .entry)) ⌝ }
+    ensures { λ _. ⌜ AheadMarked (now (h .entry)) from (now (marks .exit)) (entriesIn form (now (kept .entry))) ⌝ }
 {
-    if ahead::look_ahead(h, from, notes) {
-        mark_noted(h, kept, form, notes, marks);
-        return;
-    }
-    mark_all(h, kept, form, marks);
+    let plain = ahead::look_ahead(h, from, notes);
+    mark_noted(h, kept, form, plain, notes, marks);
 }
 
 // Whether so many bytes stand from `from` on that they need more notes than a short part, which is read in less time than those are cleared.
@@ -361,23 +402,37 @@ fn is_far(h: &[u8], from: usize) -> bool
     16384 <= h.len() - from
 }
 
+fn mark_far(h: &[u8], from: usize, kept: &[u64], form: Form, marks: &mut [u64])
+    ensures { λ _. ⌜ AheadMarked (now (h .entry)) from (now (marks .exit)) (entriesIn form (now (kept .entry))) ⌝ }
+{
+    let mut notes = [0u64; 32768];
+    mark_by(h, from, kept, form, &mut notes, marks);
+}
+
+// With notes of its own where none are lent. A function that calls itself is not made a part of its caller, nor is one with more
+// notes of it: else all notes would be on the stack of every header.
+fn mark_lent(h: &[u8], from: usize, kept: &[u64], form: Form, notes: &mut [u64], marks: &mut [u64])
+    ensures { λ _. ⌜ AheadMarked (now (h .entry)) from (now (marks .exit)) (entriesIn form (now (kept .entry))) ⌝ }
+{
+    if 0 < notes.len() {
+        mark_by(h, from, kept, form, notes, marks);
+        return;
+    }
+    if is_far(h, from) {
+        mark_far(h, from, kept, form, marks);
+        return;
+    }
+    let mut few = [0u64; 1024];
+    mark_lent(h, from, kept, form, &mut few, marks);
+}
+
 // Marks what lines from `from` on may clash with, so that a scan of the table may be left out.
 pub fn mark_ahead(h: &[u8], from: usize, kept: &[u64], form: Form, marks: &mut [u64])
-    ensures { λ _. ⌜ now (marks .exit) ≡ markAhead (now (h .entry)) from (entriesIn form (now (kept .entry))) (now (marks .entry)) ⌝ }
+    ensures { λ _. ⌜ AheadMarked (now (h .entry)) from (now (marks .exit)) (entriesIn form (now (kept .entry))) ⌝ }
 {
     if table::count(kept, form) == 0 {
         return;
     }
-    if is_far(h, from) {
-        let mut many = [0u64; 8192];
-        mark_by(h, from, kept, form, &mut many, marks);
-        return;
-    }
-    // Notes that are not handed on are looked up with a number of words that is known, which a header in many pieces gains by.
-    let mut few = [0u64; 512];
-    if ahead::look_ahead(h, from, &mut few) {
-        mark_noted(h, kept, form, &few, marks);
-        return;
-    }
-    mark_all(h, kept, form, marks);
+    let mut none = [0u64; 0];
+    mark_lent(h, from, kept, form, &mut none, marks);
 }

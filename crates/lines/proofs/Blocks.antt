@@ -31,11 +31,11 @@ module _ {s : Bytes} {start i : ℕ} (g : Scanning (is LF) s start i) where
   pub stops : stopOf (is LF) s i ≡ stopOf (is LF) s start
   stops = sym (g .still)
 
-  pub skipped : 16 ≤ length s → i ≤ length s - 16 → {q : Bool} → q ≡ any (is LF) (take (i + 16 - i) (drop i s)) → q ≡ false
-      → Scanning (is LF) s start (i + 16)
+  pub skipped : 8 ≤ length s → i ≤ length s - 8 → {q : Bool} → q ≡ any (is LF) (take (i + 8 - i) (drop i s)) → q ≡ false
+      → Scanning (is LF) s start (i + 8)
   skipped w l a e =
-      let n : i + 16 - i ≡ 16 = omega arith in
-      record { still = g .still ∙ past (is LF) s i 16 (omega arith) (rw n at (sym a ∙ e)) }
+      let n : i + 8 - i ≡ 8 = omega arith in
+      record { still = g .still ∙ past (is LF) s i 8 (omega arith) (rw n at (sym a ∙ e)) }
 
 -- what answers the needs of `skip_blocks`
 pub ruleset skips = (started, skipped, stops)

@@ -12,17 +12,17 @@ pub struct Line {
     pub next: usize,
 }
 
-// Past blocks of 16 bytes that have no LF: the first one from there on is the first from `at` on.
+// Past blocks of eight bytes that have no LF: the first one from there on is the first from `at` on.
 fn skip_blocks(h: &[u8], at: usize) -> usize
     ensures { λ r. ⌜ r + length (before (is LF) (drop r (now (h .entry)))) ≡ at + length (before (is LF) (drop at (now (h .entry)))) ⌝ }
 {
-    if h.len() < 16 {
+    if h.len() < 8 {
         return at;
     }
-    let last = h.len() - 16;
+    let last = h.len() - 8;
     let mut i = at;
     while i <= last {
-        let next = i + 16;
+        let next = i + 8;
         if bytes::has(&h[i..next], b'\n') {
             return i;
         }

@@ -10,6 +10,7 @@ pub mod Checks
 pub mod Walks
 pub mod Maps
 pub mod Distincts
+pub mod Skims
 pub mod Fields
 pub mod Steps
 pub mod Loops
@@ -17,4 +18,5 @@ pub mod Required
 pub mod Needed
 pub mod Declares
 pub mod Records
+pub mod Quickly
 pub mod Determined

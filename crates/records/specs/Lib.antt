@@ -7,4 +7,6 @@ pub mod Definitions
 pub mod Tags
 pub mod Fields
 pub mod Maps
+pub mod Names
 pub mod Records
+pub mod Quick

@@ -10,7 +10,6 @@ use Rattle.values.specs.Value.{meaning}
 use Rattle.values.specs.Integer.{u64Read}
 use Rattle.values.specs.Field.{Field, writtenField, readField}
 use Rattle.values.specs.Places.{cursorAt}
-use Rattle.values.specs.Marks.{isMarked}
 use Rattle.values.specs.declared.string.Text.{Text}
 use Rattle.rules.specs.Answer.{ok, refuse, unless, first, judged}
 use Rattle.rules.specs.Version.{Version}
@@ -18,7 +17,6 @@ use Rattle.rules.specs.Known.{Kind, Reads, KnownField, anyText, aNumber, aType,
 use Rattle.rules.specs.Reserved.{reservedPages}
 use Rattle.rules.specs.Map.{After, more, done, wrong, after, Scan, scan, readFields, isMeta, knownNamed, checkFields, valueNamed, misdeclared, readMap}
 use Rattle.rules.specs.Entry.{textNamed}
-use Rattle.rules.specs.Claims.{All}
 use Rattle.rules.specs.Spelling.{hasOdd}
 use Rattle.records.specs.Refusals.{number}
 use Rattle.records.specs.Keys.{caseBytes, versionIn, keyBytes}
@@ -149,10 +147,6 @@ keysOf fs = map (λ (f : Field). f .key) fs
 -- whether one of these fields has the key
 pub record HasKey (m : Bool) (s : Bytes) (start upto : ℕ) (key : Bytes) (r : Bool) : Type 0 where
   pub among : (fs : List Field) → FieldsFrom m s start fs upto → r ≡ isIn key (keysOf fs)
-
--- a name was looked for among these fields, all of whose names are marked
-pub record NameKnown (x : MapContext) (s : Bytes) (ms : List ℕ) (at : ℕ) (name : Bytes) (r : Bool) : Type 0 where
-  pub among : (fs : List Field) → FieldsFrom (x .brackets) s (x .start) fs at → All (λ (f : Field). isMarked ms 0 (f .key) ≡ true) fs → r ≡ isIn name (keysOf fs)
 
 -- no field that begins before r has the key of an earlier one
 pub record Distinct (x : MapContext) (s : Bytes) (r : ℕ) : Type 0 where

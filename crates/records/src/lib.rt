@@ -2,6 +2,7 @@
 mod alternative_allele;
 mod contig;
 pub mod definition;
+mod distinct;
 pub mod field;
 pub mod file_format;
 mod filter;
@@ -10,6 +11,7 @@ mod list;
 mod map;
 pub mod number;
 mod other;
+mod quick;
 pub mod record;
 pub mod refusal;
 pub mod tag;

@@ -1,6 +1,5 @@
 // A map: `<`, fields parted by `,`, then `>` as the last byte of the line.
-use crate::field;
-use crate::field::FieldFound;
+use crate::distinct;
 use crate::file_format::FileFormat;
 use crate::key::MapContext;
 use crate::key::MapKey;
@@ -15,14 +14,12 @@ use values::field::FieldRead;
 use values::field::Separator;
 use values::integer;
 use values::integer::IntegerRead;
-use values::marks;
 use values::string::Text;
 ghost use mathlib.Core.Path.{_≡_};
 ghost use mathlib.Core.Bool.{false, _||_};
 ghost use lib.ListN.{drop};
 ghost use Rattle.values.specs.Integer.{u64Read};
 ghost use Rattle.values.specs.Value.{meaning};
-ghost use Rattle.values.specs.Marks.{mark};
 ghost use Rattle.rules.specs.Answer.{unless};
 ghost use Rattle.rules.specs.Known.{isIn, letters, alwaysMap};
 ghost use Rattle.rules.specs.Record.{looksMap};
@@ -32,7 +29,7 @@ ghost use Rattle.records.specs.Refusals.{number};
 ghost use Rattle.records.specs.Keys.{caseBytes, kindBy};
 ghost use Rattle.records.specs.Numbers.{isCount, lettersOf};
 ghost use Rattle.records.specs.Tags.{tagRow};
-ghost use Rattle.records.specs.Maps.{opensAt, closesAt, afterAt, Checked, rawRefusal, noSlots, slotsOf, filledAs, fieldsOf, get, putSlot, HasKey, NameKnown, Distinct, Repeats, TakesField, ReadsField, WalksFields, bareAt, ReadsFields, OpensMap, Identified, Described, ParsesMap};
+ghost use Rattle.records.specs.Maps.{opensAt, closesAt, afterAt, Checked, rawRefusal, noSlots, slotsOf, filledAs, fieldsOf, get, putSlot, Distinct, Repeats, TakesField, ReadsField, WalksFields, bareAt, ReadsFields, OpensMap, Identified, Described, ParsesMap};
 
 // A text that was read, and which name stood for the ID.
 pub enum Slot {
@@ -144,7 +141,7 @@ pub fn consume_suffix(s: &[u8], c: Cursor) -> bool
     at + 1 == s.len()
 }
 
-fn after_field(s: &[u8], c: Cursor) -> After
+pub fn after_field(s: &[u8], c: Cursor) -> After
     ensures { λ r. ⌜ r ≡ afterAt (now (s .entry)) (c .at) ⌝ }
 {
     match c.consume_separator(s) {
@@ -207,7 +204,7 @@ impl MapKey {
     }
 
     // Number, Type, IDX and length have rules of their own.
-    fn check_value(self, version: FileFormat, tag: Tag, s: &[u8], quoted: bool) -> Check
+    pub fn check_value(self, version: FileFormat, tag: Tag, s: &[u8], quoted: bool) -> Check
         ensures { λ r. ⌜ Checked r (rawRefusal (versionOf version) (kindBy self) (now (s .entry)) quoted (tagRow tag)) (oddValue (now (s .entry)) (tagRow tag)) ⌝ }
     {
         match tag {
@@ -295,69 +292,6 @@ impl Slots {
     }
 }
 
-// Whether a field from `start` on, before `upto`, has this key: the first one that has it is looked for.
-fn has_key(s: &[u8], start: usize, upto: usize, brackets: bool, key: &[u8]) -> bool
-    ensures { λ r. ⌜ HasKey brackets (now (s .entry)) start upto (now (key .entry)) r ⌝ }
-{
-    let FieldFound::Found(text) = field::find_field(s, start, brackets, key) else {
-        return false;
-    };
-    text.start < upto
-}
-
-// Whether a field before `at` has this name, where the marks of those don't tell it already; the name is marked.
-fn is_named(s: &[u8], map: MapContext, at: usize, name: &[u8], marks: &mut [u64]) -> bool
-    ensures named { λ r. ⌜ NameKnown map (now (s .entry)) (now (marks .entry)) at (now (name .entry)) r ⌝ }
-    ensures marks { λ _. ⌜ now (marks .exit) ≡ mark (now (marks .entry)) 0 (now (name .entry)) ⌝ }
-{
-    if !marks::meet(marks, 0, name, false) {
-        return false;
-    }
-    has_key(s, map.start, at, map.brackets, name)
-}
-
-// A place such that no field that begins before it has the name of an earlier one, whatever stands in `marks`.
-fn mark_fields(s: &[u8], map: MapContext, marks: &mut [u64]) -> usize
-    ensures { λ r. ⌜ Distinct map (now (s .entry)) r ⌝ }
-{
-    let mut c = Cursor { at: map.start };
-    loop {
-        let at = c.at;
-        let FieldRead::Field(equals, _, next) = c.split_field(s, map.brackets) else {
-            return at;
-        };
-        if is_named(s, map, at, bytes::part(s, at, equals), marks) {
-            return at;
-        }
-        let Separator::Comma(d) = next.consume_separator(s) else {
-            return next.at;
-        };
-        c = d;
-    }
-}
-
-fn mark_long(s: &[u8], map: MapContext) -> usize
-    ensures { λ r. ⌜ Distinct map (now (s .entry)) r ⌝ }
-{
-    let mut marks = [0u64; 40960];
-    mark_fields(s, map, &mut marks)
-}
-
-// The same, with marks of its own where none are lent. A function that calls itself is not made a part of its caller, whose stack would
-// hold the marks for each line.
-fn find_distinct(s: &[u8], map: MapContext, marks: &mut [u64]) -> usize
-    ensures { λ r. ⌜ Distinct map (now (s .entry)) r ⌝ }
-{
-    if 0 < marks.len() {
-        return mark_fields(s, map, marks);
-    }
-    if s.len() < 65536 {
-        let mut own = [0u64; 4096];
-        return find_distinct(s, map, &mut own);
-    }
-    mark_long(s, map)
-}
-
 // Whether a field of the same name stands before `at`: the kept ones are at hand, others are looked for, unless each
 // field before is kept or the names before `distinct` are known to differ.
 fn is_repeated(
@@ -385,7 +319,7 @@ fn is_repeated(
     if at < distinct {
         return false;
     }
-    has_key(s, map.start, at, map.brackets, field)
+    distinct::has_key(s, map.start, at, map.brackets, field)
 }
 
 fn either(a: bool, b: bool) -> bool
@@ -448,9 +382,9 @@ fn distinct_at(s: &[u8], map: MapContext, fields: usize, distinct: usize) -> usi
     requires { ⌜ Distinct map (now s) distinct ⌝ }
     ensures { λ r. ⌜ Distinct map (now (s .entry)) r ⌝ }
 {
-    if fields == 16 {
+    if fields == 8 {
         let mut none = [0u64; 0];
-        return find_distinct(s, map, &mut none);
+        return distinct::find(s, map, &mut none);
     }
     distinct
 }
@@ -502,7 +436,7 @@ fn walk_fields(s: &[u8], map: MapContext) -> FieldsRead
 }
 
 // If `>` or the end follows `<`, a map has no fields, but META and PEDIGREE need one.
-fn is_bare(s: &[u8], c: Cursor, key: MapKey) -> bool
+pub fn is_bare(s: &[u8], c: Cursor, key: MapKey) -> bool
     ensures { λ r. ⌜ r ≡ bareAt (now (s .entry)) (c .at) (alwaysMap (caseBytes key)) ⌝ }
 {
     if key.is_always_map() {

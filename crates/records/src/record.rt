@@ -5,6 +5,8 @@ use crate::file_format::FileFormatRead;
 use crate::key;
 use crate::key::MapKey;
 use crate::map::Tally;
+use crate::quick;
+use crate::quick::QuickRead;
 use crate::refusal::Refusal;
 use crate::value;
 use crate::value::ValueParsed;
@@ -121,4 +123,24 @@ pub fn parse_record(s: &[u8], version: FileFormat) -> RecordRead
         },
         KeyParsed::Refused => RecordRead::Refused(Refusal::InvalidRecord),
     }
+}
+
+// As `parse_record`, and quicker where the record has one or two bare fields.
+pub fn read_record(s: &[u8], version: FileFormat) -> RecordRead
+    ensures { λ r. ⌜ ParsesRecord (versionOf version) (now (s .entry)) r ⌝ }
+{
+    let QuickRead::Map(contig, value, end, fields) = quick::read_quick(s) else {
+        return parse_record(s, version);
+    };
+    RecordRead::Map(MapRecord {
+        key: quick::quick_key(contig),
+        value,
+        id: Text {
+            start: value + 4,
+            end,
+            quoted: false,
+        },
+        tag: 0,
+        tally: Tally { odd: false, fields },
+    })
 }

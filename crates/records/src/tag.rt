@@ -109,7 +109,7 @@ fn typed_tag(field: &[u8]) -> Tag
     filter_tag(field)
 }
 
-fn contig_tag(field: &[u8]) -> Tag
+pub fn contig_tag(field: &[u8]) -> Tag
     ensures { λ r. ⌜ tagRow r ≡ rowNamed (now (field .entry)) (afterId contig) ⌝ }
 {
     if bytes::same(b"length", field) {

@@ -103,7 +103,7 @@ fn parse_map_value(s: &[u8], c: Cursor, key: MapKey, version: FileFormat) -> Map
 }
 
 // Typed keys, META and PEDIGREE are always maps; others by how their value begins.
-fn is_map_value(s: &[u8], c: Cursor, key: MapKey, version: FileFormat) -> bool
+pub fn is_map_value(s: &[u8], c: Cursor, key: MapKey, version: FileFormat) -> bool
     ensures { λ r. ⌜ r ≡ isMap (versionOf version) (caseBytes key) (drop (c .at) (now (s .entry))) ⌝ }
 {
     if key.is_typed() {

@@ -9,7 +9,8 @@ use lib.ListN.{length, drop}
 use Rattle.values.specs.Bytes.{Bytes, ascii}
 use Rattle.values.specs.Integer.{integerRead, decimal}
 use Rattle.values.specs.Field.{writtenField}
-use Rattle.values.specs.Marks.{isMarked, mark}
+use Rattle.values.specs.Hash.{wideBasis, wideStep, wideFrom}
+use Rattle.values.specs.Marks.{isMet, meet}
 use Rattle.values.specs.declared.integer.IntegerRead.{IntegerRead}
 use Rattle.rules.specs.Answer.{Answer, ok, refuse, _>>=_, unless, judged}
 use Rattle.rules.specs.Lines.{pieces, lineOf}
@@ -68,18 +69,40 @@ names (p ∷ ps) = elim (tagsOf (lineOf p)) [ none ↦ names ps | some ts ↦ or
 abbrev pub namesIn : Bytes → List Bytes
 namesIn sam = names (pieces sam)
 
--- a name is marked under two hashes, so that hardly one is looked for in vain
-abbrev pub markTwice : Bytes → Bytes → Bytes
-markTwice ms name = mark (mark ms 0 name) 1 name
+abbrev pub nameHash : Bytes → ℕ
+nameHash name = wideFrom wideBasis name
 
--- a name is not looked for where the marks tell that it isn't there
-unfoldable pub isRepeated : Bytes → Bytes → Bytes → Bool
-isRepeated earlier ms name = isMarked ms 0 name && (isMarked (mark ms 0 name) 1 name && isIn name (namesIn earlier))
+-- another hash of it
+abbrev pub again : Bytes → ℕ
+again name = wideStep (nameHash name) 1
+
+-- a hash is marked if this holds
+abbrev pub markIf : Bool → List ℕ → ℕ → List ℕ
+markIf true ms hash = meet ms hash
+markIf false ms hash = ms
+
+-- names in turn: each is marked, and put in doubt if it may have been met
+unfoldable pub doubtsOf : List ℕ → List ℕ → List Bytes → List ℕ
+doubtsOf ms ds [] = ds
+doubtsOf ms ds (x ∷ xs) = doubtsOf (meet ms (nameHash x)) (markIf (isMet ms (nameHash x)) ds (nameHash x)) xs
+
+-- a name that stands twice is in doubt
+pub record Doubted (sam : Bytes) (ds : List ℕ) : Type 0 where
+  pub twice : (xs : List Bytes) (x : Bytes) (ys : List Bytes) → namesIn sam ≡ xs ++ x ∷ ys → isIn x xs ≡ true → isMet ds (nameHash x) ≡ true
+
+-- a name in doubt is marked
+abbrev pub markAgain : List ℕ → List ℕ → Bytes → List ℕ
+markAgain ds ms name = markIf (isMet ds (nameHash name)) ms (again name)
+
+-- a name is not looked for where the doubts or the marks tell that it isn't there
+unfoldable pub isRepeated : Bytes → List ℕ → List ℕ → Bytes → Bool
+isRepeated earlier ds ms name = isMet ds (nameHash name) && (isMet ms (again name) && isIn name (namesIn earlier))
 
 -- an `@SQ` line was read, held against the earlier ones, and its SN was marked
-pub record ReadsNamed (earlier ms l : Bytes) (r : SequenceRead) (ms′ : Bytes) : Type 0 where
-  pub is : sequenceMeans l r ≡ (readSequence l (tagsAt l 4) >>= λ c. judged (unless (not (isRepeated earlier ms (c .id))) 43) c)
-  pub marks : (n : ℕ) → r ≡ read.Contig n → ms′ ≡ markTwice ms (valueIn (ascii "SN") l)
+pub record ReadsNamed (earlier : Bytes) (ds ms : List ℕ) (l : Bytes) (r : SequenceRead) (ms′ : List ℕ) : Type 0 where
+  pub alone : (s : SequenceRead) × (sequenceMeans l s ≡ readSequence l (tagsAt l 4))
+  pub is : sequenceMeans l r ≡ (readSequence l (tagsAt l 4) >>= λ c. judged (unless (not (isRepeated earlier ds ms (c .id))) 43) c)
+  pub marks : (n : ℕ) → r ≡ read.Contig n → ms′ ≡ markAgain ds ms (valueIn (ascii "SN") l)
 
 -- a contig line up to its length
 unfoldable pub openedText : Bytes → ℕ → Bytes

@@ -9,7 +9,7 @@ use lib.ListN.{length, getD, drop, length-append, length-drop}
 use lib.Seq.{take-at, drop-at, drop-drop}
 use borrow.Author.Tests.{eq-eqb, ne-eqb, eqb-true}
 use Rattle.values.specs.Bytes.{Bytes, ascii, is, empty, begins, any, before, from, same, part}
-use Rattle.values.specs.Value.{Value, written, readValue}
+use Rattle.values.specs.Value.{Value, written, isStop, readBare, readValue}
 use Rattle.values.specs.Field.{writtenField, isForbidden, endsKey, isKey, readKey, withValue, mayBracket, withKey, readField}
 use Rattle.values.specs.Places.{cursorAt, valuePlaced, valueAt, keyPlaced, keyAt, fieldPlaced, fieldAt, separatorPlaced, separatorAt}
 use Rattle.values.specs.declared.cursor.Cursor.{Cursor}
@@ -258,6 +258,23 @@ module _ (m : Bool) (s : Bytes) (i : ℕ) {r : KeyRead} (a : r ≡ keyAt s i) wh
 
       pub field-whole : {t : Text} {n : Cursor} → v ≡ value.Value t n → field.Field e t n ≡ fieldAt m s i
       field-whole g = sym (field-is ∙ rw g)
+
+-- a field whose value is bare, where none may be bracketed
+bare-value : (b : ℕ) (bs : Bytes) → (b ≡ 34 → ⊥) → readValue false (b ∷ bs) ≡ readBare (b ∷ bs)
+unfolding readValue begins
+bare-value b bs ne = rw (ne-eqb b 34 ne, readValue)
+
+bare-at : (s : Bytes) (j : ℕ) → j < length s → (getD s j 0 ≡ 34 → ⊥) → valueAt false s j ≡ valuePlaced j (readBare (drop j s))
+unfolding valueAt
+bare-at s j h ne = rw (here s j h) (ap (valuePlaced j) (bare-value (getD s j 0) (drop (j + 1) s) ne))
+
+pub bare-field : (s : Bytes) (i : ℕ) {r : KeyRead} → r ≡ keyAt s i → {e : ℕ} {c : Cursor} → r ≡ key.Key e c → c .at < length s → (getD s (c .at) 0 ≡ 34 → ⊥) → {n : ℕ} → n ≡ stopOf isStop s (c .at)
+    → (fieldAt false s i ≡ field.Field e (record { start = e + 1; end = n; quoted = false }) (cursorAt n)) × (e < length s)
+unfolding written
+bare-field s i a {e} {c} b h ne f =
+    let k = key-here s i (sym a ∙ b) in
+    let w = sym (field-whole false s i a b refl refl (bare-at s (c .at) h ne)) in
+    (w ∙ rw (f, k .next), k .inside)
 
 -- what answers the needs of `split_field`
 pub ruleset splits = (field-keyless, key-before, key-inside, field-valueless, field-whole)

@@ -8,7 +8,7 @@ use lib.ListN.{length, drop}
 use Rattle.values.specs.Bytes.{Bytes}
 use Rattle.values.specs.Value.{meaning}
 use Rattle.values.specs.Places.{unescapedAt}
-use Rattle.values.specs.Hash.{offsetBasis, hashByte, hashed, hashOf, wideBasis, wideStep, wideFrom, wideOf}
+use Rattle.values.specs.Hash.{offsetBasis, hashByte, hashed, hashOf, wideBasis, wideStep, wideFrom}
 use Rattle.values.specs.declared.cursor.Cursor.{Cursor}
 use Rattle.values.specs.declared.cursor.ByteRead.{ByteRead}
 use Rattle.values.specs.declared.cursor.ByteRead.the-variants.{Byte, End}
@@ -55,10 +55,6 @@ module _ {start : ℕ} {text : Bytes} {quoted : Bool} {hash i : ℕ} (g : Wideni
 
     pub wide-less : {b′ : ℕ} {c′ : Cursor} → r′ ≡ Byte b′ c′ → length text - c′ .at < length text - i
     wide-less e′ = omega (arith, told-less quoted text i a e, told-less quoted text (c .at) a′ e′)
-
-pub wide-kind : (kind : ℕ) (text : Bytes) {start hash : ℕ} → start ≡ wideStep wideBasis kind → hash ≡ wideFrom start text → hash ≡ wideOf kind text
-unfolding wideOf
-wide-kind kind text e h = h ∙ rw e
 
 pub ruleset wides = (wide-start, wide-end, wide-one, wide-two, wide-less)
 

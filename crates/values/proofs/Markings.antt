@@ -129,27 +129,6 @@ module _ (ms : List ℕ) (n : ℕ) where
 
 pub ruleset notes = (none-noted, none-to-note, note-here, note-looked, noted-is)
 
--- by a kind and a text
-module _ (ms : List ℕ) (kind : ℕ) (text : Bytes) where
-  pub none-marked : length ms ≡ 0 → true ≡ isMarked ms kind text
-  unfolding isMarked
-  none-marked e = none-met ms (wideOf kind text) e
-
-  pub none-to-mark : length ms ≡ 0 → ms ≡ mark ms kind text
-  unfolding mark
-  none-to-mark e = none-to-meet ms (wideOf kind text) e
-
-module _ (ms : List ℕ) (kind : ℕ) (text : Bytes) {hash : ℕ} (eh : hash ≡ wideOf kind text) where
-  pub marked-is : {q : Bool} → q ≡ isMet ms hash → q ≡ isMarked ms kind text
-  unfolding isMarked
-  marked-is e = e ∙ rw eh
-
-  pub mark-is : {ns : List ℕ} → ns ≡ meet ms hash → ns ≡ mark ms kind text
-  unfolding mark
-  mark-is e = e ∙ rw eh
-
-pub ruleset texts = (none-marked, none-to-mark, marked-is, mark-is)
-
 -- What is marked stays so
 
 pub meet-length : (ms : List ℕ) (hash : ℕ) → length (meet ms hash) ≡ length ms

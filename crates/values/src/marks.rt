@@ -1,9 +1,7 @@
 // Which texts may have been met: where one of the four bits for a text's hash is not set, it was not met, and need not be looked for.
 use crate::hash;
 ghost use mathlib.Core.Path.{_≡_};
-ghost use Rattle.values.specs.Value.{meaning};
-ghost use Rattle.values.specs.Marks.{markWord, markBit, markBits, isMet, meet, isMarked, mark, isNoted, note};
-ghost use Rattle.values.specs.Hash.{wideOf};
+ghost use Rattle.values.specs.Marks.{markWord, markBit, markBits, isMet, meet, isNoted, note};
 
 // The word for a hash, by its lower half: a product, where a remainder would take a division.
 fn word_of(words: usize, hash: u64) -> usize
@@ -59,33 +57,6 @@ pub fn meet_hash(marks: &mut [u64], hash: u64) -> bool
     let word = marks[at];
     marks[at] = word | bits;
     word & bits == bits
-}
-
-fn hash_of(kind: u8, text: &[u8], quoted: bool) -> u64
-    ensures { λ r. ⌜ r ≡ wideOf kind (meaning quoted (now (text .entry))) ⌝ }
-{
-    hash::wide_from(hash::wide_step(hash::WIDE_BASIS, kind as u16), text, quoted)
-}
-
-// Whether a text of this kind may have been met.
-pub fn is_marked(marks: &[u64], kind: u8, text: &[u8], quoted: bool) -> bool
-    ensures { λ r. ⌜ r ≡ isMarked (now (marks .entry)) kind (meaning quoted (now (text .entry))) ⌝ }
-{
-    if marks.len() == 0 {
-        return true;
-    }
-    is_met(marks, hash_of(kind, text, quoted))
-}
-
-// The same, and the text is marked.
-pub fn meet(marks: &mut [u64], kind: u8, text: &[u8], quoted: bool) -> bool
-    ensures met { λ r. ⌜ r ≡ isMarked (now (marks .entry)) kind (meaning quoted (now (text .entry))) ⌝ }
-    ensures marks { λ _. ⌜ now (marks .exit) ≡ mark (now (marks .entry)) kind (meaning quoted (now (text .entry))) ⌝ }
-{
-    if marks.len() == 0 {
-        return true;
-    }
-    meet_hash(marks, hash_of(kind, text, quoted))
 }
 
 // Whether a number may have been noted: one bit is cheaper to look at than four, where few numbers are noted.

@@ -40,7 +40,7 @@ fn is_stop(b: u8) -> bool
     b == b',' || b == b'>'
 }
 
-fn find_stop(s: &[u8], start: usize) -> usize
+pub fn find_stop(s: &[u8], start: usize) -> usize
     ensures { λ r. ⌜ r ≡ start + length (before isStop (drop start (now (s .entry)))) ⌝ }
 {
     let mut i = start;

@@ -1,7 +1,7 @@
+use Rattle.dictionary.proofs.Pairs.{placings}
+use borrow.Author.Needs.{needs}
 use Rattle.dictionary.proofs.numbering.number_line.Statement.{statement}
 use Rattle.dictionary.proofs.numbering.number_line.Tie as tie
-use borrow.Author.Needs.{needs}
-use Rattle.dictionary.proofs.Pairs.{placings}
 
 place-line-requires : tie.Need-place-line-requires
 place-line-requires c κs = search (placings, needs)
@@ -12,22 +12,8 @@ take-place-requires c κs = search (placings, needs)
 same-length : tie.Need-same-length
 same-length c = search (placings, needs)
 
-same-length-2 : tie.Need-same-length-2
-same-length-2 c = search (placings, needs)
-
-same-length-3 : tie.Need-same-length-3
-same-length-3 c = search (placings, needs)
-
 returns : tie.Need-returns
-returns c = (search (placings, needs), (search (placings, needs), (search (placings, needs), search (placings, needs))))
+returns c = (search (placings, needs), search (placings, needs))
 
 pub number-line-spec : {M : Type 1} → statement M
-number-line-spec =
-    tie.close
-    (tie.spec
-    place-line-requires
-    take-place-requires
-    same-length
-    same-length-2
-    same-length-3
-    returns)
+number-line-spec = tie.close (tie.spec place-line-requires take-place-requires same-length returns)

@@ -1,15 +1,16 @@
-use Rattle.dictionary.proofs.numbering.number_lines.Statement.{statement}
-use Rattle.dictionary.proofs.numbering.number_lines.Tie as tie
-use borrow.Author.Needs.{needs}
-use Rattle.dictionary.proofs.Pairs.{Progress, progresses}
+use Rattle.dictionary.proofs.Pairs.{Progress}
 use Rattle.entries.specs.Tables.{room}
 use Prim.Native.Nat.{_-_}
+use Rattle.dictionary.proofs.Pairs.{progresses}
+use borrow.Author.Needs.{needs}
+use Rattle.dictionary.proofs.numbering.number_lines.Statement.{statement}
+use Rattle.dictionary.proofs.numbering.number_lines.Tie as tie
 
 abbrev Inv-loop : tie.InvT-loop
-Inv-loop h kept asked out₀ ids₀ numbers₀ form dictionary count₀ k₀ out ids numbers count k = Progress (asked .dictionary) (asked .indexed) (asked .form) h kept out₀ out ids₀ ids numbers₀ numbers count k
+Inv-loop h kept asked marks out₀ form dictionary count₀ k₀ out count k = Progress (asked .dictionary) (asked .indexed) (asked .form) h kept out₀ out count k
 
 abbrev μ-loop : tie.MeasureT-loop
-μ-loop h kept asked out₀ ids₀ numbers₀ form dictionary count₀ k₀ out ids numbers count k = room (asked .form) kept - k
+μ-loop h kept asked marks out₀ form dictionary count₀ k₀ out count k = room (asked .form) kept - k
 
 first-number-requires : tie.Need-first-number-requires Inv-loop μ-loop
 first-number-requires c κs = search (progresses, needs)
@@ -30,7 +31,7 @@ has-kind-requires : tie.Need-has-kind-requires Inv-loop μ-loop
 has-kind-requires c κs = search (progresses, needs)
 
 number-line-requires : tie.Need-number-line-requires Inv-loop μ-loop
-number-line-requires c κs = (search (progresses, needs), (search (progresses, needs), (search (progresses, needs), search (progresses, needs))))
+number-line-requires c κs = search (progresses, needs)
 
 enum-known-c : tie.Need-enum-known-c Inv-loop μ-loop
 enum-known-c c = search (progresses, needs)
@@ -47,12 +48,6 @@ enum-told c = search (progresses, needs)
 same-length : tie.Need-same-length Inv-loop μ-loop
 same-length c = search (progresses, needs)
 
-same-length-2 : tie.Need-same-length-2 Inv-loop μ-loop
-same-length-2 c = search (progresses, needs)
-
-same-length-3 : tie.Need-same-length-3 Inv-loop μ-loop
-same-length-3 c = search (progresses, needs)
-
 returns : tie.Need-returns Inv-loop μ-loop
 returns c = search (progresses, needs)
 
@@ -62,14 +57,8 @@ loop-less-2 c = search (progresses, needs)
 loop-again-2 : tie.Need-loop-again-2 Inv-loop μ-loop
 loop-again-2 c = search (progresses, needs)
 
-same-length-4 : tie.Need-same-length-4 Inv-loop μ-loop
-same-length-4 c = search (progresses, needs)
-
-same-length-5 : tie.Need-same-length-5 Inv-loop μ-loop
-same-length-5 c = search (progresses, needs)
-
-same-length-6 : tie.Need-same-length-6 Inv-loop μ-loop
-same-length-6 c = search (progresses, needs)
+same-length-2 : tie.Need-same-length-2 Inv-loop μ-loop
+same-length-2 c = search (progresses, needs)
 
 returns-2 : tie.Need-returns-2 Inv-loop μ-loop
 returns-2 c = search (progresses, needs)
@@ -92,12 +81,8 @@ number-lines-spec =
     loop-again
     enum-told
     same-length
-    same-length-2
-    same-length-3
     returns
     loop-less-2
     loop-again-2
-    same-length-4
-    same-length-5
-    same-length-6
+    same-length-2
     returns-2)

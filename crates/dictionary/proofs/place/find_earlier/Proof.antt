@@ -1,7 +1,7 @@
+use Rattle.dictionary.proofs.Slotting.{meets, named-sole, open-inside, held-open}
+use borrow.Author.Needs.{needs}
 use Rattle.dictionary.proofs.place.find_earlier.Statement.{statement}
 use Rattle.dictionary.proofs.place.find_earlier.Tie as tie
-use borrow.Author.Needs.{needs}
-use Rattle.dictionary.proofs.Slotting.{meets}
 
 kept-requires : tie.Need-kept-requires
 kept-requires c κs = search (meets, needs)
@@ -31,7 +31,7 @@ mul-ids : tie.Need-mul-ids
 mul-ids c = search (meets, needs)
 
 slice-write-ids : tie.Need-slice-write-ids
-slice-write-ids c = search (meets, needs)
+slice-write-ids c = search (open-inside, named-sole)
 
 enum-told : tie.Need-enum-told
 enum-told c = search (meets, needs)
@@ -52,7 +52,7 @@ same-length-2 : tie.Need-same-length-2
 same-length-2 c = search (meets, needs)
 
 returns-3 : tie.Need-returns-3
-returns-3 c = (search (meets, needs), search (meets, needs))
+returns-3 c = (search (meets, needs), search (held-open, named-sole))
 
 same-length-3 : tie.Need-same-length-3
 same-length-3 c = search (meets, needs)

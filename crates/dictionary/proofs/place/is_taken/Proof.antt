@@ -1,7 +1,7 @@
+use Rattle.dictionary.proofs.Slotting.{meets}
+use borrow.Author.Needs.{needs}
 use Rattle.dictionary.proofs.place.is_taken.Statement.{statement}
 use Rattle.dictionary.proofs.place.is_taken.Tie as tie
-use borrow.Author.Needs.{needs}
-use Rattle.dictionary.proofs.Slotting.{meets}
 
 kept-requires : tie.Need-kept-requires
 kept-requires c κs = search (meets, needs)

@@ -1,23 +1,23 @@
-use Rattle.dictionary.proofs.slots.look_id.Statement.{statement}
-use Rattle.dictionary.proofs.slots.look_id.Tie as tie
-use borrow.Author.Needs.{needs}
-use Rattle.dictionary.proofs.Slotting.{looks}
 use Rattle.dictionary.specs.Slots.{Passed, isNamed, idSlot}
 use Rattle.dictionary.specs.Lines.{idAt}
 use lib.ListN.{length}
 use Prim.Native.Nat.{_-_}
+use Rattle.dictionary.proofs.Slotting.{looks}
+use borrow.Author.Needs.{needs}
+use Rattle.dictionary.proofs.slots.look_id.Statement.{statement}
+use Rattle.dictionary.proofs.slots.look_id.Tie as tie
 
 abbrev Inv-loop : tie.InvT-loop
-Inv-loop h kept form e slots id at₀ at = Passed isNamed idSlot form h kept slots (idAt h e) at
+Inv-loop h kept form e hash slots id at₀ at = Passed isNamed idSlot form h kept slots (idAt h e) at
 
 abbrev μ-loop : tie.MeasureT-loop
-μ-loop h kept form e slots id at₀ at = length slots - at
+μ-loop h kept form e hash slots id at₀ at = length slots - at
 
 id-part-requires : tie.Need-id-part-requires Inv-loop μ-loop
 id-part-requires c κs = search (looks, needs)
 
-id-slot-requires : tie.Need-id-slot-requires Inv-loop μ-loop
-id-slot-requires c κs = search (looks, needs)
+slot-by-requires : tie.Need-slot-by-requires Inv-loop μ-loop
+slot-by-requires c κs = search (looks, needs)
 
 loop-holds : tie.Need-loop-holds Inv-loop μ-loop
 loop-holds c = search (looks, needs)
@@ -68,7 +68,7 @@ look-id-spec =
     Inv-loop
     μ-loop
     id-part-requires
-    id-slot-requires
+    slot-by-requires
     loop-holds
     mul-wide
     shared-slice-read-wide

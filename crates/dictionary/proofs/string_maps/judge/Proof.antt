@@ -3,63 +3,48 @@ use borrow.Author.Needs.{needs}
 use Rattle.dictionary.proofs.string_maps.judge.Statement.{statement}
 use Rattle.dictionary.proofs.string_maps.judge.Tie as tie
 
--- src/string_maps.rt:77:8
 is-mixed-requires : tie.Need-is-mixed-requires
 is-mixed-requires c κs = search (judges, needs)
 
--- src/string_maps.rt:78:9
 returns : tie.Need-returns
 returns c = search (judges, needs)
 
--- src/string_maps.rt:80:8
 is-mixed-requires-2 : tie.Need-is-mixed-requires-2
 is-mixed-requires-2 c κs = search (judges, needs)
 
--- src/string_maps.rt:81:9
 returns-2 : tie.Need-returns-2
 returns-2 c = search (judges, needs)
 
--- src/string_maps.rt:83:31
 count-pairs-requires : tie.Need-count-pairs-requires
 count-pairs-requires c κs = search (judges, needs)
 
--- src/string_maps.rt:83:26
 enum-known-n : tie.Need-enum-known-n
 enum-known-n c = search (judges, needs)
 
--- src/string_maps.rt:84:9
 enum-told : tie.Need-enum-told
 enum-told c = search (judges, needs)
 
--- src/string_maps.rt:84:9
 returns-3 : tie.Need-returns-3
 returns-3 c = search (judges, needs)
 
--- src/string_maps.rt:86:31
 count-pairs-requires-2 : tie.Need-count-pairs-requires-2
 count-pairs-requires-2 c κs = search (judges, needs)
 
--- src/string_maps.rt:86:26
 enum-known-m : tie.Need-enum-known-m
 enum-known-m c = search (judges, needs)
 
--- src/string_maps.rt:87:9
 enum-told-2 : tie.Need-enum-told-2
 enum-told-2 c = search (judges, needs)
 
--- src/string_maps.rt:87:9
 returns-4 : tie.Need-returns-4
 returns-4 c = search (judges, needs)
 
--- src/string_maps.rt:90:9
 returns-5 : tie.Need-returns-5
 returns-5 c = search (judges, needs)
 
--- src/string_maps.rt:93:9
 returns-6 : tie.Need-returns-6
 returns-6 c = search (judges, needs)
 
--- src/string_maps.rt:66:1
 returns-7 : tie.Need-returns-7
 returns-7 c = search (judges, needs)
 

@@ -119,7 +119,20 @@ read-sized-returns-2 : (t : ℕ) → read-sized-lts.Need-returns-2 (
 ) (read-sized-at t) read-sized.Post
 read-sized-returns-2 t c = search needs
 
-read-sized-read-long-requires : (t : ℕ) → read-sized-lts.Need-read-long-requires (
+read-sized-slice-aggregate-read-sized-2 :
+    (t : ℕ) → read-sized-lts.Need-slice-aggregate-read-sized-2 (
+      read-marked-reads.Asked,
+      read-marked-reads.Learnt,
+      read-sized-below t,
+      read-sized.Post,
+      read-long-reads.Asked,
+      read-long-reads.Learnt,
+      read-longer-reads.Asked,
+      read-longer-reads.Learnt,
+    ) (read-sized-at t) read-sized.Post
+read-sized-slice-aggregate-read-sized-2 t c = search needs
+
+read-sized-read-sized-requires-2 : (t : ℕ) → read-sized-lts.Need-read-sized-requires-2 (
   read-marked-reads.Asked,
   read-marked-reads.Learnt,
   read-sized-below t,
@@ -129,7 +142,7 @@ read-sized-read-long-requires : (t : ℕ) → read-sized-lts.Need-read-long-requ
   read-longer-reads.Asked,
   read-longer-reads.Learnt,
 ) (read-sized-at t) read-sized.Post
-read-sized-read-long-requires t c κs = search needs
+read-sized-read-sized-requires-2 t c κs = search needs
 
 read-sized-same-length-4 : (t : ℕ) → read-sized-lts.Need-same-length-4 (
   read-marked-reads.Asked,
@@ -155,7 +168,7 @@ read-sized-returns-3 : (t : ℕ) → read-sized-lts.Need-returns-3 (
 ) (read-sized-at t) read-sized.Post
 read-sized-returns-3 t c = search needs
 
-read-sized-read-longer-requires : (t : ℕ) → read-sized-lts.Need-read-longer-requires (
+read-sized-read-long-requires : (t : ℕ) → read-sized-lts.Need-read-long-requires (
   read-marked-reads.Asked,
   read-marked-reads.Learnt,
   read-sized-below t,
@@ -165,7 +178,7 @@ read-sized-read-longer-requires : (t : ℕ) → read-sized-lts.Need-read-longer-
   read-longer-reads.Asked,
   read-longer-reads.Learnt,
 ) (read-sized-at t) read-sized.Post
-read-sized-read-longer-requires t c κs = search needs
+read-sized-read-long-requires t c κs = search needs
 
 read-sized-same-length-5 : (t : ℕ) → read-sized-lts.Need-same-length-5 (
   read-marked-reads.Asked,
@@ -191,6 +204,42 @@ read-sized-returns-4 : (t : ℕ) → read-sized-lts.Need-returns-4 (
 ) (read-sized-at t) read-sized.Post
 read-sized-returns-4 t c = search needs
 
+read-sized-read-longer-requires : (t : ℕ) → read-sized-lts.Need-read-longer-requires (
+  read-marked-reads.Asked,
+  read-marked-reads.Learnt,
+  read-sized-below t,
+  read-sized.Post,
+  read-long-reads.Asked,
+  read-long-reads.Learnt,
+  read-longer-reads.Asked,
+  read-longer-reads.Learnt,
+) (read-sized-at t) read-sized.Post
+read-sized-read-longer-requires t c κs = search needs
+
+read-sized-same-length-6 : (t : ℕ) → read-sized-lts.Need-same-length-6 (
+  read-marked-reads.Asked,
+  read-marked-reads.Learnt,
+  read-sized-below t,
+  read-sized.Post,
+  read-long-reads.Asked,
+  read-long-reads.Learnt,
+  read-longer-reads.Asked,
+  read-longer-reads.Learnt,
+) (read-sized-at t) read-sized.Post
+read-sized-same-length-6 t c = search needs
+
+read-sized-returns-5 : (t : ℕ) → read-sized-lts.Need-returns-5 (
+  read-marked-reads.Asked,
+  read-marked-reads.Learnt,
+  read-sized-below t,
+  read-sized.Post,
+  read-long-reads.Asked,
+  read-long-reads.Learnt,
+  read-longer-reads.Asked,
+  read-longer-reads.Learnt,
+) (read-sized-at t) read-sized.Post
+read-sized-returns-5 t c = search needs
+
 pub +read-sized-spec : {M : Type 1} → statement M
 +read-sized-spec = close μ-read-sized λ t. read-sized-lts.spec (
   read-marked-reads.Asked,
@@ -212,9 +261,13 @@ pub +read-sized-spec : {M : Type 1} → statement M
     (read-sized-read-sized-requires t)
     (read-sized-same-length-3 t)
     (read-sized-returns-2 t)
-    (read-sized-read-long-requires t)
+    (read-sized-slice-aggregate-read-sized-2 t)
+    (read-sized-read-sized-requires-2 t)
     (read-sized-same-length-4 t)
     (read-sized-returns-3 t)
-    (read-sized-read-longer-requires t)
+    (read-sized-read-long-requires t)
     (read-sized-same-length-5 t)
     (read-sized-returns-4 t)
+    (read-sized-read-longer-requires t)
+    (read-sized-same-length-6 t)
+    (read-sized-returns-5 t)

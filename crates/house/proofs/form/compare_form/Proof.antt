@@ -1,10 +1,13 @@
-use Rattle.house.proofs.Forms.{form-compared}
 use borrow.Author.Needs.{needs}
+use Rattle.house.proofs.Forms.{form-compared}
 use Rattle.house.proofs.form.compare_form.Statement.{statement}
 use Rattle.house.proofs.form.compare_form.Tie as tie
 
 limits-requires : tie.Need-limits-requires
 limits-requires c κs = search (form-compared, needs)
+
+are-formed-requires : tie.Need-are-formed-requires
+are-formed-requires c κs = search (form-compared, needs)
 
 slice-aggregate-put-form : tie.Need-slice-aggregate-put-form
 slice-aggregate-put-form c = search (form-compared, needs)
@@ -23,6 +26,7 @@ compare-form-spec =
     tie.close
     (tie.spec
     limits-requires
+    are-formed-requires
     slice-aggregate-put-form
     put-form-requires
     outcome-of-requires

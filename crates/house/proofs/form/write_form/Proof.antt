@@ -1,5 +1,5 @@
-use Rattle.house.proofs.Forms.{writes}
 use borrow.Author.Needs.{needs}
+use Rattle.house.proofs.Forms.{own-fits, writes}
 use Rattle.house.proofs.form.write_form.Statement.{statement}
 use Rattle.house.proofs.form.write_form.Tie as tie
 
@@ -11,9 +11,6 @@ are-formed-requires c κs = search (writes, needs)
 
 slice-aggregate-put-form : tie.Need-slice-aggregate-put-form
 slice-aggregate-put-form c = search (writes, needs)
-
-slice-aggregate-put-form-2 : tie.Need-slice-aggregate-put-form-2
-slice-aggregate-put-form-2 c = search (writes, needs)
 
 put-form-requires : tie.Need-put-form-requires
 put-form-requires c κs = search (writes, needs)
@@ -27,17 +24,29 @@ is-whole-requires c κs = search (writes, needs)
 returns : tie.Need-returns
 returns c = search (writes, needs)
 
-slice-aggregate-put-form-3 : tie.Need-slice-aggregate-put-form-3
-slice-aggregate-put-form-3 c = search (writes, needs)
+is-own-requires : tie.Need-is-own-requires
+is-own-requires c κs = search (writes, needs)
 
-put-form-requires-2 : tie.Need-put-form-requires-2
-put-form-requires-2 c κs = search (writes, needs)
+copy-requires : tie.Need-copy-requires
+copy-requires c κs = own-fits (c .before .before .is-own .ensures) (c .before .if2 .taken)
 
 same-length : tie.Need-same-length
 same-length c = search (writes, needs)
 
 returns-2 : tie.Need-returns-2
 returns-2 c = search (writes, needs)
+
+slice-aggregate-put-form-2 : tie.Need-slice-aggregate-put-form-2
+slice-aggregate-put-form-2 c = search (writes, needs)
+
+put-form-requires-2 : tie.Need-put-form-requires-2
+put-form-requires-2 c κs = search (writes, needs)
+
+same-length-2 : tie.Need-same-length-2
+same-length-2 c = search (writes, needs)
+
+returns-3 : tie.Need-returns-3
+returns-3 c = search (writes, needs)
 
 pub write-form-spec : {M : Type 1} → statement M
 write-form-spec =
@@ -46,12 +55,15 @@ write-form-spec =
     limits-requires
     are-formed-requires
     slice-aggregate-put-form
-    slice-aggregate-put-form-2
     put-form-requires
     outcome-of-requires
     is-whole-requires
     returns
-    slice-aggregate-put-form-3
-    put-form-requires-2
+    is-own-requires
+    copy-requires
     same-length
-    returns-2)
+    returns-2
+    slice-aggregate-put-form-2
+    put-form-requires-2
+    same-length-2
+    returns-3)

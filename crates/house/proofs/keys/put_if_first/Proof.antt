@@ -1,46 +1,49 @@
+use Rattle.house.proofs.Others.{firsts}
 use borrow.Author.Needs.{needs}
 use Rattle.house.proofs.keys.put_if_first.Statement.{statement}
 use Rattle.house.proofs.keys.put_if_first.Tie as tie
-use Rattle.house.proofs.Others.{firsts}
 
 get-requires : tie.Need-get-requires
-get-requires c κs = search needs
+get-requires c κs = search (firsts, needs)
 
 is-other-requires : tie.Need-is-other-requires
-is-other-requires c κs = search needs
+is-other-requires c κs = search (firsts, needs)
 
 returns : tie.Need-returns
 returns c = search (firsts, needs)
 
 prefix-part-requires : tie.Need-prefix-part-requires
-prefix-part-requires c κs = search needs
+prefix-part-requires c κs = search (firsts, needs)
 
 slot-of-requires : tie.Need-slot-of-requires
-slot-of-requires c κs = search needs
+slot-of-requires c κs = search (firsts, needs)
 
 is-alone-requires : tie.Need-is-alone-requires
-is-alone-requires c κs = search needs
+is-alone-requires c κs = search (firsts, needs)
+
+line-part-requires : tie.Need-line-part-requires
+line-part-requires c κs = search (firsts, needs)
 
 put-entry-requires : tie.Need-put-entry-requires
-put-entry-requires c κs = search needs
+put-entry-requires c κs = search (firsts, needs)
 
 same-length : tie.Need-same-length
-same-length c = search needs
+same-length c = search (firsts, needs)
 
 returns-2 : tie.Need-returns-2
 returns-2 c = search (firsts, needs)
 
 is-seen-requires : tie.Need-is-seen-requires
-is-seen-requires c κs = search needs
+is-seen-requires c κs = search (firsts, needs)
 
 returns-3 : tie.Need-returns-3
 returns-3 c = search (firsts, needs)
 
 put-linked-requires : tie.Need-put-linked-requires
-put-linked-requires c κs = search needs
+put-linked-requires c κs = search (firsts, needs)
 
 same-length-2 : tie.Need-same-length-2
-same-length-2 c = search needs
+same-length-2 c = search (firsts, needs)
 
 returns-4 : tie.Need-returns-4
 returns-4 c = search (firsts, needs)
@@ -55,6 +58,7 @@ put-if-first-spec =
     prefix-part-requires
     slot-of-requires
     is-alone-requires
+    line-part-requires
     put-entry-requires
     same-length
     returns-2

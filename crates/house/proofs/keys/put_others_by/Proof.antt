@@ -1,10 +1,11 @@
-use Rattle.house.proofs.keys.put_others_by.Statement.{statement}
-use Rattle.house.proofs.keys.put_others_by.Tie as tie
-use Rattle.house.proofs.Others.{Othering, other-start, others}
-use Prim.Native.Nat.{_-_}
+use Rattle.house.proofs.Others.{Othering, other-start}
 use Rattle.records.specs.Formats.{versionOf}
 use Rattle.entries.specs.Tables.{room}
+use Prim.Native.Nat.{_-_}
 use borrow.Author.Needs.{needs}
+use Rattle.house.proofs.Others.{place-inside, others}
+use Rattle.house.proofs.keys.put_others_by.Statement.{statement}
+use Rattle.house.proofs.keys.put_others_by.Tie as tie
 
 abbrev Inv-loop : tie.InvT-loop
 Inv-loop h kept form version twice heads links out₀ given progress₀ k₀ out progress k = Othering form (versionOf version) h kept twice heads links given out₀ progress₀ out progress k
@@ -21,8 +22,8 @@ count-requires c κs = search (others, needs)
 put-if-first-requires : tie.Need-put-if-first-requires Inv-loop μ-loop
 put-if-first-requires c κs = search (others, needs)
 
-add-k : tie.Need-add-k Inv-loop μ-loop
-add-k c = search (others, needs)
+skip-same-requires : tie.Need-skip-same-requires Inv-loop μ-loop
+skip-same-requires c κs = let x = c .before .before .before .before in place-inside _ _ (x .before .count .ensures) (x .if1 .taken)
 
 loop-less : tie.Need-loop-less Inv-loop μ-loop
 loop-less c = search (others, needs)
@@ -45,7 +46,7 @@ put-others-by-spec =
     loop-holds
     count-requires
     put-if-first-requires
-    add-k
+    skip-same-requires
     loop-less
     loop-again
     same-length

@@ -1,13 +1,12 @@
+use Rattle.house.proofs.Windowings.{others-windows}
+use Rattle.house.proofs.Others.{markeds}
+use mathlib.Core.Path.{refl}
 use borrow.Author.Needs.{needs}
 use Rattle.house.proofs.keys.put_others_marked.Statement.{statement}
 use Rattle.house.proofs.keys.put_others_marked.Tie as tie
-use Rattle.house.proofs.Others.{markeds}
 
-slice-aggregate-mark-all : tie.Need-slice-aggregate-mark-all
-slice-aggregate-mark-all c = search needs
-
-mark-all-requires : tie.Need-mark-all-requires
-mark-all-requires c κs = search needs
+others-end-requires : tie.Need-others-end-requires
+others-end-requires c κs = search needs
 
 slice-aggregate-put-others-linked : tie.Need-slice-aggregate-put-others-linked
 slice-aggregate-put-others-linked c = search needs
@@ -25,17 +24,32 @@ same-length : tie.Need-same-length
 same-length c = search needs
 
 returns : tie.Need-returns
-returns c = search (markeds, needs)
+returns c = search (markeds, refl, needs)
+
+slice-aggregate-put-windows : tie.Need-slice-aggregate-put-windows
+slice-aggregate-put-windows c = search needs
+
+put-windows-requires : tie.Need-put-windows-requires
+put-windows-requires c κs = search needs
+
+same-length-2 : tie.Need-same-length-2
+same-length-2 c = search needs
+
+returns-2 : tie.Need-returns-2
+returns-2 c = search (others-windows, needs)
 
 pub put-others-marked-spec : {M : Type 1} → statement M
 put-others-marked-spec =
     tie.close
     (tie.spec
-    slice-aggregate-mark-all
-    mark-all-requires
+    others-end-requires
     slice-aggregate-put-others-linked
     slice-aggregate-put-others-linked-2
     slice-aggregate-put-others-linked-3
     put-others-linked-requires
     same-length
-    returns)
+    returns
+    slice-aggregate-put-windows
+    put-windows-requires
+    same-length-2
+    returns-2)

@@ -3,9 +3,6 @@ use borrow.Author.Needs.{needs}
 use Rattle.house.proofs.progress.put_entry.Statement.{statement}
 use Rattle.house.proofs.progress.put_entry.Tie as tie
 
-line-part-requires : tie.Need-line-part-requires
-line-part-requires c κs = search (entries, needs)
-
 put-plain-requires : tie.Need-put-plain-requires
 put-plain-requires c κs = search (entries, needs)
 
@@ -43,7 +40,6 @@ pub put-entry-spec : {M : Type 1} → statement M
 put-entry-spec =
     tie.close
     (tie.spec
-    line-part-requires
     put-plain-requires
     same-length
     returns

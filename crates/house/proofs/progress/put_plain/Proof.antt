@@ -3,8 +3,8 @@ use borrow.Author.Needs.{needs}
 use Rattle.house.proofs.progress.put_plain.Statement.{statement}
 use Rattle.house.proofs.progress.put_plain.Tie as tie
 
-put-bytes-requires : tie.Need-put-bytes-requires
-put-bytes-requires c κs = search (plain-line, needs)
+put-text-requires : tie.Need-put-text-requires
+put-text-requires c κs = search (plain-line, needs)
 
 ends-with-cr-requires : tie.Need-ends-with-cr-requires
 ends-with-cr-requires c κs = search (plain-line, needs)
@@ -25,7 +25,7 @@ pub put-plain-spec : {M : Type 1} → statement M
 put-plain-spec =
     tie.close
     (tie.spec
-    put-bytes-requires
+    put-text-requires
     ends-with-cr-requires
     end-line-requires
     note-line-requires

@@ -1,55 +1,35 @@
+use Rattle.ids.proofs.Markings.{ahead-none}
 use borrow.Author.Needs.{needs}
 use Rattle.ids.proofs.scan.mark_ahead.Statement.{statement}
 use Rattle.ids.proofs.scan.mark_ahead.Tie as tie
-use Rattle.ids.proofs.Markings.{aheads-marked}
+use Rattle.ids.proofs.scan.mark_ahead.Reads as reads
+use Rattle.ids.proofs.scan.mark_ahead.Lts as lts
+use Rattle.entries.proofs.table.count.Reads as count-reads
+use Rattle.ids.proofs.scan.mark_lent.Reads as mark-lent-reads
 
+-- src/scan.rt:401:8
 count-requires : tie.Need-count-requires
-count-requires c κs = search needs
+count-requires c κs = search (ahead-none, needs)
 
+-- src/scan.rt:402:9
 returns : tie.Need-returns
-returns c = search (aheads-marked, needs)
+returns c = search (ahead-none, needs)
 
-is-far-requires : tie.Need-is-far-requires
-is-far-requires c κs = search needs
+-- src/scan.rt:405:36
+slice-aggregate-mark-lent : tie.Need-slice-aggregate-mark-lent
+slice-aggregate-mark-lent c = search (ahead-none, needs)
 
-slice-aggregate-mark-by : tie.Need-slice-aggregate-mark-by
-slice-aggregate-mark-by c = search needs
+-- src/scan.rt:405:5
+mark-lent-requires : tie.Need-mark-lent-requires
+mark-lent-requires c κs = search (ahead-none, needs)
 
-mark-by-requires : tie.Need-mark-by-requires
-mark-by-requires c κs = search needs
-
+-- src/scan.rt:398:1
 same-length : tie.Need-same-length
-same-length c = search needs
+same-length c = search (ahead-none, needs)
 
+-- src/scan.rt:398:1
 returns-2 : tie.Need-returns-2
-returns-2 c = search (aheads-marked, needs)
-
-slice-aggregate-look-ahead : tie.Need-slice-aggregate-look-ahead
-slice-aggregate-look-ahead c = search needs
-
-look-ahead-requires : tie.Need-look-ahead-requires
-look-ahead-requires c κs = search needs
-
-slice-aggregate-mark-noted : tie.Need-slice-aggregate-mark-noted
-slice-aggregate-mark-noted c = search needs
-
-mark-noted-requires : tie.Need-mark-noted-requires
-mark-noted-requires c κs = search needs
-
-same-length-2 : tie.Need-same-length-2
-same-length-2 c = search needs
-
-returns-3 : tie.Need-returns-3
-returns-3 c = search (aheads-marked, needs)
-
-mark-all-requires : tie.Need-mark-all-requires
-mark-all-requires c κs = search needs
-
-same-length-3 : tie.Need-same-length-3
-same-length-3 c = search needs
-
-returns-4 : tie.Need-returns-4
-returns-4 c = search (aheads-marked, needs)
+returns-2 c = search (ahead-none, needs)
 
 pub mark-ahead-spec : {M : Type 1} → statement M
 mark-ahead-spec =
@@ -57,17 +37,7 @@ mark-ahead-spec =
     (tie.spec
     count-requires
     returns
-    is-far-requires
-    slice-aggregate-mark-by
-    mark-by-requires
+    slice-aggregate-mark-lent
+    mark-lent-requires
     same-length
-    returns-2
-    slice-aggregate-look-ahead
-    look-ahead-requires
-    slice-aggregate-mark-noted
-    mark-noted-requires
-    same-length-2
-    returns-3
-    mark-all-requires
-    same-length-3
-    returns-4)
+    returns-2)

@@ -1,53 +1,41 @@
-use Rattle.sam.proofs.Answers.{calls}
+use Rattle.sam.proofs.Names.{all-doubted}
 use borrow.Author.Needs.{needs}
 use Rattle.sam.proofs.contigs.contigs.Statement.{statement}
 use Rattle.sam.proofs.contigs.contigs.Tie as tie
 
-slice-aggregate-walk-marked : tie.Need-slice-aggregate-walk-marked
-slice-aggregate-walk-marked c = search (calls, needs)
+slice-aggregate-write-doubted : tie.Need-slice-aggregate-write-doubted
+slice-aggregate-write-doubted c = search (all-doubted, needs)
 
-walk-marked-requires : tie.Need-walk-marked-requires
-walk-marked-requires c κs = search (calls, needs)
-
-enum-known-x : tie.Need-enum-known-x
-enum-known-x c = search (calls, needs)
-
-refuse-requires : tie.Need-refuse-requires
-refuse-requires c κs = search (calls, needs)
-
-enum-known-lines : tie.Need-enum-known-lines
-enum-known-lines c = search (calls, needs)
-
-refuse-requires-2 : tie.Need-refuse-requires-2
-refuse-requires-2 c κs = search (calls, needs)
-
-returns : tie.Need-returns
-returns c = search (calls, needs)
-
-walk-marked-requires-2 : tie.Need-walk-marked-requires-2
-walk-marked-requires-2 c κs = search (calls, needs)
-
-returns-2 : tie.Need-returns-2
-returns-2 c = search (calls, needs)
+write-doubted-requires : tie.Need-write-doubted-requires
+write-doubted-requires c κs = search (all-doubted, needs)
 
 same-length : tie.Need-same-length
-same-length c = search (calls, needs)
+same-length c = search (all-doubted, needs)
 
-returns-3 : tie.Need-returns-3
-returns-3 c = search (calls, needs)
+returns : tie.Need-returns
+returns c = search (all-doubted, needs)
+
+slice-aggregate-write-long : tie.Need-slice-aggregate-write-long
+slice-aggregate-write-long c = search (all-doubted, needs)
+
+write-long-requires : tie.Need-write-long-requires
+write-long-requires c κs = search (all-doubted, needs)
+
+same-length-2 : tie.Need-same-length-2
+same-length-2 c = search (all-doubted, needs)
+
+returns-2 : tie.Need-returns-2
+returns-2 c = search (all-doubted, needs)
 
 pub contigs-spec : {M : Type 1} → statement M
 contigs-spec =
     tie.close
     (tie.spec
-    slice-aggregate-walk-marked
-    walk-marked-requires
-    enum-known-x
-    refuse-requires
-    enum-known-lines
-    refuse-requires-2
-    returns
-    walk-marked-requires-2
-    returns-2
+    slice-aggregate-write-doubted
+    write-doubted-requires
     same-length
-    returns-3)
+    returns
+    slice-aggregate-write-long
+    write-long-requires
+    same-length-2
+    returns-2)

@@ -6,13 +6,13 @@ use Rattle.sam.proofs.contigs.walk.Statement.{statement}
 use Rattle.sam.proofs.contigs.walk.Tie as tie
 
 abbrev Inv-loop : tie.InvT-loop
-Inv-loop sam marks₀ out₀ at₀ lines₀ contigs₀ next₀ marks out at lines contigs next = Walking sam marks₀ out₀ marks out at lines contigs next
+Inv-loop sam doubts marks₀ out₀ at₀ lines₀ contigs₀ next₀ marks out at lines contigs next = Walking sam doubts marks₀ out₀ marks out at lines contigs next
 
 abbrev μ-loop : tie.MeasureT-loop
-μ-loop sam marks₀ out₀ at₀ lines₀ contigs₀ next₀ marks out at lines contigs next = length sam - at
+μ-loop sam doubts marks₀ out₀ at₀ lines₀ contigs₀ next₀ marks out at lines contigs next = length sam - at
 
 loop-holds : tie.Need-loop-holds Inv-loop μ-loop
-loop-holds c = walk-start _ _ _ (search needs)
+loop-holds c = walk-start _ _ _ _ (search needs) (search needs)
 
 next-line-requires : tie.Need-next-line-requires Inv-loop μ-loop
 next-line-requires c κs = search (walks, needs)

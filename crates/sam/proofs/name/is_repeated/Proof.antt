@@ -3,20 +3,23 @@ use borrow.Author.Needs.{needs}
 use Rattle.sam.proofs.name.is_repeated.Statement.{statement}
 use Rattle.sam.proofs.name.is_repeated.Tie as tie
 
-meet-requires : tie.Need-meet-requires
-meet-requires c κs = search (repeats, needs)
+name-hash-requires : tie.Need-name-hash-requires
+name-hash-requires c κs = search (repeats, needs)
 
-meet-requires-2 : tie.Need-meet-requires-2
-meet-requires-2 c κs = search (repeats, needs)
-
-same-length : tie.Need-same-length
-same-length c = search (repeats, needs)
+is-met-requires : tie.Need-is-met-requires
+is-met-requires c κs = search (repeats, needs)
 
 returns : tie.Need-returns
 returns c = search (repeats, needs)
 
-same-length-2 : tie.Need-same-length-2
-same-length-2 c = search (repeats, needs)
+wide-step-requires : tie.Need-wide-step-requires
+wide-step-requires c κs = search (repeats, needs)
+
+meet-hash-requires : tie.Need-meet-hash-requires
+meet-hash-requires c κs = search (repeats, needs)
+
+same-length : tie.Need-same-length
+same-length c = search (repeats, needs)
 
 returns-2 : tie.Need-returns-2
 returns-2 c = search (repeats, needs)
@@ -24,8 +27,8 @@ returns-2 c = search (repeats, needs)
 is-among-requires : tie.Need-is-among-requires
 is-among-requires c κs = search (repeats, needs)
 
-same-length-3 : tie.Need-same-length-3
-same-length-3 c = search (repeats, needs)
+same-length-2 : tie.Need-same-length-2
+same-length-2 c = search (repeats, needs)
 
 returns-3 : tie.Need-returns-3
 returns-3 c = search (repeats, needs)
@@ -34,12 +37,13 @@ pub is-repeated-spec : {M : Type 1} → statement M
 is-repeated-spec =
     tie.close
     (tie.spec
-    meet-requires
-    meet-requires-2
-    same-length
+    name-hash-requires
+    is-met-requires
     returns
-    same-length-2
+    wide-step-requires
+    meet-hash-requires
+    same-length
     returns-2
     is-among-requires
-    same-length-3
+    same-length-2
     returns-3)

@@ -1,0 +1,62 @@
+use Rattle.ids.proofs.Aheads.{Keying, keyings}
+use lib.ListN.{length}
+use Prim.Native.Nat.{_-_}
+use borrow.Author.Needs.{needs}
+use Rattle.ids.proofs.ahead.key_run.Statement.{statement}
+use Rattle.ids.proofs.ahead.key_run.Tie as tie
+use Rattle.ids.proofs.ahead.key_run.Reads as reads
+use Rattle.ids.proofs.ahead.key_run.Lts as lts
+use Rattle.ids.proofs.ahead.run_step.Reads as run-step-reads
+
+abbrev Inv-loop : tie.InvT-loop
+Inv-loop line run₀ k₀ run k = Keying line run k
+
+abbrev μ-loop : tie.MeasureT-loop
+μ-loop line run₀ k₀ run k = length line - k
+
+-- src/ahead.rt:121:5
+loop-holds : tie.Need-loop-holds Inv-loop μ-loop
+loop-holds c = search (keyings, needs)
+
+-- src/ahead.rt:122:17
+shared-slice-read-b : tie.Need-shared-slice-read-b Inv-loop μ-loop
+shared-slice-read-b c = search (keyings, needs)
+
+-- src/ahead.rt:124:13
+returns : tie.Need-returns Inv-loop μ-loop
+returns c = search (keyings, needs)
+
+-- src/ahead.rt:126:9
+add-k : tie.Need-add-k Inv-loop μ-loop
+add-k c = search (keyings, needs)
+
+-- src/ahead.rt:127:9
+run-step-requires : tie.Need-run-step-requires Inv-loop μ-loop
+run-step-requires c κs = search (keyings, needs)
+
+-- src/ahead.rt:121:5
+loop-less : tie.Need-loop-less Inv-loop μ-loop
+loop-less c = search (keyings, needs)
+
+-- src/ahead.rt:121:5
+loop-again : tie.Need-loop-again Inv-loop μ-loop
+loop-again c = search (keyings, needs)
+
+-- src/ahead.rt:116:1
+returns-2 : tie.Need-returns-2 Inv-loop μ-loop
+returns-2 c = search (keyings, needs)
+
+pub key-run-spec : {M : Type 1} → statement M
+key-run-spec =
+    tie.close
+    (tie.spec
+    Inv-loop
+    μ-loop
+    loop-holds
+    shared-slice-read-b
+    returns
+    add-k
+    run-step-requires
+    loop-less
+    loop-again
+    returns-2)

@@ -13,7 +13,7 @@
 #endif
 #include "../bindings/c/vcfh.h"
 
-enum { ROUNDS = 5, WORDS = 6291456, SIZE = 16777216 };
+enum { ROUNDS = 5, WORDS = 10485760, SIZE = 16777216 };
 static char header[SIZE + 1];
 static size_t length;
 static uint64_t table[WORDS];

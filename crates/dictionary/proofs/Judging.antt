@@ -11,7 +11,7 @@ use Rattle.values.specs.Bytes.{Bytes}
 use Rattle.values.proofs.Tests.{pass, fail, test, or-l, or-r, or-on, and-l, and-r, and-off, never}
 use Rattle.dictionary.specs.Dictionary.{Line, mixedIdx, firstLines, idNumber, dictionaryClash, pairs}
 use Rattle.dictionary.specs.Lines.{stringLines, contigLines}
-use Rattle.dictionary.specs.Pairs.{carriedBy, Uniform, countOrNone, numberingOf, NumbersLines}
+use Rattle.dictionary.specs.Pairs.{carriedBy, EndsLines, Uniform, countOrNone, numberingOf, NumbersLines}
 use Rattle.dictionary.specs.Answers.{judgedOf, CountsPairs, Judges, NumbersBoth}
 use Rattle.dictionary.specs.declared.line.Dictionary.{Dictionary}
 use Rattle.dictionary.specs.declared.line.Dictionary.the-variants.{Strings, Contigs}
@@ -21,6 +21,8 @@ use Rattle.dictionary.specs.declared.numbering.Numbering.the-variants as
 use Rattle.dictionary.specs.declared.string_maps.Judged.{Judged}
 use Rattle.dictionary.specs.declared.string_maps.Judged.the-variants.{Whole, PartlyIndexed, NumberClash, SliceTooSmall}
 use Rattle.dictionary.proofs.Pairs.{words-length}
+use Rattle.dictionary.proofs.Slotting.{ahead-is}
+use Rattle.entries.specs.Tables.{firstEntries}
 use Rattle.entries.specs.declared.form.Form.{Form}
 
 -- what answers the needs of `is_mixed`
@@ -238,3 +240,11 @@ module _ (form : Form) (h : Bytes) (t s c : List ℕ) {x : Carried} (ex : x ≡ 
       }
 
 pub ruleset boths = (both-partly, both-clash, both-small, both-whole)
+
+-- what answers the needs of `number_both`: entries behind the last line tell nothing
+pub both-used : (form : Form) (h : Bytes) (t : List ℕ) {n : ℕ} → EndsLines form t n → {used : List ℕ} → used ≡ firstEntries form t n → {s c : List ℕ} {r : Judged} {s′ c′ : List ℕ}
+    → NumbersBoth form h used s c r s′ c′ → NumbersBoth form h t s c r s′ c′
+both-used form h t {n} e {used} u w =
+    let ss : stringLines form h t ≡ stringLines form h used = sym (ahead-is Strings form h t n u ∙ e .is Strings h) in
+    let cs : contigLines form h t ≡ contigLines form h used = sym (ahead-is Contigs form h t n u ∙ e .is Contigs h) in
+    record { is = rw (ss, cs) (w .is); strings-are = rw ss (w .strings-are); contigs-are = rw cs (w .contigs-are) }

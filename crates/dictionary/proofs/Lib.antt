@@ -4,7 +4,6 @@ pub mod Lines
 pub mod Left
 pub mod Slotting
 pub mod Places
-pub mod WordBits
 pub mod Markings
 pub mod Going
 pub mod Verdicts

@@ -1,12 +1,12 @@
 -- The loops over a dictionary's entries, a turn of each on plain values. Assumes nothing.
-use Prim.Native.Nat.{ℕ, suc, _+_, _*_, _/_, _^_, _<_, _≤_}
+use Prim.Native.Nat.{ℕ, suc, _+_, _-_, _*_, _/_, _^_, _<_, _≤_}
 use native.Mathlib.Omega.{arith}
 use native.Mathlib.Numerals.{add-one}
 use mathlib.Core.Path.{_≡_, refl, sym, ap, subst, _∙_}
 use mathlib.Core.Bool.{Bool, true, false, _||_, true≢false, or-false}
 use mathlib.Core.List.{List, [], _∷_, _++_}
 use lib.Dec.{ltb}
-use lib.ListN.{length, set, length-set}
+use lib.ListN.{length, set, length-set, length-append}
 use lib.Seq.{sets, length-sets}
 use borrow.Author.Tests.{lt-ltb, le-ltb}
 use Rattle.values.specs.Bytes.{Bytes}
@@ -17,10 +17,10 @@ use Rattle.entries.specs.Values.{entryOf}
 use Rattle.entries.specs.Tables.{room, entryIn}
 use Rattle.entries.proofs.Tables.{room-small}
 use Rattle.dictionary.specs.Dictionary.{Line, anyOf, carries, lacks, firstLines, idNumber, pairWords, pairs}
-use Rattle.dictionary.specs.Lines.{holds, idxMeant, lineOfEntry, entryLines, tableLines, linesBefore, idxAt}
+use Rattle.dictionary.specs.Lines.{holds, idxMeant, lineOfEntry, entryLines, tableLines, linesBefore, ordinal, idxAt}
 use Rattle.dictionary.specs.Places.{placeIf, placeAt}
 use Rattle.dictionary.specs.Slots.{StandsAt}
-use Rattle.dictionary.specs.Pairs.{carriedBy, putPair, firstNumber, Counts, turnOf, turnOut, Uniform, numberingOf, NumbersLines}
+use Rattle.dictionary.specs.Pairs.{carriedBy, EndsLines, putPair, firstNumber, Counts, turnOf, turnOut, Uniform, numberingOf, NumbersLines}
 use Rattle.dictionary.specs.declared.line.Dictionary.{Dictionary}
 use Rattle.dictionary.specs.declared.line.Dictionary.the-variants.{Strings, Contigs}
 use Rattle.dictionary.specs.declared.line.IdxRead.{IdxRead}
@@ -33,50 +33,95 @@ use Rattle.dictionary.specs.declared.numbering.Turn.{Turn}
 use Rattle.dictionary.specs.declared.numbering.Turn.the-variants as turn
 use Rattle.dictionary.specs.declared.numbering.Numbering.the-variants as numbering
 use Rattle.dictionary.proofs.Firsts.{ids, first-new, first-old, onto, in-onto, onto-append}
-use Rattle.dictionary.proofs.Left.{left, left-end, left-skip, left-take, split-at, before-skip, before-take}
+use Rattle.dictionary.proofs.Left.{left, left-end, left-skip, left-take, split-at, before-skip, before-take, before-all}
 use Rattle.dictionary.proofs.Verdicts.{Mode, VerdictIs, verdict, mode-start, mode-end}
 use Rattle.entries.specs.declared.form.Form.{Form}
 
 -- Whether lines carry IDX: what was seen before entry k, and what is left
 
-pub record Carrying (d : Dictionary) (form : Form) (h : Bytes) (t : List ℕ) (given missing : Bool) (k : ℕ) : Type 0 where
+pub record Carrying (d : Dictionary) (form : Form) (h : Bytes) (t : List ℕ) (given missing : Bool) (lines k : ℕ) : Type 0 where
   pub with-idx : anyOf carries (tableLines d form h t) ≡ given || anyOf carries (left d form h t k)
   pub without : anyOf lacks (tableLines d form h t) ≡ missing || anyOf lacks (left d form h t k)
+  pub all : length (tableLines d form h t) ≡ lines + length (left d form h t k)
+  pub few : lines ≤ k
 
-pub carry-start : {d : Dictionary} {form : Form} {h : Bytes} {t : List ℕ} → Carrying d form h t false false 0
-carry-start = record { with-idx = refl; without = refl }
+pub carry-start : {d : Dictionary} {form : Form} {h : Bytes} {t : List ℕ} → Carrying d form h t false false 0 0
+carry-start = record { with-idx = refl; without = refl; all = omega arith; few = omega arith }
 
 on : (a b : Bool) → (a || (true || b)) ≡ (true || b)
 on true b = refl
 on false b = refl
 
-module _ {d : Dictionary} {form : Form} {h : Bytes} {t : List ℕ} {given missing : Bool} {k : ℕ} (g : Carrying d form h t given missing k) {n : ℕ} (en : n ≡ room form t) where
-  pub carry-end : n ≤ k → _≡_ {A = Carried} (record { given = given; missing = missing }) (carriedBy (tableLines d form h t))
+module _ {d : Dictionary} {form : Form} {h : Bytes} {t : List ℕ} {given missing : Bool} {lines k : ℕ} (g : Carrying d form h t given missing lines k) {n : ℕ} (en : n ≡ room form t) where
+  pub carry-end : n ≤ k → _≡_ {A = Carried} (record { given = given; missing = missing; lines = lines }) (carriedBy (tableLines d form h t))
   unfolding anyOf
   carry-end l =
       let e = left-end d form h t k en l in
-      rw (g .with-idx, g .without, e, or-false given, or-false missing)
+      let m : lines + 0 ≡ lines = omega arith in
+      rw (g .with-idx, g .without, g .all, e, or-false given, or-false missing, m)
 
   module _ (l : k < n) {e : CodeEntry} (ee : entryOf e ≡ entryIn form t k) {q : Bool} (eq : q ≡ holds d (e .kind)) where
-    pub carry-skip : q ≡ false → Carrying d form h t given missing (k + 1)
-    carry-skip f = let s = left-skip d form h t k en l ee eq f in record { with-idx = g .with-idx ∙ rw s; without = g .without ∙ rw s }
+    pub carry-fits : length t < 18446744073709551616 → lines + 1 < 18446744073709551616
+    carry-fits small = omega (arith, room-small form t, g .few, en)
+
+    pub carry-skip : q ≡ false → Carrying d form h t given missing lines (k + 1)
+    carry-skip f = let s = left-skip d form h t k en l ee eq f in record { with-idx = g .with-idx ∙ rw s; without = g .without ∙ rw s; all = g .all ∙ rw s; few = omega (arith, g .few) }
+
+    one-more : q ≡ true → length (tableLines d form h t) ≡ lines + 1 + length (left d form h t (k + 1))
+    one-more f = omega (arith, g .all ∙ ap (λ (ls : List Line). lines + length ls) (left-take d form h t k en l ee eq f))
 
     module _ (f : q ≡ true) {r : IdxRead} (er : idxMeant r ≡ idxAt h e) where
-      pub carry-given : {m : ℕ} → r ≡ idx.Idx m → Carrying d form h t true missing (k + 1)
+      pub carry-given : {m : ℕ} → r ≡ idx.Idx m → Carrying d form h t true missing (lines + 1) (k + 1)
       unfolding anyOf
       carry-given {m} i = let s = left-take d form h t k en l ee eq f in record {
         with-idx = g .with-idx ∙ rw (s, ← er, i) (on given (anyOf carries (left d form h t (k + 1))));
         without = g .without ∙ rw (s, ← er, i);
+        all = one-more f;
+        few = omega (arith, g .few);
       }
 
-      pub carry-missing : r ≡ idx.Missing → Carrying d form h t given true (k + 1)
+      pub carry-missing : r ≡ idx.Missing → Carrying d form h t given true (lines + 1) (k + 1)
       unfolding anyOf
       carry-missing i = let s = left-take d form h t k en l ee eq f in record {
         with-idx = g .with-idx ∙ rw (s, ← er, i);
         without = g .without ∙ rw (s, ← er, i) (on missing (anyOf lacks (left d form h t (k + 1))));
+        all = one-more f;
+        few = omega (arith, g .few);
       }
 
-pub ruleset carried = (carry-start, carry-end, carry-skip, carry-given, carry-missing)
+pub ruleset carried = (carry-start, carry-end, carry-fits, carry-skip, carry-given, carry-missing)
+
+-- The last line, from behind: none of the entries from entry n on is one
+
+pub record Ending (form : Form) (t : List ℕ) (n : ℕ) : Type 0 where
+  pub inside : n ≤ room form t
+  pub ends : EndsLines form t n
+
+pub end-start : (form : Form) (t : List ℕ) {n : ℕ} → n ≡ room form t → Ending form t n
+end-start form t {n} e = record { inside = omega (arith, e); ends = record { is = λ d h. before-all d form h t n (omega (arith, e)) (omega (arith, e)) } }
+
+pub end-here : {form : Form} {t : List ℕ} {n : ℕ} → Ending form t n → EndsLines form t n
+end-here g = g .ends
+
+pub end-none : {form : Form} {t : List ℕ} {n : ℕ} → Ending form t n → n ≤ 0 → EndsLines form t 0
+end-none {form} {t} {n} g l = let e : n ≡ 0 = omega (arith, l) in subst (EndsLines form t) e (g .ends)
+
+module _ {form : Form} {t : List ℕ} {n : ℕ} (g : Ending form t n) (l : 0 < n) {e : CodeEntry} (ee : entryOf e ≡ entryIn form t (n - 1)) where
+  pub end-before : {p : Bool} → p ≡ holds Strings (e .kind) → p ≡ false → {q : Bool} → q ≡ holds Contigs (e .kind) → q ≡ false → Ending form t (n - 1)
+  end-before ep fp eq fq =
+      let k : n - 1 + 1 ≡ n = omega (arith, l) in
+      let i : n - 1 < room form t = omega (arith, l, g .inside) in
+      record {
+        inside = omega (arith, i);
+        ends = record {
+          is = λ d h. elim d [
+            | Strings ↦ sym (before-skip Strings form h t (n - 1) i ee ep fp) ∙ rw k (g .ends .is Strings h)
+            | Contigs ↦ sym (before-skip Contigs form h t (n - 1) i ee eq fq) ∙ rw k (g .ends .is Contigs h)
+          ];
+        };
+      }
+
+pub ruleset endings = (end-start, end-here, end-none, end-before)
 
 -- what answers the needs of `put_pair`
 module _ (out : List ℕ) (pair entry number : ℕ) where
@@ -204,7 +249,9 @@ pub ruleset placings = (placed-turn, placed-out)
 
 -- The loop: the lines before entry k are numbered
 
-pub record Progress (d : Dictionary) (indexed : Bool) (form : Form) (h : Bytes) (t out₀ out : List ℕ) (c : Count) (k : ℕ) : Type 0 where
+pub record Progress (d : Dictionary) (indexed : Bool) (form : Form) (h : Bytes) (t out₀ out : List ℕ) (c : Count) (lines k : ℕ) : Type 0 where
+  pub all : lines ≡ ordinal d form h t k
+  pub few-lines : lines ≤ k
   pub size : length out ≡ length out₀
   pub few : c .pairs ≤ k
   pub due : c .next ≤ k + 1
@@ -219,9 +266,11 @@ first-small Strings = omega arith
 first-small Contigs = omega arith
 
 pub progress-start : (d : Dictionary) (indexed : Bool) (form : Form) (h : Bytes) (t out : List ℕ) {next : ℕ} → next ≡ firstNumber d
-    → Progress d indexed form h t out out (record { pairs = 0; next = next }) 0
+    → Progress d indexed form h t out out (record { pairs = 0; next = next }) 0 0
 unfolding entryLines isIn pairs
 progress-start d indexed form h t out e = record {
+  all = refl;
+  few-lines = omega arith;
   size = refl;
   few = omega arith;
   due = omega (arith, first-small d);
@@ -232,7 +281,7 @@ progress-start d indexed form h t out e = record {
   };
 }
 
-module _ {d : Dictionary} {indexed : Bool} {form : Form} {h : Bytes} {t out₀ out : List ℕ} {c : Count} {k : ℕ} (g : Progress d indexed form h t out₀ out c k) {n : ℕ} (en : n ≡ room form t) where
+module _ {d : Dictionary} {indexed : Bool} {form : Form} {h : Bytes} {t out₀ out : List ℕ} {c : Count} {lines k : ℕ} (g : Progress d indexed form h t out₀ out c lines k) {n : ℕ} (en : n ≡ room form t) where
   abbrev ls : List Line
   ls = tableLines d form h t
 
@@ -252,14 +301,19 @@ module _ {d : Dictionary} {indexed : Bool} {form : Form} {h : Bytes} {t out₀ o
       }
 
   module _ (l : k < n) where
+    pub progress-fits : length t < 18446744073709551616 → lines + 1 < 18446744073709551616
+    progress-fits small = omega (arith, room-small form t, g .few-lines, en)
+
     pub counts-few : length t < 2 ^ 64 → Counts c
     counts-few small = let r = room-small form t in record { pairs-small = omega (arith, g .few, en); next-small = omega (arith, g .due, en) }
 
     module _ {e : CodeEntry} (ee : entryOf e ≡ entryIn form t k) {q : Bool} (eq : q ≡ holds d (e .kind)) where
-      pub progress-skip : q ≡ false → Progress d indexed form h t out₀ out c (k + 1)
+      pub progress-skip : q ≡ false → Progress d indexed form h t out₀ out c lines (k + 1)
       progress-skip f =
           let b : linesBefore d form h t (k + 1) ≡ linesBefore d form h t k = before-skip d form h t k (rw (← en) l) ee eq f in
           record {
+            all = g .all ∙ rw b;
+            few-lines = omega (arith, g .few-lines);
             size = g .size;
             few = omega (arith, g .few);
             due = omega (arith, g .due);
@@ -291,24 +345,33 @@ module _ {d : Dictionary} {indexed : Bool} {form : Form} {h : Bytes} {t out₀ o
 
         -- what the turn leaves, by the line's place
         abbrev Leaves : Placed → Turn → List ℕ → Type 0
-        Leaves p (turn.Next c′) o = Progress d indexed form h t out₀ o c′ (k + 1)
+        Leaves p (turn.Next c′) o = Progress d indexed form h t out₀ o c′ (lines + 1) (k + 1)
         Leaves p turn.Clash o = NumbersLines d indexed ls out₀ numbering.Clash o
+
+        all-more : lines + 1 ≡ ordinal d form h t (k + 1)
+        all-more = omega (arith, g .all, ap length before-more ∙ length-append (linesBefore d form h t k) (line ∷ []))
 
         leaves : (p : Placed) → placed ≡ p → Leaves p (turnOf c p) (turnOut out k c p)
         unfolding numberingOf
         leaves (Given x) i = record {
+          all = all-more;
+          few-lines = omega (arith, g .few-lines);
           size = put-length out (c .pairs) k x ∙ g .size;
           few = omega (arith, g .few);
           due = omega (arith, g .due);
           is = λ w. let v = rw i at (told w) in rw before-more (going-first line (going w) (c .next) (v .2) (v .0) (v .1) (g .size));
         }
         leaves Due i = record {
+          all = all-more;
+          few-lines = omega (arith, g .few-lines);
           size = put-length out (c .pairs) k (c .next) ∙ g .size;
           few = omega (arith, g .few);
           due = omega (arith, g .due);
           is = λ w. let v = rw i at (told w) in rw before-more (going-first line (going w) (c .next + 1) (v .2) (v .0) (v .1) (g .size));
         }
         leaves Again i = record {
+          all = all-more;
+          few-lines = omega (arith, g .few-lines);
           size = g .size;
           few = omega (arith, g .few);
           due = omega (arith, g .due);
@@ -324,7 +387,10 @@ module _ {d : Dictionary} {indexed : Bool} {form : Form} {h : Bytes} {t out₀ o
           pub progress-clash : r ≡ turn.Clash → NumbersLines d indexed ls out₀ numbering.Clash o
           progress-clash i = rw i at left-with
 
-          pub progress-next : {c′ : Count} → r ≡ turn.Next c′ → Progress d indexed form h t out₀ o c′ (k + 1)
+          pub progress-next : {c′ : Count} → r ≡ turn.Next c′ → Progress d indexed form h t out₀ o c′ (lines + 1) (k + 1)
           progress-next i = rw i at left-with
 
-pub ruleset progresses = (progress-start, progress-end, counts-few, progress-skip, stands-here, progress-clash, progress-next)
+pub progress-lines : {d : Dictionary} {indexed : Bool} {form : Form} {h : Bytes} {t out₀ out : List ℕ} {c : Count} {lines k : ℕ} → Progress d indexed form h t out₀ out c lines k → lines ≡ ordinal d form h t k
+progress-lines g = g .all
+
+pub ruleset progresses = (progress-start, progress-end, progress-lines, progress-fits, counts-few, progress-skip, stands-here, progress-clash, progress-next)

@@ -8,6 +8,7 @@ use mathlib.Core.Option.{Option, none, some}
 use lib.Dec.{eqb}
 use lib.ListN.{length}
 use Rattle.values.specs.Bytes.{Bytes, ascii, same}
+use Rattle.values.specs.Bits.{bitAt}
 use Rattle.values.specs.Value.{meaning}
 use Rattle.values.proofs.Sames.{same-sym}
 use Rattle.values.proofs.Tests.{and-off, and-on}
@@ -21,7 +22,7 @@ use Rattle.dictionary.specs.Dictionary.{Line, anyOf, impliedNumbers, cla
 use Rattle.dictionary.specs.Lines.{holds, idxMeant, entryIdx, isImplied, tableLines, linesBefore, idAt, idxAt, isIdx}
 use Rattle.dictionary.specs.Slots.{idxFirst, lineAt, StandsAt}
 use Rattle.dictionary.specs.Places.{idxNamed, earlierMeant, numberSeen, seenIn, newPlace, againPlace, impliedClash, indexedPlace, countedPlace, besidePlace, indexedBeside, countedBeside, placeIf, takenBefore, placeAt}
-use Rattle.dictionary.specs.Marks.{bitAt, metBit, isAgain, idBit, numberBit, namedBefore, badAt, Tells, besideMet, besideNew, besideBy, besideAt}
+use Rattle.dictionary.specs.Marks.{metBit, isAgain, idBit, numberBit, namedBefore, badAt, lineNumber, Tells, besideMet, besideNew, besideBy, besideAt}
 use Rattle.dictionary.specs.declared.line.Dictionary.{Dictionary}
 use Rattle.dictionary.specs.declared.line.Dictionary.the-variants.{Strings, Contigs}
 use Rattle.dictionary.specs.declared.line.IdxRead.{IdxRead}
@@ -250,22 +251,22 @@ module _ (a : Asked) (h : Bytes) {t : List ℕ} {k : ℕ} {e : CodeEntry} (s : S
       ∙ ap (λ (ls : List Line). besideBy (a .indexed) (impliedClash (a .dictionary) (idAt h e)) (idxAt h e) (idxNamed (idAt h e) ls) (λ (n : ℕ). numberSeen n ls)) (ahead-is (a .dictionary) (a .form) h t k ea)
       ∙ sym beside-here
 
-  module _ {ms : List ℕ} (w : Tells a h t ms) (l : k / 32 < length ms) where
+  module _ {ms : List ℕ} (w : Tells a h t ms) {n : ℕ} (en : n ≡ lineNumber a h t k) (l : n / 32 < length ms) where
     abbrev told : ℕ → Bool
     told b = bit-by (a .indexed) (badAt a h t k) (lineAt (a .form) h t k .idx) (namedBefore a h t k) taken b
 
-    told-bit : (b : ℕ) → b < 2 → bitAt ms (2 * k + b) ≡ told b
+    told-bit : (b : ℕ) → b < 2 → bitAt ms (2 * n + b) ≡ told b
     unfolding bit-by
-    told-bit b s₂ = w .is k b (s .inside) (rw (← s .is) (s .held)) s₂ (omega arith)
+    told-bit b s₂ = ap (λ (x : ℕ). bitAt ms (2 * x + b)) en ∙ w .is k b (s .inside) (rw (← s .is) (s .held)) s₂ (omega (arith, en))
 
-    told-first : {p : Bool} → p ≡ bitAt ms (2 * k) → told 0 ≡ p
-    told-first ep = let z : 2 * k ≡ 2 * k + 0 = omega arith in sym (ep ∙ ap (bitAt ms) z ∙ told-bit 0 (omega arith))
+    told-first : {p : Bool} → p ≡ bitAt ms (2 * n) → told 0 ≡ p
+    told-first ep = let z : 2 * n ≡ 2 * n + 0 = omega arith in sym (ep ∙ ap (bitAt ms) z ∙ told-bit 0 (omega arith))
 
-    module _ {p : Bool} (ep : p ≡ bitAt ms (2 * k)) where
+    module _ {p : Bool} (ep : p ≡ bitAt ms (2 * n)) where
       pub beside-again : p ≡ true → beside.Again ≡ besideAt a h t k
       beside-again f = by-again (a .indexed) (badAt a h t k) (lineAt (a .form) h t k .idx) taken (namedBefore a h t k) (told-first ep ∙ f)
 
-      module _ (f : p ≡ false) {q : Bool} (eq : q ≡ bitAt ms (2 * k + 1)) where
+      module _ (f : p ≡ false) {q : Bool} (eq : q ≡ bitAt ms (2 * n + 1)) where
         second : besideNew q ≡ besideAt a h t k
         second =
             by-second (a .indexed) (badAt a h t k) (lineAt (a .form) h t k .idx) taken q (namedBefore a h t k) (told-first ep ∙ f) (sym (eq ∙ told-bit 1 (omega arith)))

@@ -25,7 +25,7 @@ use Rattle.entries.specs.Tables.{entryIn, entriesIn, firstEntries}
 use Rattle.entries.proofs.Stored.{first-entries}
 use Rattle.entries.proofs.Tables.{room-small}
 use Rattle.dictionary.specs.Dictionary.{Line, anyOf}
-use Rattle.dictionary.specs.Lines.{entryLines, linesBefore, tableLines, idAt, idxAt, idxMeant, isIdx}
+use Rattle.dictionary.specs.Lines.{entryLines, linesBefore, ordinal, tableLines, idAt, idxAt, idxMeant, isIdx}
 use Rattle.dictionary.specs.Slots.{idxFirst, isNamed, isNumbered, slotBy, classOf, idHash, numberHash, idSlot, numberSlot, AllOpen, lineAt, NoneIn, Passed, LookedIs, Looks, Held, HeldAt, StandsAt, Stands}
 use Rattle.dictionary.specs.Places.{idxNamed, numberSeen}
 use Rattle.dictionary.specs.declared.line.Dictionary.{Dictionary}
@@ -34,7 +34,7 @@ use Rattle.dictionary.specs.declared.line.IdxRead.the-variants as idx
 use Rattle.dictionary.specs.declared.slots.Class.{Class}
 use Rattle.dictionary.specs.declared.slots.Looked.{Looked}
 use Rattle.dictionary.specs.declared.slots.Looked.the-variants.{Found, Open, Full}
-use Rattle.dictionary.proofs.Left.{before-take}
+use Rattle.dictionary.proofs.Left.{before-take, ordinal-few}
 
 -- what answers the needs of `slot_by`, `class_of`, the hashes and `number_slot`
 module _ (n hash : ℕ) where
@@ -73,18 +73,18 @@ pub id-hashed : (x : Bytes) {a : ℕ} → a ≡ wideFrom wideBasis x → {b : �
 unfolding idHash
 id-hashed x ea eb = eb ∙ rw ea
 
-pub number-hashed : (m : ℕ) {a : ℕ} → a ≡ wideStep m 0 → {b : ℕ} → b ≡ wideStep a 0 → b ≡ numberHash m
+pub number-hashed : (m : ℕ) {a : ℕ} → a ≡ wideStep m 0 → {b : ℕ} → b ≡ wideStep a 0 → {c : ℕ} → c ≡ wideStep b 0 → c ≡ numberHash m
 unfolding numberHash
-number-hashed m ea eb = eb ∙ rw ea
+number-hashed m ea eb ec = ec ∙ rw (eb, ea)
 
 module _ (n m : ℕ) where
-  pub number-own : m < n / 4 → m ≡ numberSlot n m
+  pub number-own : m < n / 16 → m ≡ numberSlot n m
   unfolding numberSlot
-  number-own l = rw (numberSlot, lt-ltb m (n / 4) l)
+  number-own l = rw (numberSlot, lt-ltb m (n / 16) l)
 
-  pub number-shared : n / 4 ≤ m → {b : ℕ} → b ≡ numberHash m → {r : ℕ} → r ≡ slotBy (n - n / 4) b → n / 4 + r ≡ numberSlot n m
+  pub number-shared : n / 16 ≤ m → {b : ℕ} → b ≡ numberHash m → {r : ℕ} → r ≡ slotBy (n - n / 16) b → n / 16 + r ≡ numberSlot n m
   unfolding numberSlot
-  number-shared l eb er = rw (numberSlot, le-ltb m (n / 4) l, er, eb)
+  number-shared l eb er = rw (numberSlot, le-ltb m (n / 16) l, er, eb)
 
 pub ruleset slotted = (slot-none, span-some, slot-some, slot-within, class-none, class-some, class-tested, id-hashed, number-hashed, number-own, number-shared)
 
@@ -423,15 +423,15 @@ id-hash-is h e ex ea = ea ∙ rw ex
 
 pub ruleset slotting = (stands-id, stands-number, held-unnumbered, id-elsewhere, number-elsewhere, class-is, id-hash-is)
 
--- twice the number of an entry is a number too
-module _ {d : Dictionary} {form : Form} {t : List ℕ} {k : ℕ} {e : CodeEntry} (s : StandsAt d form t k e) (l : length t < 18446744073709551616) where
-  pub entry-small : k < 9223372036854775808
-  entry-small = let r = room-small form t in omega (arith, s .inside)
+-- twice the number of a line is a number too
+module _ {d : Dictionary} {form : Form} (h : Bytes) {t : List ℕ} {k : ℕ} {e : CodeEntry} (s : StandsAt d form t k e) (l : length t < 18446744073709551616) {n : ℕ} (en : n ≡ ordinal d form h t k) where
+  pub line-small : n < 9223372036854775808
+  line-small = let r = room-small form t in omega (arith, s .inside, ordinal-few d form h t k (omega (arith, s .inside)), en)
 
-  pub twice-fits : 2 * k < 18446744073709551616
-  twice-fits = omega (arith, entry-small)
+  pub twice-fits : 2 * n < 18446744073709551616
+  twice-fits = omega (arith, line-small)
 
-  pub twice-more : 2 * k + 1 < 18446744073709551616
-  twice-more = omega (arith, entry-small)
+  pub twice-more : 2 * n + 1 < 18446744073709551616
+  twice-more = omega (arith, line-small)
 
-pub ruleset twice = (entry-small, twice-fits, twice-more)
+pub ruleset twice = (line-small, twice-fits, twice-more)

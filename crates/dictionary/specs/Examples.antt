@@ -90,8 +90,8 @@ computed : map (λ (c : Case × Answer). answer (c .0)) cases ≡ map (λ (c : C
 unfolding numbered
 computed = refl
 
--- of 1,024 slots: numbers below a quarter of them have their own, and numbers that are 65,536 apart do not share one
-number-slots : map (numberSlot 1024) (0 ∷ 255 ∷ 256 ∷ 65536 ∷ 131072 ∷ []) ≡ (0 ∷ 255 ∷ 446 ∷ 926 ∷ 277 ∷ [])
+-- of 1,024 slots: numbers below a sixteenth of them have their own, and numbers that are 65,536 apart do not share one
+number-slots : map (numberSlot 1024) (0 ∷ 63 ∷ 64 ∷ 65536 ∷ 131072 ∷ []) ≡ (0 ∷ 63 ∷ 573 ∷ 981 ∷ 953 ∷ [])
 unfolding slotBy numberSlot numberHash wideStep
 number-slots = refl
 

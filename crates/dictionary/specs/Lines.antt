@@ -1,10 +1,10 @@
 -- A dictionary's lines, as a header's bytes and its entries tell them. Assumes nothing.
-use Prim.Native.Nat.{ℕ, _+_}
+use Prim.Native.Nat.{ℕ, zero, suc, _+_}
 use mathlib.Core.Bool.{Bool, true, false, _&&_}
 use mathlib.Core.List.{List, [], _∷_}
 use mathlib.Core.Option.{Option, none, some}
 use lib.Dec.{eqb, leb}
-use lib.ListN.{take}
+use lib.ListN.{length, take}
 use Rattle.values.specs.Bytes.{Bytes, ascii}
 use Rattle.rules.specs.Known.{isIn}
 use Rattle.rules.specs.Entry.{Entry}
@@ -66,6 +66,16 @@ isIdx n (some m) = eqb m n
 -- the lines before entry k
 abbrev pub linesBefore : Dictionary → Form → Bytes → List ℕ → ℕ → List Line
 linesBefore d form h t k = entryLines d h 0 (take k (entriesIn form t))
+
+-- the number of the line of entry k among the dictionary's, from 0
+abbrev pub ordinal : Dictionary → Form → Bytes → List ℕ → ℕ → ℕ
+ordinal d form h t k = length (linesBefore d form h t k)
+
+-- the number of the entry of line n; 0 where there is no such line
+unfoldable pub entryOfLine : List Line → ℕ → ℕ
+entryOfLine [] n = 0
+entryOfLine (l ∷ ls) zero = l .entry
+entryOfLine (l ∷ ls) (suc n) = entryOfLine ls n
 
 -- both dictionaries of the entries in a table
 abbrev pub stringLines : Form → Bytes → List ℕ → List Line

@@ -1,17 +1,17 @@
 -- Bits that tell of lines what they are beside the lines before them. Assumes nothing.
-use Prim.Native.Nat.{ℕ, _+_, _*_, _/_, _%_, _^_, _<_}
+use Prim.Native.Nat.{ℕ, _+_, _-_, _*_, _/_, _%_, _<_}
 use mathlib.Core.Path.{_≡_}
 use mathlib.Core.Bool.{Bool, true, false, not, _&&_, _||_}
 use mathlib.Core.List.{List}
 use mathlib.Core.Option.{Option, none, some}
-use lib.Bits.{bitAnd, bitOr}
 use lib.Dec.{eqb, ltb}
-use lib.ListN.{length, getD, set}
+use lib.ListN.{length, take, drop}
 use Rattle.values.specs.Bytes.{Bytes}
+use Rattle.values.specs.Bits.{bitAt}
 use Rattle.entries.specs.declared.form.Form.{Form}
 use Rattle.entries.specs.Tables.{room, entryIn}
 use Rattle.dictionary.specs.Dictionary.{Line}
-use Rattle.dictionary.specs.Lines.{holds, linesBefore, isIdx}
+use Rattle.dictionary.specs.Lines.{holds, tableLines, linesBefore, ordinal, entryOfLine, isIdx}
 use Rattle.dictionary.specs.Slots.{isNamed, isNumbered, lineAt, classOf, idHash, numberHash, idSlot, numberSlot, HeldAt}
 use Rattle.dictionary.specs.Places.{impliedClash, idxNamed, takenBefore}
 use Rattle.dictionary.specs.declared.line.Dictionary.{Dictionary}
@@ -22,16 +22,6 @@ use Rattle.dictionary.specs.declared.place.Beside.{Beside}
 use Rattle.dictionary.specs.declared.place.Beside.the-variants.{New, Again, Clash}
 use Rattle.dictionary.specs.declared.marking.Sought.{Sought}
 use Rattle.dictionary.specs.declared.marking.Sought.the-variants.{Ids, Numbers}
-
-unfoldable pub bitOf : ℕ → ℕ
-bitOf n = 2 ^ (n % 64)
-
-unfoldable pub bitAt : List ℕ → ℕ → Bool
-bitAt ms n = eqb (bitAnd (getD ms (n / 64) 0) (bitOf n)) (bitOf n)
-
--- nothing is set past the words
-unfoldable pub setBit : List ℕ → ℕ → List ℕ
-setBit ms n = elim (ltb (n / 64) (length ms)) [ true ↦ set ms (n / 64) (bitOr (getD ms (n / 64) 0) (bitOf n)) | false ↦ ms ]
 
 -- these bits were set, and no others
 pub record Sets (ms ms′ : List ℕ) (bits : ℕ → Bool) : Type 0 where
@@ -59,7 +49,7 @@ numberBit bad none taken b = eqb b 1
 numberBit bad (some n) taken b = (taken n || bad n) && eqb b 1
 
 abbrev pub askedOf : Form → Dictionary → Carried → Asked
-askedOf form d x = record { form = form; dictionary = d; indexed = x .given }
+askedOf form d x = record { form = form; dictionary = d; indexed = x .given; lines = x .lines }
 
 -- the IDX of the first line before entry k that has its ID
 abbrev pub namedBefore : Asked → Bytes → List ℕ → ℕ → Option (Option ℕ)
@@ -85,36 +75,47 @@ classFor Numbers n l = numberClass n (l .idx)
 abbrev pub inClass : Sought → Asked → Bytes → List ℕ → Class → ℕ → Bool
 inClass s a h t c k = eqb (classFor s (c .of) (lineAt (a .form) h t k)) (c .at)
 
--- Bit j tells of entry j / 2. What is set for a line whose ID was looked for
+-- Bit j tells of line j / 2. What is set for line n if its ID was looked for
 
 unfoldable pub metBits : Bool → (ℕ → Bool) → Option ℕ → Option (Option ℕ) → ℕ → ℕ → Bool
-metBits indexed bad i before k j = eqb (j / 2) k && idBit indexed bad i before (j % 2)
+metBits indexed bad i before n j = eqb (j / 2) n && idBit indexed bad i before (j % 2)
+
+abbrev pub lineNumber : Asked → Bytes → List ℕ → ℕ → ℕ
+lineNumber a h t k = ordinal (a .dictionary) (a .form) h t k
 
 -- for the line of entry k, if it is in the class
 unfoldable pub lineBits : Sought → Asked → Bytes → List ℕ → Class → ℕ → ℕ → Bool
-lineBits s a h t c k j = eqb (j / 2) k && (inClass s a h t c k && bitFor s a h t k (j % 2))
+lineBits s a h t c k j = eqb (j / 2) (lineNumber a h t k) && (inClass s a h t c k && bitFor s a h t k (j % 2))
 
 abbrev pub isLine : Asked → List ℕ → ℕ → Bool
 isLine a t k = holds (a .dictionary) (entryIn (a .form) t k .kind)
 
+-- the entry of line n
+abbrev pub toldOf : Asked → Bytes → List ℕ → ℕ → ℕ
+toldOf a h t n = entryOfLine (tableLines (a .dictionary) (a .form) h t) n
+
 -- for the lines before entry k that are
 unfoldable pub classBits : Sought → Asked → Bytes → List ℕ → Class → ℕ → ℕ → Bool
-classBits s a h t c k j = ltb (j / 2) k && (isLine a t (j / 2) && (inClass s a h t c (j / 2) && bitFor s a h t (j / 2) (j % 2)))
+classBits s a h t c k j = ltb (j / 2) (lineNumber a h t k) && (inClass s a h t c (toldOf a h t (j / 2)) && bitFor s a h t (toldOf a h t (j / 2)) (j % 2))
 
 -- for the lines of the first classes of so many
 unfoldable pub soughtBits : Sought → Asked → Bytes → List ℕ → ℕ → ℕ → ℕ → Bool
-soughtBits s a h t of at j = ltb (j / 2) (room (a .form) t) && (isLine a t (j / 2) && (ltb (classFor s of (lineAt (a .form) h t (j / 2))) at && bitFor s a h t (j / 2) (j % 2)))
+soughtBits s a h t of at j = ltb (j / 2) (lineNumber a h t (room (a .form) t)) && (ltb (classFor s of (lineAt (a .form) h t (toldOf a h t (j / 2)))) at && bitFor s a h t (toldOf a h t (j / 2)) (j % 2))
 
 -- for all
 abbrev pub toldBit : Asked → Bytes → List ℕ → ℕ → ℕ → Bool
 toldBit a h t k b = bitFor Ids a h t k b || (a .indexed && bitFor Numbers a h t k b)
 
 unfoldable pub allBits : Asked → Bytes → List ℕ → ℕ → Bool
-allBits a h t j = ltb (j / 2) (room (a .form) t) && (isLine a t (j / 2) && toldBit a h t (j / 2) (j % 2))
+allBits a h t j = ltb (j / 2) (lineNumber a h t (room (a .form) t)) && toldBit a h t (toldOf a h t (j / 2)) (j % 2)
 
 -- the bits of this dictionary's lines are set
 pub record Tells (a : Asked) (h : Bytes) (t ms : List ℕ) : Type 0 where
-  pub is : (k b : ℕ) → k < room (a .form) t → isLine a t k ≡ true → b < 2 → 2 * k + b < 64 * length ms → bitAt ms (2 * k + b) ≡ toldBit a h t k b
+  pub is : (k b : ℕ) → k < room (a .form) t → isLine a t k ≡ true → b < 2 → 2 * lineNumber a h t k + b < 64 * length ms → bitAt ms (2 * lineNumber a h t k + b) ≡ toldBit a h t k b
+
+-- the words from word n on, as they are lent
+abbrev pub behind : ℕ → List ℕ → List ℕ
+behind n ms = take (length ms - n) (drop n ms)
 
 -- What a line is beside those before it
 

@@ -6,7 +6,10 @@ use mathlib.Core.List.{List, [], _∷_}
 use lib.Dec.{ltb}
 use lib.ListN.{length}
 use lib.Seq.{sets}
+use Rattle.values.specs.Bytes.{Bytes}
+use Rattle.entries.specs.declared.form.Form.{Form}
 use Rattle.dictionary.specs.Dictionary.{Line, anyOf, carries, lacks, firstLines, dictionaryClash, pairs}
+use Rattle.dictionary.specs.Lines.{tableLines, linesBefore}
 use Rattle.dictionary.specs.declared.line.Dictionary.{Dictionary}
 use Rattle.dictionary.specs.declared.line.Dictionary.the-variants.{Strings, Contigs}
 use Rattle.dictionary.specs.declared.place.Placed.{Placed}
@@ -19,7 +22,11 @@ use Rattle.dictionary.specs.declared.numbering.Numbering.{Numbering}
 use Rattle.dictionary.specs.declared.numbering.Numbering.the-variants as numbering
 
 abbrev pub carriedBy : List Line → Carried
-carriedBy ls = record { given = anyOf carries ls; missing = anyOf lacks ls }
+carriedBy ls = record { given = anyOf carries ls; missing = anyOf lacks ls; lines = length ls }
+
+-- the lines are all among the first n entries
+pub record EndsLines (form : Form) (t : List ℕ) (n : ℕ) : Type 0 where
+  pub is : (d : Dictionary) (h : Bytes) → linesBefore d form h t n ≡ tableLines d form h t
 
 -- the pair of this number is written, if there is room for it
 unfoldable pub putPair : List ℕ → ℕ → ℕ → ℕ → List ℕ

@@ -43,14 +43,14 @@ unfoldable pub idHash : Bytes → ℕ
 idHash x = wideStep (wideFrom wideBasis x) 0
 
 unfoldable pub numberHash : ℕ → ℕ
-numberHash m = wideStep (wideStep m 0) 0
+numberHash m = wideStep (wideStep (wideStep m 0) 0) 0
 
 unfoldable pub idSlot : ℕ → Bytes → ℕ
 idSlot n x = slotBy n (idHash x)
 
--- numbers below a quarter of the slots have their own
+-- numbers below a sixteenth of the slots have their own
 unfoldable pub numberSlot : ℕ → ℕ → ℕ
-numberSlot n m = elim (ltb m (n / 4)) [ true ↦ m | false ↦ n / 4 + slotBy (n - n / 4) (numberHash m) ]
+numberSlot n m = elim (ltb m (n / 16)) [ true ↦ m | false ↦ n / 16 + slotBy (n - n / 16) (numberHash m) ]
 
 pub record AllOpen (slots : List ℕ) : Type 0 where
   pub is : (q : ℕ) → getD slots q 0 ≡ 0

@@ -1,5 +1,4 @@
 // The dictionaries of BCF: a number for each string and each contig.
-mod bits;
 mod line;
 mod marking;
 mod numbering;

@@ -1,6 +1,5 @@
-// Bits that tell what lines are beside those before them: bit 2k that the ID of entry k was met, with the same number; bit 2k + 1 that, but for that, it
-// clashes. IDs, and numbers, are looked for one class after the other, so that the slots have room for all of a class.
-use crate::bits;
+// Bits that tell what a dictionary's lines are beside those before them: bit 2n that the ID of line n was met, with the same number; bit 2n + 1 that, but
+// for that, it clashes. IDs, and numbers, are looked for one class after the other, so that the slots have room for all of a class.
 use crate::line;
 use crate::line::IdxRead;
 use crate::place;
@@ -11,12 +10,14 @@ use crate::slots::Class;
 use entries::entry::Entry;
 use entries::part;
 use entries::table;
+use values::bits;
+ghost use mathlib.Core.Path.{_≡_};
 ghost use Prim.Native.Nat.{_+_, _<_};
 ghost use Rattle.entries.specs.Tables.{room};
 ghost use Rattle.dictionary.specs.Lines.{idAt, idxAt};
 ghost use Rattle.dictionary.specs.Places.{impliedClash, earlierMeant};
 ghost use Rattle.dictionary.specs.Slots.{isNamed, isNumbered, idHash, numberHash, idSlot, numberSlot, AllOpen, StandsAt, HeldAt};
-ghost use Rattle.dictionary.specs.Marks.{Sets, metBits, lineBits, classBits, soughtBits, allBits, HeldFor};
+ghost use Rattle.dictionary.specs.Marks.{Sets, lineNumber, metBits, lineBits, classBits, soughtBits, allBits, HeldFor};
 ghost use Rattle.dictionary.specs.declared.marking.Sought.the-variants.{Ids, Numbers};
 
 // What is looked for.
@@ -25,16 +26,16 @@ pub enum Sought {
     Numbers,
 }
 
-// For a line whose ID was looked for. Entries are so few that twice the number of one is a number too.
-fn mark_met(h: &[u8], asked: Asked, e: Entry, entry: usize, earlier: Earlier, marks: &mut [u64])
-    requires { ⌜ entry < 9223372036854775808 ⌝ }
+// For a line whose ID was looked for. Lines are so few that twice the number of one is a number too.
+fn mark_met(h: &[u8], asked: Asked, e: Entry, line: usize, earlier: Earlier, marks: &mut [u64])
+    requires { ⌜ line < 9223372036854775808 ⌝ }
     ensures { λ _.
-        ⌜ Sets (now (marks .entry)) (now (marks .exit)) (metBits (asked .indexed) (impliedClash (asked .dictionary) (idAt (now (h .entry)) e)) (idxAt (now (h .entry)) e) (earlierMeant (now (h .entry)) earlier) entry) ⌝ }
+        ⌜ Sets (now (marks .entry)) (now (marks .exit)) (metBits (asked .indexed) (impliedClash (asked .dictionary) (idAt (now (h .entry)) e)) (idxAt (now (h .entry)) e) (earlierMeant (now (h .entry)) earlier) line) ⌝ }
 {
     let Earlier::Found(x) = earlier else {
         return;
     };
-    let at = 2 * entry;
+    let at = 2 * line;
     if place::is_again(h, asked, e, x) {
         bits::set(marks, at);
         return;
@@ -49,10 +50,12 @@ fn mark_id(
     class: Class,
     e: Entry,
     entry: usize,
+    line: usize,
     marks: &mut [u64],
     slots: &mut [u32],
 )
     requires { ⌜ StandsAt (asked .dictionary) (asked .form) (now kept) entry e ⌝ }
+    requires { ⌜ line ≡ lineNumber asked (now h) (now kept) entry ⌝ }
     requires { ⌜ HeldAt isNamed idSlot idHash class (asked .dictionary) (asked .form) (now h) (now kept) entry (now slots) ⌝ }
     ensures marks { λ _.
         ⌜ Sets (now (marks .entry)) (now (marks .exit)) (lineBits Ids asked (now (h .entry)) (now (kept .entry)) class entry) ⌝ }
@@ -62,7 +65,7 @@ fn mark_id(
     let hash = slots::id_hash(part::id_part(h, e), e.quoted);
     if slots::is_in(class, hash) {
         let earlier = place::find_earlier(h, kept, asked, class, e, hash, entry, slots);
-        mark_met(h, asked, e, entry, earlier, marks);
+        mark_met(h, asked, e, line, earlier, marks);
     }
 }
 
@@ -73,17 +76,19 @@ fn mark_number(
     class: Class,
     e: Entry,
     entry: usize,
+    line: usize,
     marks: &mut [u64],
     slots: &mut [u32],
 )
     requires { ⌜ StandsAt (asked .dictionary) (asked .form) (now kept) entry e ⌝ }
+    requires { ⌜ line ≡ lineNumber asked (now h) (now kept) entry ⌝ }
     requires { ⌜ HeldAt isNumbered numberSlot numberHash class (asked .dictionary) (asked .form) (now h) (now kept) entry (now slots) ⌝ }
     ensures marks { λ _.
         ⌜ Sets (now (marks .entry)) (now (marks .exit)) (lineBits Numbers asked (now (h .entry)) (now (kept .entry)) class entry) ⌝ }
     ensures slots { λ _.
         ⌜ HeldAt isNumbered numberSlot numberHash class (asked .dictionary) (asked .form) (now (h .entry)) (now (kept .entry)) (entry + 1) (now (slots .exit)) ⌝ }
 {
-    let at = 2 * entry + 1;
+    let at = 2 * line + 1;
     let dictionary = asked.dictionary;
     match line::line_idx(h, e) {
         IdxRead::Idx(n) => {
@@ -113,10 +118,12 @@ fn mark_line(
     class: Class,
     e: Entry,
     entry: usize,
+    line: usize,
     marks: &mut [u64],
     slots: &mut [u32],
 )
     requires { ⌜ StandsAt (asked .dictionary) (asked .form) (now kept) entry e ⌝ }
+    requires { ⌜ line ≡ lineNumber asked (now h) (now kept) entry ⌝ }
     requires { ⌜ HeldFor sought class asked (now h) (now kept) entry (now slots) ⌝ }
     ensures marks { λ _.
         ⌜ Sets (now (marks .entry)) (now (marks .exit)) (lineBits sought asked (now (h .entry)) (now (kept .entry)) class entry) ⌝ }
@@ -124,8 +131,8 @@ fn mark_line(
         ⌜ HeldFor sought class asked (now (h .entry)) (now (kept .entry)) (entry + 1) (now (slots .exit)) ⌝ }
 {
     match sought {
-        Sought::Ids => mark_id(h, kept, asked, class, e, entry, marks, slots),
-        Sought::Numbers => mark_number(h, kept, asked, class, e, entry, marks, slots),
+        Sought::Ids => mark_id(h, kept, asked, class, e, entry, line, marks, slots),
+        Sought::Numbers => mark_number(h, kept, asked, class, e, entry, line, marks, slots),
     }
 }
 
@@ -144,13 +151,16 @@ fn mark_lines(
 {
     let form = asked.form;
     let dictionary = asked.dictionary;
+    let mut lines = 0;
     let mut k = 0;
     while k < table::count(kept, form) {
         let e = table::get(kept, form, k);
         let entry = k;
         k += 1;
         if line::has_kind(dictionary, e.kind) {
-            mark_line(h, kept, asked, sought, class, e, entry, marks, slots);
+            let line = lines;
+            lines += 1;
+            mark_line(h, kept, asked, sought, class, e, entry, line, marks, slots);
         }
     }
 }
@@ -179,7 +189,7 @@ fn mark_most(h: &[u8], kept: &[u64], asked: Asked, sought: Sought, class: Class,
     mark_lines(h, kept, asked, sought, class, marks, &mut slots);
 }
 
-// With slots of its own where none are lent: few entries need few, and clearing more costs more than it spares. It calls itself so that the
+// With slots of its own where none are lent: few lines need few, and clearing more costs more than it spares. It calls itself so that the
 // compiler leaves the large slots in functions of their own, and a call that needs few does not touch the stack of all.
 fn mark_sized(
     h: &[u8],
@@ -197,16 +207,15 @@ fn mark_sized(
     if 0 < slots.len() {
         return mark_lines(h, kept, asked, sought, class, marks, slots);
     }
-    let form = asked.form;
-    let entries = table::count(kept, form);
-    if entries < 512 {
+    let lines = asked.lines;
+    if lines < 512 {
         let mut own = [0u32; 1024];
         return mark_sized(h, kept, asked, sought, class, marks, &mut own);
     }
-    if entries < 4096 {
+    if lines < 4096 {
         return mark_some(h, kept, asked, sought, class, marks);
     }
-    if entries < 32768 {
+    if lines < 32768 {
         return mark_many(h, kept, asked, sought, class, marks);
     }
     mark_most(h, kept, asked, sought, class, marks)
@@ -233,12 +242,11 @@ fn mark_sought(h: &[u8], kept: &[u64], asked: Asked, sought: Sought, of: u64, ma
     }
 }
 
-// The slots for most entries have room for the lines of a class, and some more.
+// The slots for most lines have room for those of a class, and some more.
 pub fn mark(h: &[u8], kept: &[u64], asked: Asked, marks: &mut [u64])
     ensures { λ _. ⌜ Sets (now (marks .entry)) (now (marks .exit)) (allBits asked (now (h .entry)) (now (kept .entry))) ⌝ }
 {
-    let form = asked.form;
-    let classes = (table::count(kept, form) / 98304) as u64 + 1;
+    let classes = (asked.lines / 98304) as u64 + 1;
     mark_sought(h, kept, asked, Sought::Ids, classes, marks);
     let indexed = asked.indexed;
     if indexed {

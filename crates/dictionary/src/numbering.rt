@@ -12,13 +12,14 @@ ghost use mathlib.Core.Path.{_≡_};
 ghost use Rattle.dictionary.specs.Lines.{tableLines};
 ghost use Rattle.dictionary.specs.Places.{placeAt};
 ghost use Rattle.dictionary.specs.Slots.{StandsAt};
-ghost use Rattle.dictionary.specs.Marks.{Tells};
-ghost use Rattle.dictionary.specs.Pairs.{carriedBy, putPair, firstNumber, Counts, turnOf, turnOut, NumbersLines};
+ghost use Rattle.dictionary.specs.Marks.{lineNumber, Tells};
+ghost use Rattle.dictionary.specs.Pairs.{carriedBy, EndsLines, putPair, firstNumber, Counts, turnOf, turnOut, NumbersLines};
 
-// Whether some lines carry IDX, and whether some don't.
+// Whether some lines carry IDX, whether some don't, and how many lines there are.
 pub struct Carried {
     pub given: bool,
     pub missing: bool,
+    pub lines: usize,
 }
 
 // How many pairs there are so far, and the number that the next ID is due.
@@ -44,18 +45,43 @@ pub fn carried_in(h: &[u8], kept: &[u64], form: Form, dictionary: Dictionary) ->
 {
     let mut given = false;
     let mut missing = false;
+    let mut lines = 0;
     let mut k = 0;
     while k < table::count(kept, form) {
         let e = table::get(kept, form, k);
         k += 1;
         if line::has_kind(dictionary, e.kind) {
+            lines += 1;
             match line::line_idx(h, e) {
                 IdxRead::Idx(_) => given = true,
                 IdxRead::Missing => missing = true,
             }
         }
     }
-    Carried { given, missing }
+    Carried {
+        given,
+        missing,
+        lines,
+    }
+}
+
+// How many entries there are up to the last line of a dictionary.
+pub fn lines_end(kept: &[u64], form: Form) -> usize
+    ensures { λ r. ⌜ EndsLines form (now (kept .entry)) r ⌝ }
+{
+    let mut end = table::count(kept, form);
+    while 0 < end {
+        let last = end - 1;
+        let kind = table::get(kept, form, last).kind;
+        if line::has_kind(Dictionary::Strings, kind) {
+            return end;
+        }
+        if line::has_kind(Dictionary::Contigs, kind) {
+            return end;
+        }
+        end = last;
+    }
+    0
 }
 
 // The pair of this number, if there is room for it.
@@ -115,11 +141,13 @@ fn number_line(
     e: Entry,
     count: Count,
     entry: usize,
+    line: usize,
     marks: &[u64],
     out: &mut [u64],
 ) -> Turn
     requires { ⌜ Counts count ⌝ }
     requires { ⌜ StandsAt (asked .dictionary) (asked .form) (now kept) entry e ⌝ }
+    requires { ⌜ line ≡ lineNumber asked (now h) (now kept) entry ⌝ }
     requires { ⌜ Tells asked (now h) (now kept) (now marks) ⌝ }
     ensures turn { λ r.
         ⌜ r ≡ turnOf count (placeAt (asked .indexed) (asked .dictionary) (asked .form) (now (h .entry)) (now (kept .entry)) entry e) ⌝ }
@@ -128,7 +156,7 @@ fn number_line(
         (placeAt (asked .indexed) (asked .dictionary) (asked .form) (now (h .entry)) (now (kept .entry)) entry e) ⌝ }
 {
     let needed = count.pairs < out.len() / 2;
-    let placed = place::place_line(h, kept, asked, e, entry, marks, needed);
+    let placed = place::place_line(h, kept, asked, e, entry, line, marks, needed);
     take_place(count, placed, entry as u64, out)
 }
 
@@ -151,13 +179,16 @@ pub fn number_lines(
         pairs: 0,
         next: first_number(dictionary),
     };
+    let mut lines = 0;
     let mut k = 0;
     while k < table::count(kept, form) {
         let e = table::get(kept, form, k);
         let entry = k;
         k += 1;
         if line::has_kind(dictionary, e.kind) {
-            match number_line(h, kept, asked, e, count, entry, marks, out) {
+            let line = lines;
+            lines += 1;
+            match number_line(h, kept, asked, e, count, entry, line, marks, out) {
                 Turn::Next(c) => count = c,
                 Turn::Clash => return Numbering::Clash,
             }

@@ -1,5 +1,4 @@
 // The number of a line beside the lines before it.
-use crate::bits;
 use crate::line;
 use crate::line::Dictionary;
 use crate::line::IdxRead;
@@ -10,6 +9,7 @@ use entries::entry::Entry;
 use entries::form::Form;
 use entries::part;
 use entries::table;
+use values::bits;
 use values::string;
 ghost use mathlib.Core.Path.{_≡_};
 ghost use mathlib.Core.Option.{none};
@@ -18,13 +18,14 @@ ghost use Rattle.entries.specs.Values.{entryOf};
 ghost use Rattle.dictionary.specs.Lines.{idAt, idxAt, isImplied, tableLines, linesBefore};
 ghost use Rattle.dictionary.specs.Places.{impliedClash, idxNamed, earlierMeant, numberSeen, seenIn, indexedBeside, countedBeside, placeIf, placeAt};
 ghost use Rattle.dictionary.specs.Slots.{isNamed, isNumbered, classOf, idHash, numberHash, idSlot, numberSlot, Stands, StandsAt, HeldAt};
-ghost use Rattle.dictionary.specs.Marks.{isAgain, besideBy, besideAt, Tells};
+ghost use Rattle.dictionary.specs.Marks.{isAgain, lineNumber, besideBy, besideAt, Tells};
 
-// The form of the entries, the dictionary whose lines are numbered, and whether these carry IDX.
+// The form of the entries, the dictionary whose lines are numbered, whether these carry IDX, and how many they are.
 pub struct Asked {
     pub form: Form,
     pub dictionary: Dictionary,
     pub indexed: bool,
+    pub lines: usize,
 }
 
 // What a line is beside those before it: of a new ID; of one that was met, with the same number; or it clashes with one of them.
@@ -227,19 +228,28 @@ fn search_beside(h: &[u8], ahead: &[u64], asked: Asked, e: Entry) -> Beside
 }
 
 // What the line of entry k is beside those before it, by its marks.
-fn find_beside(h: &[u8], kept: &[u64], asked: Asked, e: Entry, k: usize, marks: &[u64]) -> Beside
+fn find_beside(
+    h: &[u8],
+    kept: &[u64],
+    asked: Asked,
+    e: Entry,
+    k: usize,
+    line: usize,
+    marks: &[u64],
+) -> Beside
     requires { ⌜ StandsAt (asked .dictionary) (asked .form) (now kept) k e ⌝ }
+    requires { ⌜ line ≡ lineNumber asked (now h) (now kept) k ⌝ }
     requires { ⌜ Tells asked (now h) (now kept) (now marks) ⌝ }
     ensures { λ r. ⌜ r ≡ besideAt asked (now (h .entry)) (now (kept .entry)) k ⌝ }
 {
     let form = asked.form;
-    if marks.len() <= k / 32 {
+    if marks.len() <= line / 32 {
         return search_beside(h, table::kept(kept, form, k), asked, e);
     }
-    if bits::is_set(marks, 2 * k) {
+    if bits::is_set(marks, 2 * line) {
         return Beside::Again;
     }
-    if bits::is_set(marks, 2 * k + 1) {
+    if bits::is_set(marks, 2 * line + 1) {
         return Beside::Clash;
     }
     Beside::New
@@ -287,15 +297,17 @@ pub fn place_line(
     asked: Asked,
     e: Entry,
     k: usize,
+    line: usize,
     marks: &[u64],
     needed: bool,
 ) -> Placed
     requires { ⌜ StandsAt (asked .dictionary) (asked .form) (now kept) k e ⌝ }
+    requires { ⌜ line ≡ lineNumber asked (now h) (now kept) k ⌝ }
     requires { ⌜ Tells asked (now h) (now kept) (now marks) ⌝ }
     ensures { λ r.
         ⌜ r ≡ placeIf needed (placeAt (asked .indexed) (asked .dictionary) (asked .form) (now (h .entry)) (now (kept .entry)) k e) ⌝ }
 {
-    let beside = find_beside(h, kept, asked, e, k, marks);
+    let beside = find_beside(h, kept, asked, e, k, line, marks);
     let dictionary = asked.dictionary;
     let indexed = asked.indexed;
     if indexed {

@@ -63,14 +63,14 @@ pub fn id_hash(id: &[u8], quoted: bool) -> u64
 pub fn number_hash(n: u64) -> u64
     ensures { λ r. ⌜ r ≡ numberHash n ⌝ }
 {
-    hash::wide_step(hash::wide_step(n, 0), 0)
+    hash::wide_step(hash::wide_step(hash::wide_step(n, 0), 0), 0)
 }
 
-// Numbers that are small, as they are where none is left out, have slots to themselves, a quarter of all; others share the rest.
+// Numbers that are small, as they are where none is left out, have slots to themselves, a sixteenth of all; others share the rest.
 fn number_slot(slots: usize, n: u64) -> usize
     ensures { λ r. ⌜ r ≡ numberSlot slots n ⌝ }
 {
-    let own = slots / 4;
+    let own = slots / 16;
     if n < (own as u64) {
         return n as usize;
     }

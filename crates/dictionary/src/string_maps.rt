@@ -15,11 +15,13 @@ use records::file_format::FileFormat;
 use records::refusal::Refusal;
 ghost use mathlib.Core.Path.{_≡_};
 ghost use mathlib.Core.Bool.{_&&_};
+ghost use Prim.Native.Nat.{_≤_};
+ghost use lib.ListN.{length, take};
 ghost use Rattle.header.specs.Verdicts.{imposedOf};
 ghost use Rattle.dictionary.specs.Lines.{tableLines, stringLines, contigLines};
 ghost use Rattle.dictionary.specs.Pairs.{carriedBy};
 ghost use Rattle.dictionary.specs.Slots.{AllOpen};
-ghost use Rattle.dictionary.specs.Marks.{askedOf, Sets, allBits, Tells};
+ghost use Rattle.dictionary.specs.Marks.{askedOf, Tells, behind};
 ghost use Rattle.dictionary.specs.declared.line.Dictionary.the-variants.{Strings, Contigs};
 ghost use Rattle.dictionary.specs.Answers.{dictionaryNumber, DictionaryCall, CountsPairs, Judges, NumbersBoth, dictionaryRefusedAs, answerOf, AnswersBoth};
 
@@ -85,19 +87,20 @@ fn count_pairs(h: &[u8], kept: &[u64], asked: Asked, marks: &[u64]) -> Numbering
     numbering::number_lines(h, kept, asked, marks, &mut nothing)
 }
 
-// `s` and `c` tell which lines carry IDX, `strings` and `contigs` are the words that there are for them.
+// `s` and `c` tell which lines carry IDX, `smarks` and `cmarks` are the marks of the lines, `strings` and `contigs` the words that there are for the pairs.
 fn judge(
     h: &[u8],
     kept: &[u64],
     form: Form,
     s: Carried,
     c: Carried,
-    marks: &[u64],
+    smarks: &[u64],
+    cmarks: &[u64],
     strings: usize,
     contigs: usize,
 ) -> Judged
-    requires { ⌜ Tells (askedOf form Strings s) (now h) (now kept) (now marks) ⌝ }
-    requires { ⌜ Tells (askedOf form Contigs c) (now h) (now kept) (now marks) ⌝ }
+    requires { ⌜ Tells (askedOf form Strings s) (now h) (now kept) (now smarks) ⌝ }
+    requires { ⌜ Tells (askedOf form Contigs c) (now h) (now kept) (now cmarks) ⌝ }
     ensures { λ r.
         ⌜ Judges form s c (now (h .entry)) (now (kept .entry)) strings contigs r ⌝ }
 {
@@ -111,16 +114,18 @@ fn judge(
         form,
         dictionary: Dictionary::Strings,
         indexed: s.given,
+        lines: s.lines,
     };
-    let Numbering::Pairs(n) = count_pairs(h, kept, for_strings, marks) else {
+    let Numbering::Pairs(n) = count_pairs(h, kept, for_strings, smarks) else {
         return Judged::NumberClash;
     };
     let for_contigs = Asked {
         form,
         dictionary: Dictionary::Contigs,
         indexed: c.given,
+        lines: c.lines,
     };
-    let Numbering::Pairs(m) = count_pairs(h, kept, for_contigs, marks) else {
+    let Numbering::Pairs(m) = count_pairs(h, kept, for_contigs, cmarks) else {
         return Judged::NumberClash;
     };
     if strings / 2 < n {
@@ -132,21 +137,23 @@ fn judge(
     Judged::Whole(n, m)
 }
 
-// By the marks of the lines of both.
+// By marks, the first n words of which are the strings', the others the contigs'.
 fn number_marked(
     h: &[u8],
     kept: &[u64],
     form: Form,
     s: Carried,
     c: Carried,
+    n: usize,
     marks: &[u64],
     strings: &mut [u64],
     contigs: &mut [u64],
 ) -> Judged
     requires { ⌜ s ≡ carriedBy (stringLines form (now h) (now kept)) ⌝ }
     requires { ⌜ c ≡ carriedBy (contigLines form (now h) (now kept)) ⌝ }
-    requires { ⌜ Tells (askedOf form Strings s) (now h) (now kept) (now marks) ⌝ }
-    requires { ⌜ Tells (askedOf form Contigs c) (now h) (now kept) (now marks) ⌝ }
+    requires { ⌜ n ≤ length (now marks) ⌝ }
+    requires { ⌜ Tells (askedOf form Strings s) (now h) (now kept) (take n (now marks)) ⌝ }
+    requires { ⌜ Tells (askedOf form Contigs c) (now h) (now kept) (behind n (now marks)) ⌝ }
     ensures { λ r.
         ⌜ NumbersBoth form (now (h .entry)) (now (kept .entry)) (now (strings .entry)) (now (contigs .entry)) r (now (strings .exit)) (now (contigs .exit)) ⌝ }
 {
@@ -154,17 +161,31 @@ fn number_marked(
         form,
         dictionary: Dictionary::Strings,
         indexed: s.given,
+        lines: s.lines,
     };
     let for_contigs = Asked {
         form,
         dictionary: Dictionary::Contigs,
         indexed: c.given,
+        lines: c.lines,
     };
-    match judge(h, kept, form, s, c, marks, strings.len(), contigs.len()) {
-        Judged::Whole(n, m) => {
-            numbering::number_lines(h, kept, for_strings, marks, strings);
-            numbering::number_lines(h, kept, for_contigs, marks, contigs);
-            Judged::Whole(n, m)
+    let smarks = &marks[..n];
+    let cmarks = &marks[n..];
+    match judge(
+        h,
+        kept,
+        form,
+        s,
+        c,
+        smarks,
+        cmarks,
+        strings.len(),
+        contigs.len(),
+    ) {
+        Judged::Whole(x, y) => {
+            numbering::number_lines(h, kept, for_strings, smarks, strings);
+            numbering::number_lines(h, kept, for_contigs, cmarks, contigs);
+            Judged::Whole(x, y)
         }
         Judged::PartlyIndexed => Judged::PartlyIndexed,
         Judged::NumberClash => Judged::NumberClash,
@@ -172,7 +193,7 @@ fn number_marked(
     }
 }
 
-// Nothing is to be marked where a dictionary has no lines.
+// Marks that are not set yet. Nothing is to be marked where a dictionary has no lines.
 fn mark_any(
     h: &[u8],
     kept: &[u64],
@@ -182,93 +203,162 @@ fn mark_any(
     marks: &mut [u64],
 )
     requires { ⌜ carried ≡ carriedBy (tableLines dictionary form (now h) (now kept)) ⌝ }
-    ensures { λ _. ⌜ Sets (now (marks .entry)) (now (marks .exit)) (allBits (askedOf form dictionary carried) (now (h .entry)) (now (kept .entry))) ⌝ }
+    requires { ⌜ AllOpen (now marks) ⌝ }
+    ensures { λ _. ⌜ Tells (askedOf form dictionary carried) (now (h .entry)) (now (kept .entry)) (now (marks .exit)) ⌝ }
 {
-    let given = carried.given;
-    let missing = carried.missing;
+    let lines = carried.lines;
+    if lines == 0 {
+        return;
+    }
     let asked = Asked {
         form,
         dictionary,
-        indexed: given,
+        indexed: carried.given,
+        lines,
     };
-    if given {
-        return marking::mark(h, kept, asked, marks);
+    marking::mark(h, kept, asked, marks);
+}
+
+// How many of so many words have the marks of the strings; those behind have those of the contigs.
+fn string_words(strings: Carried, words: usize) -> usize
+    ensures { λ r. ⌜ r ≤ words ⌝ }
+{
+    let needed = strings.lines / 32 + 1;
+    if words < needed {
+        return words;
     }
-    if missing {
-        return marking::mark(h, kept, asked, marks);
-    }
+    needed
+}
+
+// In the first n words.
+fn mark_strings(h: &[u8], kept: &[u64], form: Form, s: Carried, n: usize, marks: &mut [u64])
+    requires { ⌜ s ≡ carriedBy (stringLines form (now h) (now kept)) ⌝ }
+    requires { ⌜ n ≤ length (now marks) ⌝ }
+    requires { ⌜ AllOpen (now marks) ⌝ }
+    ensures marked { λ _. ⌜ Tells (askedOf form Strings s) (now (h .entry)) (now (kept .entry)) (take n (now (marks .exit))) ⌝ }
+    ensures others { λ _. ⌜ behind n (now (marks .exit)) ≡ behind n (now (marks .entry)) ⌝ }
+{
+    mark_any(h, kept, form, Dictionary::Strings, s, &mut marks[..n]);
+}
+
+// In the others.
+fn mark_contigs(h: &[u8], kept: &[u64], form: Form, c: Carried, n: usize, marks: &mut [u64])
+    requires { ⌜ c ≡ carriedBy (contigLines form (now h) (now kept)) ⌝ }
+    requires { ⌜ n ≤ length (now marks) ⌝ }
+    requires { ⌜ AllOpen (behind n (now marks)) ⌝ }
+    ensures marked { λ _. ⌜ Tells (askedOf form Contigs c) (now (h .entry)) (now (kept .entry)) (behind n (now (marks .exit))) ⌝ }
+    ensures others { λ _. ⌜ take n (now (marks .exit)) ≡ take n (now (marks .entry)) ⌝ }
+{
+    mark_any(h, kept, form, Dictionary::Contigs, c, &mut marks[n..]);
+}
+
+// The first n words are the strings'.
+fn mark_both(
+    h: &[u8],
+    kept: &[u64],
+    form: Form,
+    s: Carried,
+    c: Carried,
+    n: usize,
+    marks: &mut [u64],
+)
+    requires { ⌜ s ≡ carriedBy (stringLines form (now h) (now kept)) ⌝ }
+    requires { ⌜ c ≡ carriedBy (contigLines form (now h) (now kept)) ⌝ }
+    requires { ⌜ n ≤ length (now marks) ⌝ }
+    requires { ⌜ AllOpen (now marks) ⌝ }
+    ensures strings { λ _. ⌜ Tells (askedOf form Strings s) (now (h .entry)) (now (kept .entry)) (take n (now (marks .exit))) ⌝ }
+    ensures contigs { λ _. ⌜ Tells (askedOf form Contigs c) (now (h .entry)) (now (kept .entry)) (behind n (now (marks .exit))) ⌝ }
+{
+    mark_strings(h, kept, form, s, n, marks);
+    mark_contigs(h, kept, form, c, n, marks);
 }
 
 // The marks are not set yet.
-fn mark_both(h: &[u8], kept: &[u64], form: Form, s: Carried, c: Carried, marks: &mut [u64])
-    requires { ⌜ s ≡ carriedBy (stringLines form (now h) (now kept)) ⌝ }
-    requires { ⌜ c ≡ carriedBy (contigLines form (now h) (now kept)) ⌝ }
-    requires { ⌜ AllOpen (now marks) ⌝ }
-    ensures strings { λ _. ⌜ Tells (askedOf form Strings s) (now (h .entry)) (now (kept .entry)) (now (marks .exit)) ⌝ }
-    ensures contigs { λ _. ⌜ Tells (askedOf form Contigs c) (now (h .entry)) (now (kept .entry)) (now (marks .exit)) ⌝ }
-{
-    mark_any(h, kept, form, Dictionary::Strings, s, marks);
-    mark_any(h, kept, form, Dictionary::Contigs, c, marks);
-}
-
 fn number_by(
     h: &[u8],
     kept: &[u64],
     form: Form,
+    s: Carried,
+    c: Carried,
     marks: &mut [u64],
     strings: &mut [u64],
     contigs: &mut [u64],
 ) -> Judged
+    requires { ⌜ s ≡ carriedBy (stringLines form (now h) (now kept)) ⌝ }
+    requires { ⌜ c ≡ carriedBy (contigLines form (now h) (now kept)) ⌝ }
     requires { ⌜ AllOpen (now marks) ⌝ }
     ensures { λ r.
         ⌜ NumbersBoth form (now (h .entry)) (now (kept .entry)) (now (strings .entry)) (now (contigs .entry)) r (now (strings .exit)) (now (contigs .exit)) ⌝ }
 {
-    let s = numbering::carried_in(h, kept, form, Dictionary::Strings);
-    let c = numbering::carried_in(h, kept, form, Dictionary::Contigs);
-    mark_both(h, kept, form, s, c, marks);
-    number_marked(h, kept, form, s, c, marks, strings, contigs)
+    let n = string_words(s, marks.len());
+    mark_both(h, kept, form, s, c, n, marks);
+    number_marked(h, kept, form, s, c, n, marks, strings, contigs)
 }
 
-// Two bits for each of so many entries as a header of sixteen megabytes can have.
+// Two bits for each of so many lines as a header of sixteen megabytes can have; the shortest, `##contig=<ID=a>`, has sixteen bytes.
 fn number_most(
     h: &[u8],
     kept: &[u64],
     form: Form,
+    s: Carried,
+    c: Carried,
     strings: &mut [u64],
     contigs: &mut [u64],
 ) -> Judged
+    requires { ⌜ s ≡ carriedBy (stringLines form (now h) (now kept)) ⌝ }
+    requires { ⌜ c ≡ carriedBy (contigLines form (now h) (now kept)) ⌝ }
     ensures { λ r.
         ⌜ NumbersBoth form (now (h .entry)) (now (kept .entry)) (now (strings .entry)) (now (contigs .entry)) r (now (strings .exit)) (now (contigs .exit)) ⌝ }
 {
-    let mut marks = [0u64; 32768];
-    number_by(h, kept, form, &mut marks, strings, contigs)
+    let mut marks = [0u64; 32770];
+    number_by(h, kept, form, s, c, &mut marks, strings, contigs)
 }
 
-// With marks of its own where none are lent. It calls itself so that the compiler leaves the marks of most entries in a function of their own, and they
+// With marks of its own where none are lent. It calls itself so that the compiler leaves the marks of most lines in a function of their own, and they
 // are not on the stack where a header is read.
 fn number_sized(
     h: &[u8],
     kept: &[u64],
     form: Form,
+    s: Carried,
+    c: Carried,
     marks: &mut [u64],
     strings: &mut [u64],
     contigs: &mut [u64],
 ) -> Judged
+    requires { ⌜ s ≡ carriedBy (stringLines form (now h) (now kept)) ⌝ }
+    requires { ⌜ c ≡ carriedBy (contigLines form (now h) (now kept)) ⌝ }
     requires { ⌜ AllOpen (now marks) ⌝ }
     ensures { λ r.
         ⌜ NumbersBoth form (now (h .entry)) (now (kept .entry)) (now (strings .entry)) (now (contigs .entry)) r (now (strings .exit)) (now (contigs .exit)) ⌝ }
 {
     if 0 < marks.len() {
-        return number_by(h, kept, form, marks, strings, contigs);
+        return number_by(h, kept, form, s, c, marks, strings, contigs);
     }
-    if 16384 < table::count(kept, form) {
-        return number_most(h, kept, form, strings, contigs);
+    if 510 < s.lines / 32 + c.lines / 32 {
+        return number_most(h, kept, form, s, c, strings, contigs);
     }
     let mut own = [0u64; 512];
-    number_sized(h, kept, form, &mut own, strings, contigs)
+    number_sized(h, kept, form, s, c, &mut own, strings, contigs)
 }
 
-// `kept` are the entries of an accepted header.
+fn number_used(
+    h: &[u8],
+    used: &[u64],
+    form: Form,
+    strings: &mut [u64],
+    contigs: &mut [u64],
+) -> Judged
+    ensures { λ r.
+        ⌜ NumbersBoth form (now (h .entry)) (now (used .entry)) (now (strings .entry)) (now (contigs .entry)) r (now (strings .exit)) (now (contigs .exit)) ⌝ }
+{
+    let s = numbering::carried_in(h, used, form, Dictionary::Strings);
+    let c = numbering::carried_in(h, used, form, Dictionary::Contigs);
+    let mut none = [0u64; 0];
+    number_sized(h, used, form, s, c, &mut none, strings, contigs)
+}
+
+// `kept` are the entries of an accepted header; samples, which stand behind all lines, are not gone over each time.
 fn number_both(
     h: &[u8],
     kept: &[u64],
@@ -279,8 +369,8 @@ fn number_both(
     ensures { λ r.
         ⌜ NumbersBoth form (now (h .entry)) (now (kept .entry)) (now (strings .entry)) (now (contigs .entry)) r (now (strings .exit)) (now (contigs .exit)) ⌝ }
 {
-    let mut none = [0u64; 0];
-    number_sized(h, kept, form, &mut none, strings, contigs)
+    let end = numbering::lines_end(kept, form);
+    number_used(h, table::kept(kept, form, end), form, strings, contigs)
 }
 
 fn refuse(outcome: DictionaryOutcome, line: usize, start: usize, entries: usize) -> DictionaryAnswer

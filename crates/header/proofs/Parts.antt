@@ -288,29 +288,29 @@ module _ (form : Form) (imposed : Option Version) (h : Bytes) (end : ℕ) (t₀ 
           }
 
 -- a part of so many bytes, cut after its last LF
-module _ {form : Form} {imposed : Option Version} {h : Bytes} {end : ℕ} {t₀ t : List ℕ} {s₀ s : Spot} {reach : ℕ} (g : Parting form imposed h end t₀ s₀ t s reach) (l : 786432 ≤ end - reach) where
-  pub far-inside : reach + 524288 ≤ length h
+module _ {form : Form} {imposed : Option Version} {h : Bytes} {end : ℕ} {t₀ t : List ℕ} {s₀ s : Spot} {reach : ℕ} (g : Parting form imposed h end t₀ s₀ t s reach) (l : 1572864 ≤ end - reach) where
+  pub far-inside : reach + 1048576 ≤ length h
   far-inside = omega (arith, g .ahead, g .inside)
 
-  pub far-past : Parting form imposed h end t₀ s₀ t s (reach + 524288)
+  pub far-past : Parting form imposed h end t₀ s₀ t s (reach + 1048576)
   far-past = parting-past form imposed h end t₀ s₀ g (omega arith) (omega (arith, g .ahead))
 
-  pub far-less : end - (reach + 524288) < end - reach
+  pub far-less : end - (reach + 1048576) < end - reach
   far-less = omega (arith, g .ahead)
 
-  module _ {cut : ℕ} (e : cut ≡ lastEnd (take (reach + 524288) h) reach) where
+  module _ {cut : ℕ} (e : cut ≡ lastEnd (take (reach + 1048576) h) reach) where
     cut-before : cut ≤ end
-    cut-before = let i = cut-inside h (reach + 524288) reach (omega arith) far-inside e in omega (arith, i, g .ahead)
+    cut-before = let i = cut-inside h (reach + 1048576) reach (omega arith) far-inside e in omega (arith, i, g .ahead)
 
     later : reach ≤ cut
-    later = cut-later h (reach + 524288) reach (omega arith) far-inside e
+    later = cut-later h (reach + 1048576) reach (omega arith) far-inside e
 
     pub cut-within : cut ≤ length h
     cut-within = omega (arith, cut-before, g .inside)
 
     module _ (n : cut ≡ reach → ⊥) where
       ends : endOf (take cut h) ≡ cut
-      ends = cut-ends h (reach + 524288) reach (omega arith) far-inside e n
+      ends = cut-ends h (reach + 1048576) reach (omega arith) far-inside e n
 
       pub cut-fits : fits form (length (take cut h)) t s ≡ true
       cut-fits = part-fits form imposed h end t₀ s₀ g later cut-before ends

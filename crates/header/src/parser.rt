@@ -435,8 +435,8 @@ fn read_parts(
 {
     let mut parser = from;
     let mut reach = from.at;
-    while 0xC_0000 <= end - reach {
-        let ahead = reach + 0x8_0000;
+    while 0x18_0000 <= end - reach {
+        let ahead = reach + 0x10_0000;
         let cut = line::last_end(&header[..ahead], reach);
         if cut == reach {
             reach = ahead;
@@ -464,7 +464,7 @@ fn is_parted(header: &[u8], end: usize, from: Parser, form: Form, table: &[u64])
     if end < at {
         return false;
     }
-    if end - at < 0xC_0000 {
+    if end - at < 0x18_0000 {
         return false;
     }
     formed::all_formed(&header[..at], table, form, from.count)

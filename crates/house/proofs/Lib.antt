@@ -9,6 +9,7 @@ pub mod Chainings
 pub mod Others
 pub mod Windowings
 pub mod Forms
+pub mod Weights
 pub mod Entries
 pub mod Arranged
 pub mod Answers

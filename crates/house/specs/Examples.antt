@@ -6,7 +6,7 @@ use mathlib.Core.List.{[], _∷_, _++_, map}
 use mathlib.Core.Option.{none}
 use Rattle.values.specs.Bytes.{Bytes, ascii}
 use Rattle.values.specs.Hash.{wideBasis, wideStep, wideFrom}
-use Rattle.values.specs.Marks.{markWord, markBit, markBits, hasBits, isMet, meet}
+use Rattle.values.specs.Marks.{markWord, markBit, markBits, hasBits, isSet, setAll, isFew, isMet, meet}
 use Rattle.rules.specs.Sizes.{Limits, limits}
 use Rattle.rules.specs.Examples.{opened as rules}
 use Rattle.house.specs.Sets.{bitAt}
@@ -74,5 +74,5 @@ abbrev pub prefix : Bytes
 prefix = ascii "##cell="
 
 slotted : map (λ (twice : Bytes). slotOf twice 8 prefix) ([] ∷ meet (0 ∷ 0 ∷ []) (wideFrom wideBasis prefix) ∷ (0 ∷ 0 ∷ []) ∷ []) ≡ 5 ∷ 5 ∷ 8 ∷ []
-unfolding slotOf isMet meet hasBits markWord markBit markBits wideStep wideFrom
+unfolding slotOf isMet meet isSet setAll isFew hasBits markWord markBit markBits wideStep wideFrom
 slotted = refl

@@ -7,6 +7,7 @@ pub mod Runs
 pub mod Chains
 pub mod Windows
 pub mod Forms
+pub mod Sizes
 pub mod Answers
 pub mod IsHouse
 pub mod Verdicts

@@ -1,9 +1,10 @@
-// The house form of a header: measured first, then written if it may stand and fits; and whether a header is in house form, told by
-// the measuring alone, which holds the form against the header.
+// The house form of a header: its size is found first, and it is written if it may stand and fits; and whether a header is in house form,
+// told by measuring it, which holds the form against the header.
 use crate::copying;
 use crate::keys;
 use crate::progress;
 use crate::progress::Progress;
+use crate::sizes;
 use entries::form::Form;
 use entries::kind;
 use entries::limits::Limits;
@@ -22,6 +23,8 @@ ghost use Rattle.rules.specs.House.{house};
 ghost use Rattle.records.specs.Formats.{versionOf};
 ghost use Rattle.entries.specs.Values.{limitsOf, limitsBy};
 ghost use Rattle.entries.specs.Tables.{entriesIn};
+ghost use Rattle.house.specs.Keys.{AreFormed};
+ghost use Rattle.house.specs.Sizes.{SizesForm};
 ghost use Rattle.house.specs.Forms.{columnLine, PutsRecords, PutsForm, isWhole, measuredAs, IsOwn, WritesForm, ComparesForm};
 ghost use Rattle.header.specs.Verdicts.{imposedOf};
 ghost use Rattle.house.specs.Answers.{refusedAnswer, formAnswered, AnswersForm, HouseCall};
@@ -166,20 +169,21 @@ fn is_own(end: Sink, size: usize, room: usize) -> bool
     size <= room
 }
 
-// Nothing is written unless the whole form may stand and fits; a header that is its own form is copied. Whether the lines stand in form is asked once, and not at each putting.
-fn write_form(
+// The form is measured by putting it nowhere. A header that is its own form is copied.
+fn write_measured(
     h: &[u8],
     kept: &[u64],
     form: Form,
     version: FileFormat,
+    formed: bool,
     out: &mut [u8],
 ) -> FormOutcome
+    requires { ⌜ AreFormed (versionOf version) (now h) (entriesIn form (now kept)) formed ⌝ }
     ensures { λ r. ⌜ WritesForm (limitsBy form) (versionOf version) (now (h .entry)) (entriesIn form (now (kept .entry))) (now (out .entry)) r
         (now (out .exit)) ⌝ }
 {
     let limits = form.limits();
     let mut nothing = [0u8; 0];
-    let formed = keys::are_formed(h, kept, form, version);
     let measured = put_form(h, kept, form, version, limits.line, formed, &mut nothing, h);
     let outcome = outcome_of(measured, limits, out.len());
     if !outcome.is_whole() {
@@ -192,6 +196,62 @@ fn write_form(
     }
     put_form(h, kept, form, version, limits.line, formed, out, b"");
     outcome
+}
+
+// The size of a form whose records take so many bytes; the largest number if one of its other lines is too long.
+fn size_form(columns: &[u8], version: FileFormat, limit: usize, records: usize) -> usize
+    ensures { λ r. ⌜ SizesForm limit (versionOf version) (now (columns .entry)) records r ⌝ }
+{
+    let mut nothing = [0u8; 0];
+    let begun = Progress {
+        limit,
+        next: Sink { at: 0, differs: 0 },
+        lines: 0,
+        long: 0,
+        start: 0,
+        formed: true,
+    };
+    let formatted = progress::put_version(version, &mut nothing, b"", begun);
+    let ended = progress::put_plain(columns, &mut nothing, b"", formatted);
+    if 0 < ended.long {
+        return 0xFFFF_FFFF_FFFF_FFFF;
+    }
+    let next = ended.next;
+    progress::count_on(next.at, records)
+}
+
+// Nothing is written unless the whole form may stand and fits. Where all lines stand in form its size is a sum, which costs less than to
+// measure it, since that goes over all keys in the form's order; few entries are measured as soon. Whether the lines stand so is asked
+// once, and not at each putting.
+fn write_form(
+    h: &[u8],
+    kept: &[u64],
+    form: Form,
+    version: FileFormat,
+    out: &mut [u8],
+) -> FormOutcome
+    ensures { λ r. ⌜ WritesForm (limitsBy form) (versionOf version) (now (h .entry)) (entriesIn form (now (kept .entry))) (now (out .entry)) r
+        (now (out .exit)) ⌝ }
+{
+    let limits = form.limits();
+    let standing = sizes::find_standing(h, kept, form, version, limits.line);
+    let formed = standing.formed;
+    if !formed {
+        return write_measured(h, kept, form, version, formed, out);
+    }
+    if kept.len() <= 128 {
+        return write_measured(h, kept, form, version, formed, out);
+    }
+    let columns = column_line(h, kept, form);
+    let size = size_form(columns, version, limits.line, standing.size);
+    if limits.header < size {
+        return write_measured(h, kept, form, version, formed, out);
+    }
+    if out.len() < size {
+        return FormOutcome::NoRoom;
+    }
+    put_form(h, kept, form, version, limits.line, formed, out, b"");
+    FormOutcome::Whole(size)
 }
 
 // The form is held against the header, and written nowhere; the header limit is room enough for it.

@@ -23,7 +23,7 @@ ghost use lib.ListN.{length};
 ghost use Rattle.house.specs.Links.{isPast, SeesKey, PutsLinked, PutsFirst, SkipsUnder, SkipsSame, PutsOthersBy, PutsOthersMarked};
 
 // Whether an entry is a map or a text.
-fn is_record(e: Entry) -> bool
+pub fn is_record(e: Entry) -> bool
     ensures { λ r. ⌜ r ≡ isRecord (entryOf e) ⌝ }
 {
     if e.kind < kind::INFO {

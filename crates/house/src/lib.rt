@@ -7,4 +7,5 @@ mod keys;
 mod links;
 mod progress;
 mod run;
+mod sizes;
 mod windows;

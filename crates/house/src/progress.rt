@@ -24,12 +24,12 @@ pub struct Progress {
     pub formed: bool,
 }
 
-// So many lines more, as far as a number goes.
-fn count_lines(lines: usize, more: usize) -> usize
-    ensures { λ r. ⌜ r ≡ onward lines more ⌝ }
+// So many more, as far as a number goes.
+pub fn count_on(n: usize, more: usize) -> usize
+    ensures { λ r. ⌜ r ≡ onward n more ⌝ }
 {
-    if more <= 0xFFFF_FFFF_FFFF_FFFF - lines {
-        return lines + more;
+    if more <= 0xFFFF_FFFF_FFFF_FFFF - n {
+        return n + more;
     }
     0xFFFF_FFFF_FFFF_FFFF
 }
@@ -41,7 +41,7 @@ fn note_line(s: Progress, end: usize, next: Sink) -> Progress
     let here = s.next;
     let at = here.at;
     let long = s.long;
-    let lines = count_lines(s.lines, 1);
+    let lines = count_on(s.lines, 1);
     if long == 0 {
         if at <= end {
             if s.limit < end - at {
@@ -128,7 +128,7 @@ fn put_lines(text: &[u8], count: usize, out: &mut [u8], given: &[u8], s: Progres
     Progress {
         limit: s.limit,
         next,
-        lines: count_lines(s.lines, count),
+        lines: count_on(s.lines, count),
         long: s.long,
         start: s.start,
         formed: s.formed,

@@ -1,4 +1,4 @@
--- Names that lines still to be read may have: what the bytes after their last cut, and their last eight bytes, tell. Assumes nothing.
+-- Names that lines still to be read may have: what their last bytes between cuts, and their last eight bytes, tell. Assumes nothing.
 use Prim.Native.Nat.{ℕ, zero, suc, _+_, _-_, _*_, _/_, _%_, _^_, _≤_, _<_}
 use native.Mathlib.Omega.{arith}
 use native.Mathlib.Nat.{min-eq-left, mod-lt, div-lt-iff-lt-mul}
@@ -12,7 +12,7 @@ use lib.Seq.{take-all, drop-drop, getD-take, getD-drop}
 use borrow.Author.Tests.{eq-eqb, eqb-true, eqb-false, ne-eqb, leb-true, leb-false, le-leb, lt-leb, ltb-true, ltb-false, lt-ltb, le-ltb}
 use mir.Syntax.{w64}
 use mir.Val.{Fits}
-use Rattle.values.specs.Bytes.{Bytes, is, any, before, BACKSLASH, EQUALS}
+use Rattle.values.specs.Bytes.{Bytes, is, any, before, BACKSLASH, EQUALS, QUOTE}
 use Rattle.values.specs.Value.{meaning, unescaped, isEscapable}
 use Rattle.values.specs.Hash.{wideStep}
 use Rattle.values.specs.Marks.{isNoted, note}
@@ -26,7 +26,11 @@ use Rattle.entries.specs.declared.entry.Entry.{Entry as CodeEntry}
 use Rattle.entries.specs.declared.form.Form.{Form}
 use Rattle.entries.specs.Values.{entryOf}
 use Rattle.entries.specs.Tables.{room, entryIn}
-use Rattle.ids.specs.Ahead.{isEnd, isCut, idEnd, isOpened, isEnded, NewName, runOn, runStep, runFrom, once, twice, noteRun, runNoted, fourAt, tailHash, noteTail, noteCut, noteCuts, notesFrom, hasEscape, tailNoted, isAhead, isNear, NextNear}
+use Rattle.ids.specs.Ahead.{isEnd, isCut, idEnd, isOpened, isEnded, NewName, runOn, runStep, lastStep, runFrom, once, twice, noteRun, runNoted, fourAt, tailHash, noteTail, noteCut, noteCuts, notesFrom, hasEscape, tailNoted, isAhead, isNear, NextNear}
+
+pub either-way : (b : Bool) → (b || true) ≡ true
+either-way true = refl
+either-way false = refl
 
 -- What ends an ID
 
@@ -47,25 +51,35 @@ pub ruleset ends = (end-comma, end-greater, end-quote)
 
 -- What cuts a name off
 
-module _ (b : ℕ) {q : Bool} (eq : q ≡ isEnd b) where
-  pub cut-end : q ≡ true → true ≡ isCut b
+module _ (b : ℕ) where
+  pub cut-quote : b ≡ 34 → true ≡ isCut b
   unfolding isCut
-  cut-end e = rw (← eq, e)
+  cut-quote e = rw (eq-eqb b 34 e)
 
-  module _ (n : q ≡ false) where
+  module _ (d : b ≡ 34 → ⊥) where
     pub cut-hash : b ≡ 35 → true ≡ isCut b
     unfolding isCut
-    cut-hash e = rw (← eq, n, eq-eqb b 35 e)
+    cut-hash e = rw (ne-eqb b 34 d, eq-eqb b 35 e)
 
     pub cut-equals : (b ≡ 35 → ⊥) → b ≡ 61 → true ≡ isCut b
     unfolding isCut
-    cut-equals f e = rw (← eq, n, ne-eqb b 35 f, eq-eqb b 61 e)
+    cut-equals f e = rw (ne-eqb b 34 d, ne-eqb b 35 f, eq-eqb b 61 e)
 
     pub cut-backslash : (b ≡ 35 → ⊥) → (b ≡ 61 → ⊥) → eqb b 92 ≡ isCut b
     unfolding isCut
-    cut-backslash f g = rw (← eq, n, ne-eqb b 35 f, ne-eqb b 61 g)
+    cut-backslash f g = rw (ne-eqb b 34 d, ne-eqb b 35 f, ne-eqb b 61 g)
 
-pub ruleset cuts = (cut-end, cut-hash, cut-equals, cut-backslash)
+pub ruleset cuts = (cut-quote, cut-hash, cut-equals, cut-backslash)
+
+-- what answers the needs of `is_told`
+module _ (b : ℕ) {q : Bool} (eq : q ≡ isEnd b) where
+  pub told-end : q ≡ true → true ≡ (isEnd b || isCut b)
+  told-end e = rw (← eq, e)
+
+  pub told-cut : q ≡ false → {r : Bool} → r ≡ isCut b → r ≡ (isEnd b || isCut b)
+  told-cut n f = f ∙ rw (← eq, n)
+
+pub ruleset tolds = (told-end, told-cut)
 
 escapable-cut : (b : ℕ) → isEscapable b ≡ true → isCut b ≡ true
 unfolding isCut isEnd
@@ -78,15 +92,9 @@ backslash-cut : (b : ℕ) → is BACKSLASH b ≡ true → isCut b ≡ true
 unfolding isCut isEnd
 backslash-cut b e = let i = eqb-true b 92 e in rw i
 
--- a byte that is no cut is none that closes a name
-module _ (b : ℕ) (n : isCut b ≡ false) where
-  uncut-end : isEnd b ≡ false
-  unfolding isCut
-  uncut-end = or-l (isEnd b) _ n
-
-  uncut-equals : is EQUALS b ≡ false
-  unfolding isCut
-  uncut-equals = or-l (is EQUALS b) _ (or-r (is 35 b) _ (or-r (isEnd b) _ n))
+uncut-equals : (b : ℕ) → isCut b ≡ false → is EQUALS b ≡ false
+unfolding isCut
+uncut-equals b n = or-l (is EQUALS b) _ (or-r (is 35 b) _ (or-r (is QUOTE b) _ n))
 
 -- past the header nothing ends an ID
 end-inside : (h : Bytes) (n : ℕ) → isEnd (getD h n 0) ≡ true → n < length h
@@ -149,7 +157,7 @@ module _ (h : Bytes) (x : CodeEntry) {q : Bool} (a : q ≡ isOpened h (entryOf x
 
 pub ruleset settings = (set-closed, set-ended)
 
--- The bytes after the last cut
+-- The last bytes between cuts
 
 step-cut : (run b : ℕ) → isCut b ≡ true → runStep run b ≡ 0
 unfolding runStep
@@ -159,28 +167,48 @@ step-uncut : (run b : ℕ) → isCut b ≡ false → runStep run b ≡ runOn run
 unfolding runStep
 step-uncut run b e = rw (runStep, e)
 
+last-cut : (last run b : ℕ) → isCut b ≡ true → lastStep last run b ≡ last
+unfolding lastStep
+last-cut last run b e = rw (lastStep, e)
+
+last-uncut : (last run b : ℕ) → isCut b ≡ false → lastStep last run b ≡ runOn run b
+unfolding lastStep
+last-uncut last run b e = rw (lastStep, e)
+
 -- what is left of the run after a backslash
 abbrev stayed : Bool → ℕ → ℕ
 stayed true run = 0
 stayed false run = run
 
 -- an escape ends in a cut in the text and in what it means
-run-unescaped : (after : Bool) (run : ℕ) (t : Bytes) → runFrom run (unescaped after t) ≡ runFrom (stayed after run) t
+run-unescaped : (after : Bool) (last run : ℕ) (t : Bytes) → runFrom last run (unescaped after t) ≡ runFrom last (stayed after run) t
 unfolding runFrom unescaped
-run-unescaped true run [] = step-cut run 92 (backslash-cut 92 refl)
-run-unescaped false run [] = refl
-run-unescaped true run (b ∷ bs) = elim (test (isEscapable b)) [
-  | pass e ↦ let c = escapable-cut b e in rw (unescaped, e, runFrom, step-cut run b c, step-cut 0 b c) (run-unescaped false 0 bs)
-  | fail e ↦ rw (unescaped, e, runFrom, step-cut run 92 (backslash-cut 92 refl)) (run-unescaped false (runStep 0 b) bs)
+run-unescaped true last run [] = last-cut last run 92 (backslash-cut 92 refl)
+run-unescaped false last run [] = refl
+run-unescaped true last run (b ∷ bs) = elim (test (isEscapable b)) [
+  | pass e ↦ let c = escapable-cut b e in rw (unescaped, e, runFrom, last-cut last run b c, last-cut last 0 b c, step-cut run b c, step-cut 0 b c) (run-unescaped false last 0 bs)
+  | fail e ↦ let c = backslash-cut 92 refl in rw (unescaped, e, runFrom, last-cut last run 92 c, step-cut run 92 c) (run-unescaped false (lastStep last 0 b) (runStep 0 b) bs)
 ]
-run-unescaped false run (b ∷ bs) = elim (test (is BACKSLASH b)) [
-  | pass e ↦ rw (unescaped, e, runFrom, step-cut run b (backslash-cut b e)) (run-unescaped true run bs)
-  | fail e ↦ rw (unescaped, e, runFrom) (run-unescaped false (runStep run b) bs)
+run-unescaped false last run (b ∷ bs) = elim (test (is BACKSLASH b)) [
+  | pass e ↦ let c = backslash-cut b e in rw (unescaped, e, runFrom, last-cut last run b c, step-cut run b c) (run-unescaped true last run bs)
+  | fail e ↦ rw (unescaped, e, runFrom) (run-unescaped false (lastStep last run b) (runStep run b) bs)
 ]
 
-run-meaning : (q : Bool) (t : Bytes) → runFrom 0 (meaning q t) ≡ runFrom 0 t
-run-meaning true t = run-unescaped false 0 t
+run-meaning : (q : Bool) (t : Bytes) → runFrom 0 0 (meaning q t) ≡ runFrom 0 0 t
+run-meaning true t = run-unescaped false 0 0 t
 run-meaning false t = refl
+
+-- what stands before a name counts only where that has nothing but cuts
+run-anywhere : (last : ℕ) (t : Bytes) → (runFrom 0 0 t ≡ 0 → ⊥) → runFrom last 0 t ≡ runFrom 0 0 t
+unfolding runFrom
+run-anywhere last [] n = absurd (n refl)
+run-anywhere last (b ∷ bs) n = elim (test (isCut b)) [
+  | pass c ↦
+      let i = last-cut 0 0 b c in
+      let j = step-cut 0 b c in
+      rw (last-cut last 0 b c, i, j) (run-anywhere last bs (λ z. n (rw (i, j) z)))
+  | fail c ↦ rw (last-uncut last 0 b c, last-uncut 0 0 b c)
+]
 
 -- Last bytes
 
@@ -241,15 +269,15 @@ plain-take n t e = or-l (any (is BACKSLASH) (take n t)) (any (is BACKSLASH) (dro
 -- what stands ahead is noted: the runs of all names, and the last bytes of all that may be IDs
 pub record Noted (h : Bytes) (from : ℕ) (ns : List ℕ) : Type 0 where
   pub runs : (at size : ℕ) → from ≤ at → isCut (getD h at 0) ≡ true → (isEnd (getD h (at + 1 + size) 0) || is EQUALS (getD h (at + 1 + size) 0)) ≡ true
-      → runNoted ns (runFrom 0 (take size (drop (at + 1) h))) ≡ true
+      → runNoted ns (runFrom 0 0 (take size (drop (at + 1) h))) ≡ true
   pub tails : (end : ℕ) → from + 8 ≤ end → end < length h → isEnd (getD h end 0) ≡ true → isNoted ns (tailHash h end) ≡ true
 
 -- a text whose run is not noted means no name ahead
 pub run-away : (closes : ℕ → Bool) → ((b : ℕ) → closes b ≡ true → (isEnd b || is EQUALS b) ≡ true) → (h : Bytes) (from : ℕ) (ns : List ℕ) → Noted h from ns
-    → (q : Bool) (t : Bytes) → runNoted ns (runFrom 0 t) ≡ false → NewName closes h from (meaning q t) → ⊥
+    → (q : Bool) (t : Bytes) → runNoted ns (runFrom 0 0 t) ≡ false → NewName closes h from (meaning q t) → ⊥
 run-away closes f h from ns noted q t miss new =
     let text = take (new .size) (drop (new .at + 1) h) in
-    let twin : runFrom 0 t ≡ runFrom 0 text = sym (run-meaning q t) ∙ ap (runFrom 0) (new .text) ∙ run-meaning (new .quoted) text in
+    let twin : runFrom 0 0 t ≡ runFrom 0 0 text = sym (run-meaning q t) ∙ ap (runFrom 0 0) (new .text) ∙ run-meaning (new .quoted) text in
     false≢true (sym miss ∙ ap (runNoted ns) twin ∙ noted .runs (new .at) (new .size) (new .behind) (new .opened) (f (getD h (new .at + 1 + new .size) 0) (new .ended)))
 
 not-no : (b : Bool) → not b ≡ false → b ≡ true
@@ -338,43 +366,49 @@ module _ (run b : ℕ) {q : Bool} (eq : q ≡ isCut b) where
   pub stepped-on : q ≡ false → {r : ℕ} → r ≡ runOn run b → r ≡ runStep run b
   stepped-on e f = f ∙ sym (step-uncut run b (sym eq ∙ e))
 
-pub ruleset steps = (turned-fits, on-is, stepped-cut, stepped-on)
+  pub lasted-cut : (last : ℕ) → q ≡ true → last ≡ lastStep last run b
+  lasted-cut last e = sym (last-cut last run b (sym eq ∙ e))
+
+  pub lasted-on : (last : ℕ) → q ≡ false → {r : ℕ} → r ≡ runOn run b → r ≡ lastStep last run b
+  lasted-on last e f = f ∙ sym (last-uncut last run b (sym eq ∙ e))
+
+pub ruleset steps = (turned-fits, on-is, stepped-cut, stepped-on, lasted-cut, lasted-on)
 
 -- the run of a text, of which k bytes were taken
-pub record Running (s : Bytes) (run k : ℕ) : Type 0 where
-  pub still : runFrom 0 s ≡ runFrom run (drop k s)
+pub record Running (s : Bytes) (last run k : ℕ) : Type 0 where
+  pub still : runFrom 0 0 s ≡ runFrom last run (drop k s)
 
-pub running-start : (s : Bytes) → Running s 0 0
+pub running-start : (s : Bytes) → Running s 0 0 0
 running-start s = record { still = refl }
 
-module _ {s : Bytes} {run k : ℕ} (g : Running s run k) where
-  pub running-next : k < length s → {r : ℕ} → r ≡ runStep run (getD s k 0) → Running s r (k + 1)
+module _ {s : Bytes} {last run k : ℕ} (g : Running s last run k) where
+  pub running-next : k < length s → {a : ℕ} → a ≡ lastStep last run (getD s k 0) → {r : ℕ} → r ≡ runStep run (getD s k 0) → Running s a r (k + 1)
   unfolding runFrom
-  running-next l e = record { still = g .still ∙ rw (here s k l, e) }
+  running-next l d e = record { still = g .still ∙ rw (here s k l, d, e) }
 
-  pub running-end : length s ≤ k → run ≡ runFrom 0 s
+  pub running-end : length s ≤ k → last ≡ runFrom 0 0 s
   unfolding runFrom
   running-end l = sym (g .still ∙ rw (drop-of-length-le s {i = k} l))
 
 pub ruleset runnings = (running-start, running-next, running-end)
 
 -- that of a line's key
-pub record Keying (l : Bytes) (run k : ℕ) : Type 0 where
-  pub still : runFrom 0 (keyIn l) ≡ runFrom run (before (is EQUALS) (drop k l))
+pub record Keying (l : Bytes) (last run k : ℕ) : Type 0 where
+  pub still : runFrom 0 0 (keyIn l) ≡ runFrom last run (before (is EQUALS) (drop k l))
 
-pub keying-start : (l : Bytes) → Keying l 0 2
+pub keying-start : (l : Bytes) → Keying l 0 0 2
 keying-start l = record { still = refl }
 
-module _ {l : Bytes} {run k : ℕ} (g : Keying l run k) where
-  pub keying-hit : k < length l → getD l k 0 ≡ 61 → run ≡ runFrom 0 (keyIn l)
+module _ {l : Bytes} {last run k : ℕ} (g : Keying l last run k) where
+  pub keying-hit : k < length l → getD l k 0 ≡ 61 → last ≡ runFrom 0 0 (keyIn l)
   unfolding runFrom
   keying-hit i e = sym (g .still ∙ rw (here l k i, before-hit (is EQUALS) (getD l k 0) (drop (k + 1) l) (eq-eqb (getD l k 0) 61 e)))
 
-  pub keying-next : k < length l → (getD l k 0 ≡ 61 → ⊥) → {r : ℕ} → r ≡ runStep run (getD l k 0) → Keying l r (k + 1)
+  pub keying-next : k < length l → (getD l k 0 ≡ 61 → ⊥) → {a : ℕ} → a ≡ lastStep last run (getD l k 0) → {r : ℕ} → r ≡ runStep run (getD l k 0) → Keying l a r (k + 1)
   unfolding runFrom
-  keying-next i n e = record { still = g .still ∙ rw (here l k i, before-miss (is EQUALS) (getD l k 0) (drop (k + 1) l) (ne-eqb (getD l k 0) 61 n), e) }
+  keying-next i n d e = record { still = g .still ∙ rw (here l k i, before-miss (is EQUALS) (getD l k 0) (drop (k + 1) l) (ne-eqb (getD l k 0) 61 n), d, e) }
 
-  pub keying-end : length l ≤ k → run ≡ runFrom 0 (keyIn l)
+  pub keying-end : length l ≤ k → last ≡ runFrom 0 0 (keyIn l)
   unfolding runFrom before
   keying-end i = sym (g .still ∙ rw (drop-of-length-le l {i = k} i))
 
@@ -386,19 +420,23 @@ module _ (ns : List ℕ) (run : ℕ) {o : ℕ} (eo : o ≡ wideStep run 0) where
   unfolding noteRun
   run-noting e f g = g ∙ rw (e, f, eo)
 
-  module _ {q : Bool} (a : q ≡ isNoted ns o) where
+  module _ (z : run ≡ 0 → ⊥) {q : Bool} (a : q ≡ isNoted ns o) where
     pub run-missed : not q ≡ true → false ≡ runNoted ns run
     unfolding runNoted
-    run-missed n = rw (← eo, ← a, not-true q n)
+    run-missed n = rw (ne-eqb run 0 z, ← eo, ← a, not-true q n)
 
     pub run-looked : not q ≡ false → {t : ℕ} → t ≡ wideStep o 0 → {r : Bool} → r ≡ isNoted ns t → r ≡ runNoted ns run
     unfolding runNoted
-    run-looked n f g = g ∙ rw (← eo, ← a, not-false q n, f)
+    run-looked n f g = g ∙ rw (ne-eqb run 0 z, ← eo, ← a, not-false q n, f)
+
+pub run-none : (ns : List ℕ) (run : ℕ) → run ≡ 0 → true ≡ runNoted ns run
+unfolding runNoted
+run-none ns run z = rw (eq-eqb run 0 z)
 
 pub run-asked : (ns : List ℕ) {run of : ℕ} → run ≡ of → {r : Bool} → r ≡ runNoted ns run → r ≡ runNoted ns of
 run-asked ns e f = f ∙ ap (runNoted ns) e
 
-pub ruleset two-bits = (run-noting, run-missed, run-looked, run-asked)
+pub ruleset two-bits = (run-noting, run-missed, run-looked, run-none, run-asked)
 
 -- what is noted at a place
 module _ (h : Bytes) (end : ℕ) (ns : List ℕ) where
@@ -458,18 +496,21 @@ kept-cut h end run ns = elim (test (is EQUALS (getD h end 0))) [
   ]
 ]
 
-kept-cuts : (h : Bytes) (k n run : ℕ) (ns : List ℕ) → Kept ns (noteCuts h k n run ns)
+kept-cuts : (h : Bytes) (k n last run : ℕ) (ns : List ℕ) → Kept ns (noteCuts h k n last run ns)
 unfolding noteCuts
-kept-cuts h k zero run ns = kept-same ns
-kept-cuts h k (suc n) run ns = kept-then (kept-cut h k run ns) (kept-cuts h (k + 1) n (runStep run (getD h k 0)) (noteCut h k run ns))
+kept-cuts h k zero last run ns = kept-same ns
+kept-cuts h k (suc n) last run ns = kept-then (kept-cut h k last ns) (kept-cuts h (k + 1) n (lastStep last run (getD h k 0)) (runStep run (getD h k 0)) (noteCut h k last ns))
 
 run-kept : {ns ns′ : List ℕ} → Kept ns ns′ → (run : ℕ) → runNoted ns run ≡ true → runNoted ns′ run ≡ true
 unfolding runNoted
-run-kept {ns} k run a = rw (k .kept (once run) (and-l (isNoted ns (once run)) _ a), k .kept (twice run) (and-r (isNoted ns (once run)) _ a))
+run-kept {ns} k run a = elim (test (eqb run 0)) [
+  | pass z ↦ rw z
+  | fail z ↦ let b = rw z at a in rw (z, k .kept (once run) (and-l (isNoted ns (once run)) _ b), k .kept (twice run) (and-r (isNoted ns (once run)) _ b))
+]
 
 run-own : (ns : List ℕ) (run : ℕ) → runNoted (noteRun ns run) run ≡ true
 unfolding noteRun runNoted
-run-own ns run = rw (note-kept (note ns (once run)) (twice run) (once run) (note-own ns (once run)), note-own (note ns (once run)) (twice run))
+run-own ns run = rw (note-kept (note ns (once run)) (twice run) (once run) (note-own ns (once run)), note-own (note ns (once run)) (twice run)) (either-way (eqb run 0))
 
 cut-own : (h : Bytes) (end run : ℕ) (ns : List ℕ) → (isEnd (getD h end 0) || is EQUALS (getD h end 0)) ≡ true → runNoted (noteCut h end run ns) run ≡ true
 unfolding noteCut
@@ -494,38 +535,51 @@ tail-own h end run ns e l = rw (noteCut, end-equals (getD h end 0) e, e, noteTai
 
 module _ (h : Bytes) where
   -- a text from k on, up to a byte that closes a name
-  text-noted : (size k n run : ℕ) (ns : List ℕ) → k + n ≤ length h → size < n → (isEnd (getD h (k + size) 0) || is EQUALS (getD h (k + size) 0)) ≡ true
-      → runNoted (noteCuts h k n run ns) (runFrom run (take size (drop k h))) ≡ true
+  text-noted : (size k n last run : ℕ) (ns : List ℕ) → k + n ≤ length h → size < n → (isEnd (getD h (k + size) 0) || is EQUALS (getD h (k + size) 0)) ≡ true
+      → runNoted (noteCuts h k n last run ns) (runFrom last run (take size (drop k h))) ≡ true
   unfolding noteCuts runFrom
-  text-noted size k zero run ns a b c = absurd (omega arith)
-  text-noted zero k (suc n) run ns a b c =
+  text-noted size k zero last run ns a b c = absurd (omega arith)
+  text-noted zero k (suc n) last run ns a b c =
       let i : k + 0 ≡ k = omega arith in
-      run-kept (kept-cuts h (k + 1) n (runStep run (getD h k 0)) (noteCut h k run ns)) run (cut-own h k run ns (rw i at c))
-  text-noted (suc size) k (suc n) run ns a b c =
+      run-kept (kept-cuts h (k + 1) n (lastStep last run (getD h k 0)) (runStep run (getD h k 0)) (noteCut h k last ns)) last (cut-own h k last ns (rw i at c))
+  text-noted (suc size) k (suc n) last run ns a b c =
       let i : k + suc size ≡ k + 1 + size = omega arith in
-      rw (here h k (omega arith)) (text-noted size (k + 1) n (runStep run (getD h k 0)) (noteCut h k run ns) (omega arith) (omega arith) (rw i at c))
+      rw (here h k (omega arith)) (text-noted size (k + 1) n (lastStep last run (getD h k 0)) (runStep run (getD h k 0)) (noteCut h k last ns) (omega arith) (omega arith) (rw i at c))
+
+  -- whatever stands before it
+  own-noted : (size k n last : ℕ) (ns : List ℕ) → k + n ≤ length h → size < n → (isEnd (getD h (k + size) 0) || is EQUALS (getD h (k + size) 0)) ≡ true
+      → runNoted (noteCuts h k n last 0 ns) (runFrom 0 0 (take size (drop k h))) ≡ true
+  own-noted size k n last ns a b c =
+      let text = take size (drop k h) in
+      elim (test (eqb (runFrom 0 0 text) 0)) [
+        | pass z ↦ sym (run-none (noteCuts h k n last 0 ns) (runFrom 0 0 text) (eqb-true (runFrom 0 0 text) 0 z))
+        | fail z ↦ ap (runNoted (noteCuts h k n last 0 ns)) (sym (run-anywhere last text (eqb-false (runFrom 0 0 text) 0 z))) ∙ text-noted size k n last 0 ns a b c
+      ]
 
   -- a name after a cut d bytes on
-  name-noted : (d k n run : ℕ) (ns : List ℕ) (size : ℕ) → k + n ≤ length h → d + 1 + size < n → isCut (getD h (k + d) 0) ≡ true
-      → (isEnd (getD h (k + d + 1 + size) 0) || is EQUALS (getD h (k + d + 1 + size) 0)) ≡ true → runNoted (noteCuts h k n run ns) (runFrom 0 (take size (drop (k + d + 1) h))) ≡ true
+  name-noted : (d k n last run : ℕ) (ns : List ℕ) (size : ℕ) → k + n ≤ length h → d + 1 + size < n → isCut (getD h (k + d) 0) ≡ true
+      → (isEnd (getD h (k + d + 1 + size) 0) || is EQUALS (getD h (k + d + 1 + size) 0)) ≡ true → runNoted (noteCuts h k n last run ns) (runFrom 0 0 (take size (drop (k + d + 1) h))) ≡ true
   unfolding noteCuts
-  name-noted d k zero run ns size a b c e = absurd (omega arith)
-  name-noted zero k (suc n) run ns size a b c e =
+  name-noted d k zero last run ns size a b c e = absurd (omega arith)
+  name-noted zero k (suc n) last run ns size a b c e =
       let i : k + 0 ≡ k = omega arith in
-      rw (i, step-cut run (getD h k 0) (rw i at c)) (text-noted size (k + 1) n 0 (noteCut h k run ns) (omega arith) (omega arith) (rw i at e))
-  name-noted (suc d) k (suc n) run ns size a b c e =
+      rw (i, step-cut run (getD h k 0) (rw i at c)) (own-noted size (k + 1) n (lastStep last run (getD h k 0)) (noteCut h k last ns) (omega arith) (omega arith) (rw i at e))
+  name-noted (suc d) k (suc n) last run ns size a b c e =
       let i : k + suc d ≡ k + 1 + d = omega arith in
-      rw i (name-noted d (k + 1) n (runStep run (getD h k 0)) (noteCut h k run ns) size (omega arith) (omega arith) (rw i at c) (rw i at e))
+      rw i (name-noted d (k + 1) n (lastStep last run (getD h k 0)) (runStep run (getD h k 0)) (noteCut h k last ns) size (omega arith) (omega arith) (rw i at c) (rw i at e))
 
-  tail-noted : (k n run : ℕ) (ns : List ℕ) (end : ℕ) → k ≤ end → end < k + n → isEnd (getD h end 0) ≡ true → 8 ≤ end → isNoted (noteCuts h k n run ns) (tailHash h end) ≡ true
+  tail-noted : (k n last run : ℕ) (ns : List ℕ) (end : ℕ) → k ≤ end → end < k + n → isEnd (getD h end 0) ≡ true → 8 ≤ end → isNoted (noteCuts h k n last run ns) (tailHash h end) ≡ true
   unfolding noteCuts
-  tail-noted k zero run ns end a b e l = absurd (omega arith)
-  tail-noted k (suc n) run ns end a b e l = elim (test (eqb end k)) [
-    | pass f ↦
-        let i : k ≡ end = sym (eqb-true end k f) in
-        kept-cuts h (k + 1) n (runStep run (getD h k 0)) (noteCut h k run ns) .kept (tailHash h end) (subst (λ (x : ℕ). isNoted (noteCut h x run ns) (tailHash h end) ≡ true) (sym i) (tail-own h end run ns e l))
-    | fail f ↦ let i = eqb-false end k f in tail-noted (k + 1) n (runStep run (getD h k 0)) (noteCut h k run ns) end (omega (arith, i)) (omega arith) e l
-  ]
+  tail-noted k zero last run ns end a b e l = absurd (omega arith)
+  tail-noted k (suc n) last run ns end a b e l =
+      let last′ = lastStep last run (getD h k 0) in
+      let run′ = runStep run (getD h k 0) in
+      elim (test (eqb end k)) [
+        | pass f ↦
+            let i : k ≡ end = sym (eqb-true end k f) in
+            kept-cuts h (k + 1) n last′ run′ (noteCut h k last ns) .kept (tailHash h end) (subst (λ (x : ℕ). isNoted (noteCut h x last ns) (tailHash h end) ≡ true) (sym i) (tail-own h end last ns e l))
+        | fail f ↦ let i = eqb-false end k f in tail-noted (k + 1) n last′ run′ (noteCut h k last ns) end (omega (arith, i)) (omega arith) e l
+      ]
 
 -- nothing closes a name past the header
 closed-inside : (h : Bytes) (n : ℕ) → (isEnd (getD h n 0) || is EQUALS (getD h n 0)) ≡ true → n < length h
@@ -540,40 +594,38 @@ noted h from ns = record {
   runs = λ at size a b c.
       let l = closed-inside h (at + 1 + size) c in
       let i : from + (at - from) ≡ at = omega arith in
-      let r = name-noted h (at - from) from (length h - from) 0 ns size (omega arith) (omega arith) (rw i b) (rw i c) in
+      let r = name-noted h (at - from) from (length h - from) 0 0 ns size (omega arith) (omega arith) (rw i b) (rw i c) in
       rw i at r;
-  tails = λ end a b f. tail-noted h from (length h - from) 0 ns end (omega arith) (omega arith) f (omega arith);
+  tails = λ end a b f. tail-noted h from (length h - from) 0 0 ns end (omega arith) (omega arith) f (omega arith);
 }
 
 -- the places before k were looked at
-pub record Looking (h : Bytes) (from : ℕ) (ns₀ ns : List ℕ) (run k : ℕ) : Type 0 where
+pub record Looking (h : Bytes) (from : ℕ) (ns₀ ns : List ℕ) (last run k : ℕ) : Type 0 where
   pub long : length ns ≡ length ns₀
-  pub still : notesFrom h from ns₀ ≡ noteCuts h k (length h - k) run ns
+  pub still : notesFrom h from ns₀ ≡ noteCuts h k (length h - k) last run ns
 
-pub looking-start : (h : Bytes) (from : ℕ) (ns : List ℕ) → Looking h from ns ns 0 from
+pub looking-start : (h : Bytes) (from : ℕ) (ns : List ℕ) → Looking h from ns ns 0 0 from
 looking-start h from ns = record { long = refl; still = refl }
 
-module _ {h : Bytes} {from : ℕ} {ns₀ ns : List ℕ} {run k : ℕ} (g : Looking h from ns₀ ns run k) where
+module _ {h : Bytes} {from : ℕ} {ns₀ ns : List ℕ} {last run k : ℕ} (g : Looking h from ns₀ ns last run k) where
   pub looking-long : length ns ≡ length ns₀
   looking-long = g .long
 
-  module _ (l : k < length h) {q : Bool} (a : q ≡ isCut (getD h k 0)) where
-    more : notesFrom h from ns₀ ≡ noteCuts h (k + 1) (length h - (k + 1)) (runStep run (getD h k 0)) (noteCut h k run ns)
+  module _ (l : k < length h) {q : Bool} (a : q ≡ (isEnd (getD h k 0) || isCut (getD h k 0))) where
+    more : notesFrom h from ns₀ ≡ noteCuts h (k + 1) (length h - (k + 1)) (lastStep last run (getD h k 0)) (runStep run (getD h k 0)) (noteCut h k last ns)
     unfolding noteCuts
     more = let i : length h - k ≡ suc (length h - (k + 1)) = omega arith in g .still ∙ rw i
 
-    pub looking-cut : q ≡ true → {ns′ : List ℕ} → ns′ ≡ noteCut h k run ns → Looking h from ns₀ ns′ 0 (k + 1)
-    looking-cut e f = record {
-      long = ap length f ∙ kept-cut h k run ns .long ∙ g .long;
-      still = more ∙ rw (step-cut run (getD h k 0) (sym a ∙ e), f);
-    }
+    pub looking-told : {ns′ : List ℕ} → ns′ ≡ noteCut h k last ns → {m : ℕ} → m ≡ lastStep last run (getD h k 0) → {r : ℕ} → r ≡ runStep run (getD h k 0) → Looking h from ns₀ ns′ m r (k + 1)
+    looking-told f d e = record { long = ap length f ∙ kept-cut h k last ns .long ∙ g .long; still = more ∙ rw (f, d, e) }
 
-    pub looking-on : q ≡ false → {r : ℕ} → r ≡ runOn run (getD h k 0) → Looking h from ns₀ ns r (k + 1)
+    pub looking-on : q ≡ false → {r : ℕ} → r ≡ runOn run (getD h k 0) → Looking h from ns₀ ns r r (k + 1)
     unfolding noteCut
     looking-on e f =
-        let n = sym a ∙ e in
-        let none : noteCut h k run ns ≡ ns = rw (noteCut, uncut-equals (getD h k 0) n, uncut-end (getD h k 0) n) in
-        record { long = g .long; still = more ∙ rw (none, step-uncut run (getD h k 0) n, f) }
+        let b = getD h k 0 in
+        let n : isCut b ≡ false = or-r (isEnd b) (isCut b) (sym a ∙ e) in
+        let none : noteCut h k last ns ≡ ns = rw (noteCut, uncut-equals b n, or-l (isEnd b) (isCut b) (sym a ∙ e)) in
+        record { long = g .long; still = more ∙ rw (none, last-uncut last run b n, step-uncut run b n, f) }
 
   pub looked-notes : length h ≤ k → ns ≡ notesFrom h from ns₀
   unfolding noteCuts
@@ -585,7 +637,7 @@ looked-plain h from e f = ap not (f ∙ ap (any (is BACKSLASH)) (e ∙ take-all 
 pub cut-long : (h : Bytes) (end run : ℕ) (ns : List ℕ) {ns′ : List ℕ} → ns′ ≡ noteCut h end run ns → length ns′ ≡ length ns
 cut-long h end run ns e = ap length e ∙ kept-cut h end run ns .long
 
-pub ruleset lookings = (looking-start, looking-long, looking-cut, looking-on, looked-notes, looked-plain, cut-long)
+pub ruleset lookings = (looking-start, looking-long, looking-told, looking-on, looked-notes, looked-plain, cut-long)
 
 -- whether an entry's ID lies in the header
 module _ (h : Bytes) (x : CodeEntry) where

@@ -16,7 +16,7 @@ use Rattle.values.proofs.Tests.{pass, fail, test, or-l, or-r, and-l, and-r, not
 use Rattle.values.proofs.Sames.{same-sound}
 use Rattle.values.proofs.Lists.{before-none, before-stop}
 use Rattle.values.proofs.Fields.{before-part}
-use Rattle.values.proofs.Markings.{meet-length, meet-own, meet-kept, sure}
+use Rattle.values.proofs.Markings.{meet-length, meet-own, meet-kept, sure, none-met}
 use Rattle.rules.specs.Known.{other}
 use Rattle.rules.specs.Entry.{Entry, mapKind, textKind}
 use Rattle.rules.specs.Shown.{lineIn, idIn, idMeaning}
@@ -29,7 +29,7 @@ use Rattle.ids.specs.Clashes.{prefixOf, Prefixes, hasKey, keySeen, isOfK
 use Rattle.ids.specs.Marks.{keyHash, prefixHash, underHash, idHash, markUnder, markEntry, Marked, MarkedFrom, markId, markKey, markMap, markNames, markNoted, isFar, AheadMarked, keyFound, idFound, clashFound}
 use Rattle.ids.specs.Ahead.{isEnd, isCut, isOpened, isEnded, NewName, runFrom, runNoted, hasEscape, notesFrom, isNear, NextNear}
 use Rattle.ids.proofs.Seen.{met-by}
-use Rattle.ids.proofs.Aheads.{new-id, Noted, noted, run-away, away-kind, away-from}
+use Rattle.ids.proofs.Aheads.{either-way, new-id, Noted, noted, run-away, away-kind, away-from}
 use Rattle.rules.specs.Claims.{All, keyIn}
 use Rattle.rules.proofs.Records.{starts-is}
 
@@ -88,9 +88,8 @@ under-kept h from key e ms = kept-from h from ms (markUnder h key e ms) (one-kep
 
 -- where there are no marks, all may have been met
 pub unmarked-all : (h : Bytes) (from : ℕ) (es : List Entry) (ms : Bytes) → length ms ≡ 0 → All (MarkedFrom h from ms) es
-unfolding isMet
 unmarked-all h from [] ms z = tt
-unmarked-all h from (e ∷ es) ms z = (record { id = λ a b k n. rw z; key = λ a b n. rw z }, unmarked-all h from es ms z)
+unmarked-all h from (e ∷ es) ms z = (record { id = λ a b k n. sym (none-met ms _ z); key = λ a b n. sym (none-met ms _ z) }, unmarked-all h from es ms z)
 
 -- What the scans find is marked
 
@@ -121,10 +120,6 @@ prefix-own h prefix e own = elim (test (ltb (e .kind) 7)) [
       let m : length prefix - 1 - 2 ≡ length k = omega arith in
       rw (prefixHash, keyHash, l, le-ltb (length prefix) 3 (omega arith), m, own) (ap (wideFrom wideBasis) (take-at k (61 ∷ []) (length k) refl))
 ]
-
-either-way : (b : Bool) → (b || true) ≡ true
-either-way true = refl
-either-way false = refl
 
 -- e is the new entry, whose line begins with the prefix
 module _ (h : Bytes) (from : ℕ) (ms : List ℕ) (prefix : Bytes) (e : Entry) (own : prefix ≡ prefixOf (keyIn (lineIn h e))) where
@@ -323,31 +318,31 @@ unmarked-last h ms e l = record { id = λ a b. absurd (omega arith); key = λ a 
 module _ (h : Bytes) (ns : List ℕ) (e : Entry) (ms : List ℕ) where
   id-length : length (markId h ns e ms) ≡ length ms
   unfolding markId
-  id-length = elim (test (runNoted ns (runFrom 0 (idIn h e)))) [ pass f ↦ rw (markId, f) (meet-length ms _) | fail f ↦ rw (markId, f) ]
+  id-length = elim (test (runNoted ns (runFrom 0 0 (idIn h e)))) [ pass f ↦ rw (markId, f) (meet-length ms _) | fail f ↦ rw (markId, f) ]
 
   key-length : length (markKey h ns e ms) ≡ length ms
   unfolding markKey
-  key-length = elim (test (runNoted ns (runFrom 0 (keyIn (lineIn h e))))) [ pass f ↦ rw (markKey, f) (meet-length ms _) | fail f ↦ rw (markKey, f) ]
+  key-length = elim (test (runNoted ns (runFrom 0 0 (keyIn (lineIn h e))))) [ pass f ↦ rw (markKey, f) (meet-length ms _) | fail f ↦ rw (markKey, f) ]
 
   id-kept : (hash : ℕ) → isMet ms hash ≡ true → isMet (markId h ns e ms) hash ≡ true
   unfolding markId
-  id-kept hash a = elim (test (runNoted ns (runFrom 0 (idIn h e)))) [ pass f ↦ rw (markId, f) (meet-kept ms _ hash a) | fail f ↦ rw (markId, f) a ]
+  id-kept hash a = elim (test (runNoted ns (runFrom 0 0 (idIn h e)))) [ pass f ↦ rw (markId, f) (meet-kept ms _ hash a) | fail f ↦ rw (markId, f) a ]
 
   key-kept : (hash : ℕ) → isMet ms hash ≡ true → isMet (markKey h ns e ms) hash ≡ true
   unfolding markKey
-  key-kept hash a = elim (test (runNoted ns (runFrom 0 (keyIn (lineIn h e))))) [ pass f ↦ rw (markKey, f) (meet-kept ms _ hash a) | fail f ↦ rw (markKey, f) a ]
+  key-kept hash a = elim (test (runNoted ns (runFrom 0 0 (keyIn (lineIn h e))))) [ pass f ↦ rw (markKey, f) (meet-kept ms _ hash a) | fail f ↦ rw (markKey, f) a ]
 
   module _ (from : ℕ) (noted : Noted h from ns) where
     id-ahead : NewName isEnd h from (idMeaning h e) → isMet (markId h ns e ms) (idHash (keyHash h e) (e .kind) (idMeaning h e)) ≡ true
     unfolding markId
-    id-ahead w = elim (test (runNoted ns (runFrom 0 (idIn h e)))) [
+    id-ahead w = elim (test (runNoted ns (runFrom 0 0 (idIn h e)))) [
       | pass f ↦ rw (markId, f) (meet-own ms _)
       | fail f ↦ absurd (run-away isEnd (λ b i. rw i) h from ns noted (e .quoted) (idIn h e) f w)
     ]
 
     key-ahead : NewName (is EQUALS) h from (keyIn (lineIn h e)) → isMet (markKey h ns e ms) (underHash (keyHash h e) (e .kind)) ≡ true
     unfolding markKey
-    key-ahead w = elim (test (runNoted ns (runFrom 0 (keyIn (lineIn h e))))) [
+    key-ahead w = elim (test (runNoted ns (runFrom 0 0 (keyIn (lineIn h e))))) [
       | pass f ↦ rw (markKey, f) (meet-own ms _)
       | fail f ↦ absurd (run-away (is EQUALS) (λ b i. rw i (either-way (isEnd b))) h from ns noted false (keyIn (lineIn h e)) f w)
     ]
@@ -358,18 +353,18 @@ module _ (h : Bytes) (ns : List ℕ) (e : Entry) (ms : List ℕ) where
 
   map-length : length (markMap h ns e ms) ≡ length ms
   unfolding markMap
-  map-length = elim (test (runNoted ns (runFrom 0 (keyIn (lineIn h e))))) [ pass f ↦ rw (markMap, f) (id-length h ns e (meet ms under) ∙ meet-length ms under) | fail f ↦ rw (markMap, f) ]
+  map-length = elim (test (runNoted ns (runFrom 0 0 (keyIn (lineIn h e))))) [ pass f ↦ rw (markMap, f) (id-length h ns e (meet ms under) ∙ meet-length ms under) | fail f ↦ rw (markMap, f) ]
 
   map-kept : (hash : ℕ) → isMet ms hash ≡ true → isMet (markMap h ns e ms) hash ≡ true
   unfolding markMap
-  map-kept hash a = elim (test (runNoted ns (runFrom 0 (keyIn (lineIn h e))))) [
+  map-kept hash a = elim (test (runNoted ns (runFrom 0 0 (keyIn (lineIn h e))))) [
     | pass f ↦ rw (markMap, f) (id-kept h ns e (meet ms under) hash (meet-kept ms under hash a))
     | fail f ↦ rw (markMap, f) a
   ]
 
   map-marked : (from : ℕ) → Noted h from ns → 7 ≤ e .kind → MarkedFrom h from (markMap h ns e ms) e
   unfolding markMap
-  map-marked from noted l = elim (test (runNoted ns (runFrom 0 (keyIn (lineIn h e))))) [
+  map-marked from noted l = elim (test (runNoted ns (runFrom 0 0 (keyIn (lineIn h e))))) [
     | pass f ↦ rw (markMap, f) (record {
       id = λ a b k w. id-ahead h ns e (meet ms under) from noted w;
       key = λ a b w. id-kept h ns e (meet ms under) under (meet-own ms under);
@@ -414,7 +409,7 @@ module _ (h : Bytes) (ns : List ℕ) (e : Entry) (ms : List ℕ) where
 
 -- what the code's tests answered
 module _ (h : Bytes) (ns : List ℕ) (x : CodeEntry) (ms : List ℕ) where
-  module _ {p : Bytes} (ep : p ≡ idIn h (entryOf x)) {q : Bool} (a : q ≡ runNoted ns (runFrom 0 p)) where
+  module _ {p : Bytes} (ep : p ≡ idIn h (entryOf x)) {q : Bool} (a : q ≡ runNoted ns (runFrom 0 0 p)) where
     pub id-spared : not q ≡ true → ms ≡ markId h ns (entryOf x) ms
     unfolding markId
     id-spared n = rw (markId, ← ep, ← a, not-true q n)
@@ -423,7 +418,7 @@ module _ (h : Bytes) (ns : List ℕ) (x : CodeEntry) (ms : List ℕ) where
     unfolding markId
     id-noted n ek eh f = f ∙ rw (eh, ek) (sym (rw (markId, ← ep, ← a, not-false q n, ← ep)))
 
-  module _ {p : Bytes} (ep : p ≡ lineIn h (entryOf x)) {q : Bool} (a : q ≡ runNoted ns (runFrom 0 (keyIn p))) where
+  module _ {p : Bytes} (ep : p ≡ lineIn h (entryOf x)) {q : Bool} (a : q ≡ runNoted ns (runFrom 0 0 (keyIn p))) where
     pub key-spared : not q ≡ true → ms ≡ markKey h ns (entryOf x) ms
     unfolding markKey
     key-spared n = rw (markKey, ← ep, ← a, not-true q n)

@@ -4,7 +4,7 @@ use mathlib.Core.Path.{_≡_}
 use mathlib.Core.Bool.{Bool, true, false, not, _||_, _&&_}
 use mathlib.Core.List.{List, [], _∷_}
 use lib.Bits.{bitXor}
-use lib.Dec.{leb, ltb}
+use lib.Dec.{eqb, leb, ltb}
 use lib.ListN.{length, getD, take, drop}
 use Rattle.values.specs.Bytes.{Bytes, is, any, BACKSLASH, COMMA, EQUALS, GREATER, QUOTE}
 use Rattle.values.specs.Value.{meaning}
@@ -18,9 +18,9 @@ use Rattle.entries.specs.Tables.{room, entryIn}
 unfoldable pub isEnd : ℕ → Bool
 isEnd b = is COMMA b || (is GREATER b || is QUOTE b)
 
--- a name is cut off after one of these, a key by `#`: it stands after one, and what an escape means is one
+-- a name is cut at each of these, a key by `#`: it stands after one, and what an escape means is one
 unfoldable pub isCut : ℕ → Bool
-isCut b = isEnd b || (is 35 b || (is EQUALS b || is BACKSLASH b))
+isCut b = is QUOTE b || (is 35 b || (is EQUALS b || is BACKSLASH b))
 
 -- the place after an entry's ID
 abbrev pub idEnd : Entry → ℕ
@@ -42,18 +42,22 @@ pub record NewName (closes : ℕ → Bool) (h : Bytes) (from : ℕ) (name : Byte
   pub text : name ≡ meaning quoted (take size (drop (at + 1) h))
   pub ended : closes (getD h (at + 1 + size) 0) ≡ true
 
--- The bytes after the last cut
+-- The last bytes between cuts
 
--- a hash of them, and of one byte more: the bits before are turned by seven
+-- a hash of those after the last cut, and of one byte more: the bits before are turned by seven
 unfoldable pub runOn : ℕ → ℕ → ℕ
 runOn run b = bitXor (run % 2 ^ 57 * 128 + run / 2 ^ 57) b
 
 unfoldable pub runStep : ℕ → ℕ → ℕ
 runStep run b = elim (isCut b) [ true ↦ 0 | false ↦ runOn run b ]
 
-unfoldable pub runFrom : ℕ → Bytes → ℕ
-runFrom run [] = run
-runFrom run (b ∷ bs) = runFrom (runStep run b) bs
+-- that of the last bytes between cuts, which a cut after them leaves as it is
+unfoldable pub lastStep : ℕ → ℕ → ℕ → ℕ
+lastStep last run b = elim (isCut b) [ true ↦ last | false ↦ runOn run b ]
+
+unfoldable pub runFrom : ℕ → ℕ → Bytes → ℕ
+runFrom last run [] = last
+runFrom last run (b ∷ bs) = runFrom (lastStep last run b) (runStep run b) bs
 
 -- noted by two bits
 abbrev pub once : ℕ → ℕ
@@ -65,8 +69,9 @@ twice run = wideStep (once run) 0
 unfoldable pub noteRun : List ℕ → ℕ → List ℕ
 noteRun ns run = note (note ns (once run)) (twice run)
 
+-- of a name that has nothing but cuts nothing is known
 unfoldable pub runNoted : List ℕ → ℕ → Bool
-runNoted ns run = isNoted ns (once run) && isNoted ns (twice run)
+runNoted ns run = eqb run 0 || (isNoted ns (once run) && isNoted ns (twice run))
 
 -- Last bytes
 
@@ -83,7 +88,7 @@ noteTail h end ns = elim (leb 8 end) [ true ↦ note ns (tailHash h end) | false
 
 -- What stands ahead
 
--- a place where a key may end is noted by the run before it, one where an ID may by its last bytes too
+-- a place where a key may end is noted by the last run before it, one where an ID may by its last bytes too
 unfoldable pub noteCut : Bytes → ℕ → ℕ → List ℕ → List ℕ
 noteCut h end run ns = elim (is EQUALS (getD h end 0)) [
   | true ↦ noteRun ns run
@@ -91,13 +96,13 @@ noteCut h end run ns = elim (is EQUALS (getD h end 0)) [
 ]
 
 -- so many places from k on
-unfoldable pub noteCuts : Bytes → ℕ → ℕ → ℕ → List ℕ → List ℕ
-noteCuts h k zero run ns = ns
-noteCuts h k (suc n) run ns = noteCuts h (k + 1) n (runStep run (getD h k 0)) (noteCut h k run ns)
+unfoldable pub noteCuts : Bytes → ℕ → ℕ → ℕ → ℕ → List ℕ → List ℕ
+noteCuts h k zero last run ns = ns
+noteCuts h k (suc n) last run ns = noteCuts h (k + 1) n (lastStep last run (getD h k 0)) (runStep run (getD h k 0)) (noteCut h k last ns)
 
 -- all from a place on
 abbrev pub notesFrom : Bytes → ℕ → List ℕ → List ℕ
-notesFrom h from ns = noteCuts h from (length h - from) 0 ns
+notesFrom h from ns = noteCuts h from (length h - from) 0 0 ns
 
 -- where a backslash stands a name may be escaped, and have other bytes than it means
 abbrev pub hasEscape : Bytes → ℕ → Bool

@@ -67,14 +67,14 @@ pub record MarkedFrom (h : Bytes) (from : ℕ) (ms : List ℕ) (e : Entry) : Typ
 -- what of an entry may stand ahead, by the notes of what stands there
 
 unfoldable pub markId : Bytes → List ℕ → Entry → List ℕ → List ℕ
-markId h ns e ms = elim (runNoted ns (runFrom 0 (idIn h e))) [ true ↦ meet ms (idHash (keyHash h e) (e .kind) (idMeaning h e)) | false ↦ ms ]
+markId h ns e ms = elim (runNoted ns (runFrom 0 0 (idIn h e))) [ true ↦ meet ms (idHash (keyHash h e) (e .kind) (idMeaning h e)) | false ↦ ms ]
 
 unfoldable pub markKey : Bytes → List ℕ → Entry → List ℕ → List ℕ
-markKey h ns e ms = elim (runNoted ns (runFrom 0 (keyIn (lineIn h e)))) [ true ↦ meet ms (underHash (keyHash h e) (e .kind)) | false ↦ ms ]
+markKey h ns e ms = elim (runNoted ns (runFrom 0 0 (keyIn (lineIn h e)))) [ true ↦ meet ms (underHash (keyHash h e) (e .kind)) | false ↦ ms ]
 
 -- the ID of a map only under a key that may
 unfoldable pub markMap : Bytes → List ℕ → Entry → List ℕ → List ℕ
-markMap h ns e ms = elim (runNoted ns (runFrom 0 (keyIn (lineIn h e)))) [ true ↦ markId h ns e (meet ms (underHash (keyHash h e) (e .kind))) | false ↦ ms ]
+markMap h ns e ms = elim (runNoted ns (runFrom 0 0 (keyIn (lineIn h e)))) [ true ↦ markId h ns e (meet ms (underHash (keyHash h e) (e .kind))) | false ↦ ms ]
 
 unfoldable pub markNames : Bytes → List ℕ → Entry → List ℕ → List ℕ
 markNames h ns e ms = elim (ltb (e .kind) 7) [

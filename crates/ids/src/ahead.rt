@@ -7,13 +7,13 @@ use values::bytes;
 use values::hash;
 use values::marks;
 ghost use mathlib.Core.Path.{_≡_};
-ghost use mathlib.Core.Bool.{not, _&&_};
+ghost use mathlib.Core.Bool.{not, _||_, _&&_};
 ghost use Prim.Native.Nat.{_+_, _^_, _≤_, _<_};
 ghost use lib.Dec.{leb};
 ghost use lib.ListN.{length, getD};
 ghost use Rattle.entries.specs.Values.{entryOf};
 ghost use Rattle.rules.specs.Claims.{keyIn};
-ghost use Rattle.ids.specs.Ahead.{isEnd, isCut, idEnd, isOpened, isEnded, runOn, runStep, runFrom, noteRun, runNoted, fourAt, tailHash, noteTail, noteCut, hasEscape, notesFrom, tailNoted, isAhead, NextNear};
+ghost use Rattle.ids.specs.Ahead.{isEnd, isCut, idEnd, isOpened, isEnded, runOn, runStep, lastStep, runFrom, noteRun, runNoted, fourAt, tailHash, noteTail, noteCut, hasEscape, notesFrom, tailNoted, isAhead, NextNear};
 
 // A bare ID ends before `,` or `>`, one between quotes before `"`.
 fn is_end(b: u8) -> bool
@@ -28,11 +28,11 @@ fn is_end(b: u8) -> bool
     b == b'"'
 }
 
-// Where a name is cut off: its bytes are looked at from the last of these on, after which it stands, or which it has or means.
+// Where a name is cut: its last bytes between two of these are looked at. It stands after one, and may have or mean others.
 fn is_cut(b: u8) -> bool
     ensures { λ r. ⌜ r ≡ isCut b ⌝ }
 {
-    if is_end(b) {
+    if b == b'"' {
         return true;
     }
     if b == b'#' {
@@ -42,6 +42,16 @@ fn is_cut(b: u8) -> bool
         return true;
     }
     b == b'\\'
+}
+
+// Whether a byte is one or the other.
+fn is_told(b: u8) -> bool
+    ensures { λ r. ⌜ r ≡ (isEnd b || isCut b) ⌝ }
+{
+    if is_end(b) {
+        return true;
+    }
+    is_cut(b)
 }
 
 // Whether the ID of an entry stands after such a byte.
@@ -89,6 +99,7 @@ fn run_on(run: u64, b: u8) -> u64
     (run % 0x200_0000_0000_0000 * 128 + run / 0x200_0000_0000_0000) ^ (b as u64)
 }
 
+// A hash of the bytes after the last cut.
 fn run_step(run: u64, b: u8) -> u64
     ensures { λ r. ⌜ r ≡ runStep run b ⌝ }
 {
@@ -98,35 +109,49 @@ fn run_step(run: u64, b: u8) -> u64
     run_on(run, b)
 }
 
-// A hash of the bytes after the last cut: of a text as of what it means, since an escaped byte is a cut in both.
-fn run_of(s: &[u8]) -> u64
-    ensures { λ r. ⌜ r ≡ runFrom 0 (now (s .entry)) ⌝ }
+// That of the last bytes between cuts, which a cut after them leaves as it is.
+fn last_step(last: u64, run: u64, b: u8) -> u64
+    ensures { λ r. ⌜ r ≡ lastStep last run b ⌝ }
 {
+    if is_cut(b) {
+        return last;
+    }
+    run_on(run, b)
+}
+
+// That of a text, and of what it means: an escaped byte is a cut, and two cuts are as one.
+fn run_of(s: &[u8]) -> u64
+    ensures { λ r. ⌜ r ≡ runFrom 0 0 (now (s .entry)) ⌝ }
+{
+    let mut last: u64 = 0;
     let mut run: u64 = 0;
     let mut k: usize = 0;
     while k < s.len() {
         let b = s[k];
         k += 1;
+        last = last_step(last, run, b);
         run = run_step(run, b);
     }
-    run
+    last
 }
 
 // That of a line's key.
 fn key_run(line: &[u8]) -> u64
-    ensures { λ r. ⌜ r ≡ runFrom 0 (keyIn (now (line .entry))) ⌝ }
+    ensures { λ r. ⌜ r ≡ runFrom 0 0 (keyIn (now (line .entry))) ⌝ }
 {
+    let mut last: u64 = 0;
     let mut run: u64 = 0;
     let mut k: usize = 2;
     while k < line.len() {
         let b = line[k];
         if b == b'=' {
-            return run;
+            return last;
         }
         k += 1;
+        last = last_step(last, run, b);
         run = run_step(run, b);
     }
-    run
+    last
 }
 
 // By two bits, which few of very many other names have.
@@ -138,9 +163,13 @@ fn note_run(notes: &mut [u64], run: u64)
     marks::note(notes, hash::wide_step(once, 0));
 }
 
+// Of a name that has nothing but cuts nothing is known.
 fn is_run_noted(notes: &[u64], run: u64) -> bool
     ensures { λ r. ⌜ r ≡ runNoted (now (notes .entry)) run ⌝ }
 {
+    if run == 0 {
+        return true;
+    }
     let once = hash::wide_step(run, 0);
     if !marks::is_noted(notes, once) {
         return false;
@@ -150,14 +179,14 @@ fn is_run_noted(notes: &[u64], run: u64) -> bool
 
 // Whether a name ahead may mean what this text does.
 pub fn is_text_ahead(notes: &[u64], text: &[u8]) -> bool
-    ensures { λ r. ⌜ r ≡ runNoted (now (notes .entry)) (runFrom 0 (now (text .entry))) ⌝ }
+    ensures { λ r. ⌜ r ≡ runNoted (now (notes .entry)) (runFrom 0 0 (now (text .entry))) ⌝ }
 {
     is_run_noted(notes, run_of(text))
 }
 
 // Whether one may be the key of this line.
 pub fn is_key_ahead(notes: &[u64], line: &[u8]) -> bool
-    ensures { λ r. ⌜ r ≡ runNoted (now (notes .entry)) (runFrom 0 (keyIn (now (line .entry)))) ⌝ }
+    ensures { λ r. ⌜ r ≡ runNoted (now (notes .entry)) (runFrom 0 0 (keyIn (now (line .entry)))) ⌝ }
 {
     is_run_noted(notes, key_run(line))
 }
@@ -225,17 +254,20 @@ pub fn look_ahead(h: &[u8], from: usize, notes: &mut [u64]) -> bool
     ensures plain { λ r. ⌜ r ≡ not (hasEscape (now (h .entry)) from) ⌝ }
     ensures notes { λ _. ⌜ now (notes .exit) ≡ notesFrom (now (h .entry)) from (now (notes .entry)) ⌝ }
 {
+    let mut last: u64 = 0;
     let mut run: u64 = 0;
     let mut k = from;
     while k < h.len() {
         let b = h[k];
         let end = k;
         k += 1;
-        if is_cut(b) {
-            note_cut(h, end, run, notes);
-            run = 0;
+        if is_told(b) {
+            note_cut(h, end, last, notes);
+            last = last_step(last, run, b);
+            run = run_step(run, b);
         } else {
             run = run_on(run, b);
+            last = run;
         }
     }
     !bytes::has(bytes::piece(h, from, h.len()), b'\\')

@@ -1,11 +1,11 @@
--- What the code finds in an `@SQ` line and in the lines before it. Bytes by their numbers: `,` 44. Assumes nothing.
-use Prim.Native.Nat.{ℕ}
+-- What the code finds in an `@SQ` line and in the lines before it. Bytes by their numbers: `,` 44, `0` 48, `A` 65. Assumes nothing.
+use Prim.Native.Nat.{ℕ, _+_, _-_, _*_}
 use mathlib.Core.Path.{_≡_}
 use mathlib.Core.Bool.{Bool, true, false, not, _&&_}
 use mathlib.Core.List.{List, [], _∷_, _++_}
 use mathlib.Core.Option.{Option, none, some}
 use lib.Dec.{leb}
-use lib.ListN.{length, drop}
+use lib.ListN.{length, getD, drop}
 use Rattle.values.specs.Bytes.{Bytes, ascii}
 use Rattle.values.specs.Integer.{integerRead, decimal}
 use Rattle.values.specs.Field.{writtenField}
@@ -36,6 +36,10 @@ samNumber OutputTooSmall = 28
 -- the tags that stand at a place of the line, tab-parted; the tags of an `@SQ` line stand at 4
 unfoldable pub tagsAt : Bytes → ℕ → List Bytes
 tagsAt l at = elim (leb at (length l)) [ true ↦ split (drop at l) | false ↦ [] ]
+
+-- a number of its own for each name that a tag can have
+unfoldable pub nameNumber : Bytes → ℕ
+nameNumber t = (getD t 0 0 - 65) * 75 + (getD t 1 0 - 48)
 
 abbrev pub orNothing : Option Bytes → Bytes
 orNothing none = []

@@ -1,8 +1,10 @@
 // The tags of an `@SQ` line, tab-parted, which stand from its fifth byte on.
+use values::bits;
 use values::bytes;
 ghost use mathlib.Core.Path.{_≡_};
+ghost use mathlib.Core.Bool.{true};
 ghost use Rattle.sam.specs.Tags.{isLetter, isLetterOrDigit, isTag, tagged, areTags};
-ghost use Rattle.sam.specs.Lines.{orNothing, tagsAt};
+ghost use Rattle.sam.specs.Lines.{orNothing, tagsAt, nameNumber};
 
 pub const TAGS_START: usize = 4;
 
@@ -49,6 +51,14 @@ fn is_tag(t: &[u8]) -> bool
     is_letter_or_digit(t[1])
 }
 
+// A number of its own for each name that a tag can have, below 58 * 75.
+fn name_number(tag: &[u8]) -> usize
+    requires { ⌜ isTag (now tag) ≡ true ⌝ }
+    ensures { λ r. ⌜ r ≡ nameNumber (now (tag .entry)) ⌝ }
+{
+    (tag[0] - b'A') as usize * 75 + (tag[1] - b'0') as usize
+}
+
 // The value of the first tag of this name from `start` on, no bytes if there is none.
 pub fn find_tag<'a>(line: &'a [u8], start: usize, name: &[u8]) -> &'a [u8]
     ensures { λ r. ⌜ now r ≡ orNothing (tagged (now (name .entry)) (tagsAt (now (line .entry)) start)) ⌝ }
@@ -70,13 +80,14 @@ pub fn find_tag<'a>(line: &'a [u8], start: usize, name: &[u8]) -> &'a [u8]
     }
 }
 
-// Whether each is a tag, and none after it has its name.
+// Whether each is a tag, and none has the name of one before it.
 pub fn are_tags(line: &[u8]) -> bool
     ensures { λ r. ⌜ r ≡ areTags (tagsAt (now (line .entry)) 4) ⌝ }
 {
     if line.len() < TAGS_START {
         return true;
     }
+    let mut met = [0u64; 68];
     let mut at: usize = TAGS_START;
     loop {
         let end = bytes::find(line, at, b'\t');
@@ -84,12 +95,14 @@ pub fn are_tags(line: &[u8]) -> bool
         if !is_tag(tag) {
             return false;
         }
+        let name = name_number(tag);
+        if bits::is_set(&met, name) {
+            return false;
+        }
         if line.len() <= end {
             return true;
         }
+        bits::set(&mut met, name);
         at = end + 1;
-        if find_tag(line, at, bytes::piece(tag, 0, 2)).len() != 0 {
-            return false;
-        }
     }
 }

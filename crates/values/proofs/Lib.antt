@@ -15,6 +15,7 @@ pub mod Cursors
 pub mod Meanings
 pub mod Hashes
 pub mod Markings
+pub mod WordBits
 pub mod Values
 pub mod Fields
 pub mod Places

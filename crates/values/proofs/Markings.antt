@@ -2,8 +2,8 @@
 use Prim.Native.Nat.{ℕ, _-_, _*_, _/_, _%_, _^_, _≤_, _<_, min, max}
 use native.Mathlib.Omega.{arith}
 use native.Mathlib.Nat.{mod-lt, mul-le-mul, div-lt-iff-lt-mul, min-le-left, min-eq-left, min-eq-right}
-use mathlib.Core.Path.{_≡_, refl, _∙_}
-use mathlib.Core.Bool.{Bool, true, false, _&&_}
+use mathlib.Core.Path.{_≡_, refl, sym, ap, _∙_}
+use mathlib.Core.Bool.{Bool, true, false, not, _||_, _&&_}
 use mathlib.Core.List.{List, [], _∷_}
 use lib.Arith.{bin-ind}
 use lib.Bits.{bitAnd, bitOr, and-step, or-step, or-comm, and-self, and-le-r}
@@ -11,11 +11,11 @@ use lib.Dec.{eqb}
 use lib.ListN.{length, getD, set, length-set}
 use lib.Pow.{pow-lt}
 use lib.Seq.{getD-set-same, getD-set-other}
-use borrow.Author.Tests.{eq-eqb, ne-eqb, eqb-true, eqb-false}
+use borrow.Author.Tests.{lt-ltb, le-ltb, eq-eqb, ne-eqb, eqb-true, eqb-false}
 use Rattle.values.specs.Bytes.{Bytes}
 use Rattle.values.specs.Hash.{wideStep, wideOf}
-use Rattle.values.specs.Marks.{ended, markWord, markBit, markBits, hasBits, isMet, setBits, meet, isMarked, mark, isNoted, note}
-use Rattle.values.proofs.Tests.{pass, fail, test}
+use Rattle.values.specs.Marks.{ended, markWord, markBit, markBits, hasBits, isSet, setBits, setAll, isFew, second, isMet, meet, isMarked, mark, isNoted, note}
+use Rattle.values.proofs.Tests.{pass, fail, test, and-l, and-r, and-on, or-on, not-true, not-false}
 use Rattle.values.proofs.Hashes.{product-fits}
 
 -- Bits: what `or` adds takes none away
@@ -80,29 +80,30 @@ no-words [] bits at e = refl
 no-words (m ∷ ms) bits at e = absurd (omega arith)
 
 module _ (ms : List ℕ) (hash : ℕ) where
-  pub none-met : length ms ≡ 0 → true ≡ isMet ms hash
-  unfolding isMet
-  none-met e = rw e
+  pub none-set : length ms ≡ 0 → true ≡ isSet ms hash
+  unfolding isSet
+  none-set e = rw e
 
-  pub none-to-meet : length ms ≡ 0 → ms ≡ meet ms hash
-  unfolding meet
-  none-to-meet e = no-words ms (markBits (ended hash)) (λ ns. markWord (length ns) (ended hash)) e
+  pub none-to-set : length ms ≡ 0 → ms ≡ setAll ms hash
+  unfolding setAll
+  none-to-set e = no-words ms (markBits hash) (λ ns. markWord (length ns) hash) e
 
   -- what the code computed
-  module _ {end at : ℕ} (ee : end ≡ wideStep hash 0) (ea : at ≡ markWord (length ms) end) where
+  module _ {at : ℕ} (ea : at ≡ markWord (length ms) hash) where
     pub word-here : (length ms ≡ 0 → ⊥) → at < length ms
-    word-here some = rw ea (word-inside (length ms) end (omega (arith, some)))
+    word-here some = rw ea (word-inside (length ms) hash (omega (arith, some)))
 
-    module _ {bits : ℕ} (eb : bits ≡ markBits end) where
-      pub looked-up : (length ms ≡ 0 → ⊥) → eqb (bitAnd (getD ms at 0) bits) bits ≡ isMet ms hash
-      unfolding isMet hasBits
-      looked-up some = rw (ea, eb, ee, ne-eqb (length ms) 0 some)
+    module _ {bits : ℕ} (eb : bits ≡ markBits hash) where
+      pub looked-up : (length ms ≡ 0 → ⊥) → eqb (bitAnd (getD ms at 0) bits) bits ≡ isSet ms hash
+      unfolding isSet hasBits
+      looked-up some = rw (ea, eb, ne-eqb (length ms) 0 some)
 
-      pub met-is : set ms at (bitOr (getD ms at 0) bits) ≡ meet ms hash
-      unfolding meet
-      met-is = rw (ea, eb, ee)
+      pub set-is : set ms at (bitOr (getD ms at 0) bits) ≡ setAll ms hash
+      unfolding setAll
+      set-is = rw (ea, eb)
 
-pub ruleset looks = (none-met, none-to-meet, word-here, looked-up, met-is)
+-- what answers the needs of `is_set` and `set_all`
+pub ruleset looks = (none-set, none-to-set, word-here, looked-up, set-is)
 
 -- by one bit
 module _ (ms : List ℕ) (n : ℕ) where
@@ -131,10 +132,6 @@ pub ruleset notes = (none-noted, none-to-note, note-here, note-looked, noted-is)
 
 -- What is marked stays so
 
-pub meet-length : (ms : List ℕ) (hash : ℕ) → length (meet ms hash) ≡ length ms
-unfolding meet
-meet-length ms hash = length-set ms _ _
-
 -- at is a place of the marks
 module _ (ms : List ℕ) (at bits : ℕ) where
   own-bits : at < length ms → hasBits (getD (setBits ms at bits) at 0) bits ≡ true
@@ -150,24 +147,117 @@ module _ (ms : List ℕ) (at bits : ℕ) where
 
 module _ (ms : List ℕ) (hash : ℕ) where
   abbrev at : ℕ
-  at = markWord (length ms) (ended hash)
+  at = markWord (length ms) hash
 
   inside : eqb (length ms) 0 ≡ false → at < length ms
-  inside e = word-inside (length ms) (ended hash) (omega (arith, eqb-false (length ms) 0 e))
+  inside e = word-inside (length ms) hash (omega (arith, eqb-false (length ms) 0 e))
+
+  pub set-length : length (setAll ms hash) ≡ length ms
+  unfolding setAll
+  set-length = length-set ms _ _
+
+  set-own : isSet (setAll ms hash) hash ≡ true
+  unfolding isSet setAll
+  set-own = elim (test (eqb (length ms) 0)) [
+    | pass e ↦ rw (length-set ms at _, e)
+    | fail e ↦ rw (length-set ms at _, e) (own-bits ms at (markBits hash) (inside e))
+  ]
+
+  set-kept : (other : ℕ) → isSet ms other ≡ true → isSet (setAll ms hash) other ≡ true
+  unfolding isSet setAll
+  set-kept other a = elim (test (eqb (length ms) 0)) [
+    | pass e ↦ rw (length-set ms at _, e)
+    | fail e ↦ rw (length-set ms at _, e) (other-bits ms at (markBits hash) (inside e) (markWord (length ms) other) (markBits other) (rw e at a))
+  ]
+
+-- A text, by one word or two
+
+few-still : (ms : List ℕ) (hash : ℕ) → isFew (setAll ms hash) ≡ isFew ms
+unfolding isFew
+few-still ms hash = rw (set-length ms hash)
+
+module _ (ms : List ℕ) (hash : ℕ) where
+  abbrev one : List ℕ
+  one = setAll ms (ended hash)
+
+  pub none-met : length ms ≡ 0 → true ≡ isMet ms hash
+  unfolding isMet isFew
+  none-met e = rw (← none-set ms (ended hash) e, e)
+
+  few-is : isFew ms ≡ true → meet ms hash ≡ one
+  unfolding meet
+  few-is e = rw (meet, e)
+
+  many-is : isFew ms ≡ false → meet ms hash ≡ setAll one (second hash)
+  unfolding meet
+  many-is e = rw (meet, e)
+
+  -- what answers the needs of `is_met` and `meet_hash`
+  module _ {end : ℕ} (ee : end ≡ wideStep hash 0) where
+    pub not-met : {q : Bool} → q ≡ isSet ms end → not q ≡ true → false ≡ isMet ms hash
+    unfolding isMet
+    not-met {q} e n = rw (← ee, ← e, not-true q n)
+
+    pub met-once : {q : Bool} → q ≡ isSet ms end → not q ≡ false → length ms < 65536 → true ≡ isMet ms hash
+    unfolding isMet isFew
+    met-once {q} e n l = rw (← ee, ← e, not-false q n, lt-ltb (length ms) 65536 l)
+
+    pub met-again : {q : Bool} → q ≡ isSet ms end → not q ≡ false → 65536 ≤ length ms → {other : ℕ} → other ≡ wideStep end 1 → {r : Bool} → r ≡ isSet ms other → r ≡ isMet ms hash
+    unfolding isMet isFew
+    met-again {q} e n l eo f = f ∙ rw (eo, ← ee, ← e, not-false q n, le-ltb (length ms) 65536 l)
+
+    pub few-met : length ms < 65536 → {q : Bool} → q ≡ isSet ms end → q ≡ isMet ms hash
+    unfolding isMet isFew
+    few-met l e = e ∙ sym (rw (← ee, lt-ltb (length ms) 65536 l) (and-on (isSet ms end)))
+
+    pub few-marked : length ms < 65536 → {new : List ℕ} → new ≡ setAll ms end → new ≡ meet ms hash
+    unfolding isFew
+    few-marked l e = e ∙ ap (setAll ms) ee ∙ sym (few-is (lt-ltb (length ms) 65536 l))
+
+    module _ (l : 65536 ≤ length ms) {other : ℕ} (eo : other ≡ wideStep end 1) where
+      pub many-met : {q : Bool} → q ≡ isSet ms end → {r : Bool} → r ≡ isSet ms other → (q && r) ≡ isMet ms hash
+      unfolding isMet isFew
+      many-met e f = rw (e, f, eo, ← ee, le-ltb (length ms) 65536 l)
+
+      pub many-marked : {mid : List ℕ} → mid ≡ setAll ms end → {new : List ℕ} → new ≡ setAll mid other → new ≡ meet ms hash
+      unfolding isFew
+      many-marked d e = e ∙ rw (d, eo, ee) (sym (many-is (le-ltb (length ms) 65536 l)))
+
+  pub meet-length : length (meet ms hash) ≡ length ms
+  meet-length = elim (test (isFew ms)) [
+    | pass e ↦ rw (few-is e) (set-length ms (ended hash))
+    | fail e ↦ rw (many-is e) (set-length one (second hash) ∙ set-length ms (ended hash))
+  ]
 
   pub meet-own : isMet (meet ms hash) hash ≡ true
-  unfolding isMet meet
-  meet-own = elim (test (eqb (length ms) 0)) [
-    | pass e ↦ rw (length-set ms at _, e)
-    | fail e ↦ rw (length-set ms at _, e) (own-bits ms at (markBits (ended hash)) (inside e))
+  unfolding isMet
+  meet-own = elim (test (isFew ms)) [
+    | pass e ↦ rw (few-is e, set-own ms (ended hash), few-still ms (ended hash), e)
+    | fail e ↦ rw (many-is e, set-kept one (second hash) (ended hash) (set-own ms (ended hash)), set-own one (second hash)) (or-on (isFew (setAll one (second hash))) refl)
   ]
 
-  pub meet-kept : (other : ℕ) → isMet ms other ≡ true → isMet (meet ms hash) other ≡ true
-  unfolding isMet meet
-  meet-kept other a = elim (test (eqb (length ms) 0)) [
-    | pass e ↦ rw (length-set ms at _, e)
-    | fail e ↦ rw (length-set ms at _, e) (other-bits ms at (markBits (ended hash)) (inside e) (markWord (length ms) (ended other)) (markBits (ended other)) (rw e at a))
+  -- bits that were set still are
+  bits-kept-on : (other : ℕ) → isSet ms other ≡ true → isSet (meet ms hash) other ≡ true
+  bits-kept-on other a = elim (test (isFew ms)) [
+    | pass e ↦ rw (few-is e) (set-kept ms (ended hash) other a)
+    | fail e ↦ rw (many-is e) (set-kept one (second hash) other (set-kept ms (ended hash) other a))
   ]
+
+  few-met-still : isFew (meet ms hash) ≡ isFew ms
+  unfolding isFew
+  few-met-still = rw meet-length
+
+  pub meet-kept : (other : ℕ) → isMet ms other ≡ true → isMet (meet ms hash) other ≡ true
+  unfolding isMet
+  meet-kept other a =
+      let first = bits-kept-on (ended other) (and-l (isSet ms (ended other)) (isFew ms || isSet ms (second other)) a) in
+      let rest = and-r (isSet ms (ended other)) (isFew ms || isSet ms (second other)) a in
+      elim (test (isFew ms)) [
+        | pass e ↦ rw (first, few-met-still, e)
+        | fail e ↦ rw (first, few-met-still, e) (bits-kept-on (second other) (rw e at rest))
+      ]
+
+pub ruleset meets = (not-met, met-once, met-again, few-met, few-marked, many-met, many-marked, set-length)
 
 module _ (ms : List ℕ) (n : ℕ) where
   abbrev place : ℕ

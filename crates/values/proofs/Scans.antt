@@ -49,8 +49,19 @@ module _ {x : ℕ} {s : Bytes} {start i : ℕ} (g : Scanning (is x) s start i) (
   pub passed : (getD s i 0 ≡ x → ⊥) → Scanning (is x) s start (i + 1)
   passed ne = goes g h (ne-eqb (getD s i 0) x ne)
 
+-- the second byte of a turn
+module _ {x : ℕ} {s : Bytes} {start i : ℕ} (g : Scanning (is x) s start i) (h : i < length s) (ne : getD s i 0 ≡ x → ⊥) where
+  pub ended-behind : length s ≤ i + 1 → i + 1 ≡ stopOf (is x) s start
+  ended-behind = ended (passed g h ne)
+
+  pub met-behind : i + 1 < length s → getD s (i + 1) 0 ≡ x → i + 1 ≡ stopOf (is x) s start
+  met-behind = met (passed g h ne)
+
+  pub passed-behind : i + 1 < length s → (getD s (i + 1) 0 ≡ x → ⊥) → Scanning (is x) s start (i + 1 + 1)
+  passed-behind = passed (passed g h ne)
+
 -- what answers the needs of `find`
-pub ruleset finds = (started, met, passed, ended)
+pub ruleset finds = (started, met, ended, ended-behind, met-behind, passed-behind)
 
 -- what answers the needs of `ends_key`
 pub key-byte : {b : ℕ} (x : ℕ) → endsKey x ≡ true → b ≡ x → true ≡ endsKey b

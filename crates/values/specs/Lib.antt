@@ -8,4 +8,5 @@ pub mod Places
 pub mod Written
 pub mod Hash
 pub mod Marks
+pub mod Bits
 pub mod Examples

@@ -1,9 +1,9 @@
--- Marks of the texts met so far, by which a search for one may be left out: of each four bits, in one of the words. Assumes nothing.
+-- Marks of the texts met so far, by which a search for one may be left out: of each four bits in a word, or in each of two. Assumes nothing.
 use Prim.Native.Nat.{ℕ, _-_, _*_, _/_, _%_, _^_, min}
-use mathlib.Core.Bool.{Bool, _||_}
+use mathlib.Core.Bool.{Bool, true, false, _||_, _&&_}
 use mathlib.Core.List.{List}
 use lib.Bits.{bitAnd, bitOr}
-use lib.Dec.{eqb}
+use lib.Dec.{eqb, ltb}
 use lib.ListN.{length, getD, set}
 use Rattle.values.specs.Bytes.{Bytes}
 use Rattle.values.specs.Hash.{wideStep, wideOf}
@@ -26,16 +26,29 @@ markBits hash = bitOr (bitOr (bitOr (markBit (hash / 2 ^ 32)) (markBit (hash / 2
 unfoldable pub hasBits : ℕ → ℕ → Bool
 hasBits word bits = eqb (bitAnd word bits) bits
 
--- where there are no marks, any text may have been met
-unfoldable pub isMet : List ℕ → ℕ → Bool
-isMet ms hash = eqb (length ms) 0 || hasBits (getD ms (markWord (length ms) (ended hash)) 0) (markBits (ended hash))
+-- whether the bits for a hash are set in their word; where there are no words, any may be
+unfoldable pub isSet : List ℕ → ℕ → Bool
+isSet ms hash = eqb (length ms) 0 || hasBits (getD ms (markWord (length ms) hash) 0) (markBits hash)
 
--- the bits are set in their word
+-- bits are set in a word
 abbrev pub setBits : List ℕ → ℕ → ℕ → List ℕ
 setBits ms at bits = set ms at (bitOr (getD ms at 0) bits)
 
+unfoldable pub setAll : List ℕ → ℕ → List ℕ
+setAll ms hash = setBits ms (markWord (length ms) hash) (markBits hash)
+
+-- from 65,536 words on a text has bits in two of them, by a second hash
+unfoldable pub isFew : List ℕ → Bool
+isFew ms = ltb (length ms) 65536
+
+abbrev pub second : ℕ → ℕ
+second hash = wideStep (ended hash) 1
+
+unfoldable pub isMet : List ℕ → ℕ → Bool
+isMet ms hash = isSet ms (ended hash) && (isFew ms || isSet ms (second hash))
+
 unfoldable pub meet : List ℕ → ℕ → List ℕ
-meet ms hash = setBits ms (markWord (length ms) (ended hash)) (markBits (ended hash))
+meet ms hash = elim (isFew ms) [ true ↦ setAll ms (ended hash) | false ↦ setAll (setAll ms (ended hash)) (second hash) ]
 
 -- the same by a kind and a text
 

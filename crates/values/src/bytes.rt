@@ -4,12 +4,19 @@ ghost use Prim.Native.Nat.{_+_, _-_};
 ghost use lib.ListN.{length, drop, take};
 ghost use Rattle.values.specs.Bytes.{is, any, before, starts, same};
 
-// The place of the first x from `start` on, or the end.
+// The place of the first x from `start` on, or the end. Two bytes in a turn: with one, the compiler counts in this loop what loops after it start from.
 pub fn find(s: &[u8], start: usize, x: u8) -> usize
     ensures { λ r. ⌜ r ≡ start + length (before (is x) (drop start (now (s .entry)))) ⌝ }
 {
     let mut i = start;
     while i < s.len() {
+        if s[i] == x {
+            return i;
+        }
+        i += 1;
+        if s.len() <= i {
+            return i;
+        }
         if s[i] == x {
             return i;
         }

@@ -47,11 +47,19 @@ fn ends_key(b: u8) -> bool
     b == b'"'
 }
 
+// Two bytes in a turn, as in `bytes::find`.
 fn find_key_end(s: &[u8], start: usize) -> usize
     ensures { λ r. ⌜ r ≡ start + length (before endsKey (drop start (now (s .entry)))) ⌝ }
 {
     let mut i = start;
     while i < s.len() {
+        if ends_key(s[i]) {
+            return i;
+        }
+        i += 1;
+        if s.len() <= i {
+            return i;
+        }
         if ends_key(s[i]) {
             return i;
         }

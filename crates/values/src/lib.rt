@@ -1,4 +1,5 @@
 // UTF-8, integers and values: the layer below the header reader.
+pub mod bits;
 pub mod bytes;
 pub mod cursor;
 pub mod field;

@@ -1,7 +1,11 @@
-// Which texts may have been met: where one of the four bits for a text's hash is not set, it was not met, and need not be looked for.
+// Which texts may have been met: where one of the bits for a text's hash is not set, it was not met, and need not be looked for.
+use crate::bits;
 use crate::hash;
 ghost use mathlib.Core.Path.{_≡_};
-ghost use Rattle.values.specs.Marks.{markWord, markBit, markBits, isMet, meet, isNoted, note};
+ghost use Rattle.values.specs.Marks.{markWord, markBits, isSet, setAll, isMet, meet, isNoted, note};
+
+// With so many words a text has bits in two of them: there are many texts then, and a search in vain is long.
+const MANY: usize = 65536;
 
 // The word for a hash, by its lower half: a product, where a remainder would take a division.
 fn word_of(words: usize, hash: u64) -> usize
@@ -14,33 +18,55 @@ fn word_of(words: usize, hash: u64) -> usize
     (low * 0xFFFF_FFFF / 0x1_0000_0000) as usize
 }
 
-fn bit_of(hash: u64) -> u64
-    ensures { λ r. ⌜ r ≡ markBit hash ⌝ }
-{
-    1 << (hash % 64)
-}
-
 // Its bits in that word, by its upper half.
 fn bits_of(hash: u64) -> u64
     ensures { λ r. ⌜ r ≡ markBits hash ⌝ }
 {
-    bit_of(hash / 0x1_0000_0000)
-        | bit_of(hash / 0x40_0000_0000)
-        | bit_of(hash / 0x1000_0000_0000)
-        | bit_of(hash / 0x4_0000_0000_0000)
+    bits::bit_of(hash / 0x1_0000_0000)
+        | bits::bit_of(hash / 0x40_0000_0000)
+        | bits::bit_of(hash / 0x1000_0000_0000)
+        | bits::bit_of(hash / 0x4_0000_0000_0000)
+}
+
+// Whether the bits for a hash are set.
+fn is_set(marks: &[u64], hash: u64) -> bool
+    ensures { λ r. ⌜ r ≡ isSet (now (marks .entry)) hash ⌝ }
+{
+    if marks.len() == 0 {
+        return true;
+    }
+    let at = word_of(marks.len(), hash);
+    let bits = bits_of(hash);
+    marks[at] & bits == bits
+}
+
+// The same, and they are set.
+fn set_all(marks: &mut [u64], hash: u64) -> bool
+    ensures were { λ r. ⌜ r ≡ isSet (now (marks .entry)) hash ⌝ }
+    ensures marks { λ _. ⌜ now (marks .exit) ≡ setAll (now (marks .entry)) hash ⌝ }
+{
+    if marks.len() == 0 {
+        return true;
+    }
+    let at = word_of(marks.len(), hash);
+    let bits = bits_of(hash);
+    let word = marks[at];
+    marks[at] = word | bits;
+    word & bits == bits
 }
 
 // Whether a text of this hash may have been met.
 pub fn is_met(marks: &[u64], hash: u64) -> bool
     ensures { λ r. ⌜ r ≡ isMet (now (marks .entry)) hash ⌝ }
 {
-    if marks.len() == 0 {
+    let end = hash::wide_step(hash, 0);
+    if !is_set(marks, end) {
+        return false;
+    }
+    if marks.len() < MANY {
         return true;
     }
-    let end = hash::wide_step(hash, 0);
-    let at = word_of(marks.len(), end);
-    let bits = bits_of(end);
-    marks[at] & bits == bits
+    is_set(marks, hash::wide_step(end, 1))
 }
 
 // The same, and the text is marked.
@@ -48,15 +74,15 @@ pub fn meet_hash(marks: &mut [u64], hash: u64) -> bool
     ensures met { λ r. ⌜ r ≡ isMet (now (marks .entry)) hash ⌝ }
     ensures marks { λ _. ⌜ now (marks .exit) ≡ meet (now (marks .entry)) hash ⌝ }
 {
-    if marks.len() == 0 {
-        return true;
-    }
     let end = hash::wide_step(hash, 0);
-    let at = word_of(marks.len(), end);
-    let bits = bits_of(end);
-    let word = marks[at];
-    marks[at] = word | bits;
-    word & bits == bits
+    if marks.len() < MANY {
+        return set_all(marks, end);
+    }
+    let again = hash::wide_step(end, 1);
+    let second = is_set(marks, again);
+    let first = set_all(marks, end);
+    set_all(marks, again);
+    first & second
 }
 
 // Whether a number may have been noted: one bit is cheaper to look at than four, where few numbers are noted.
@@ -67,7 +93,7 @@ pub fn is_noted(marks: &[u64], n: u64) -> bool
         return true;
     }
     let at = word_of(marks.len(), n);
-    let bit = bit_of(n / 0x1_0000_0000);
+    let bit = bits::bit_of(n / 0x1_0000_0000);
     marks[at] & bit == bit
 }
 
@@ -78,7 +104,7 @@ pub fn note(marks: &mut [u64], n: u64)
         return;
     }
     let at = word_of(marks.len(), n);
-    let bit = bit_of(n / 0x1_0000_0000);
+    let bit = bits::bit_of(n / 0x1_0000_0000);
     let word = marks[at];
     marks[at] = word | bit;
 }

@@ -40,11 +40,19 @@ fn is_stop(b: u8) -> bool
     b == b',' || b == b'>'
 }
 
+// Two bytes in a turn, as in `bytes::find`.
 pub fn find_stop(s: &[u8], start: usize) -> usize
     ensures { λ r. ⌜ r ≡ start + length (before isStop (drop start (now (s .entry)))) ⌝ }
 {
     let mut i = start;
     while i < s.len() {
+        if is_stop(s[i]) {
+            return i;
+        }
+        i += 1;
+        if s.len() <= i {
+            return i;
+        }
         if is_stop(s[i]) {
             return i;
         }

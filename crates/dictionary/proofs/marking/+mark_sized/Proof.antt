@@ -10,7 +10,6 @@ use Rattle.dictionary.proofs.marking.mark_lines.Reads as mark-lines-rea
 use Rattle.dictionary.proofs.marking.mark_many.Reads as mark-many-reads
 use Rattle.dictionary.proofs.marking.mark_most.Reads as mark-most-reads
 use Rattle.dictionary.proofs.marking.mark_some.Reads as mark-some-reads
-use Rattle.entries.proofs.table.count.Reads as count-reads
 use Rattle.dictionary.proofs.marking.+mark_sized.{statement}
 use Rattle.dictionary.proofs.marking.+mark_sized.Tie.{close}
 use Rattle.dictionary.proofs.Slotting.{all-open}
@@ -29,8 +28,6 @@ mark-sized-below t =
 mark-sized-mark-lines-requires : (t : ℕ) → mark-sized-lts.Need-mark-lines-requires (
   mark-lines-reads.Asked,
   mark-lines-reads.Learnt,
-  count-reads.Asked,
-  count-reads.Learnt,
   mark-sized-below t,
   mark-sized.Post,
   mark-some-reads.Asked,
@@ -45,8 +42,6 @@ mark-sized-mark-lines-requires t c κs = search needs
 mark-sized-same-length : (t : ℕ) → mark-sized-lts.Need-same-length (
   mark-lines-reads.Asked,
   mark-lines-reads.Learnt,
-  count-reads.Asked,
-  count-reads.Learnt,
   mark-sized-below t,
   mark-sized.Post,
   mark-some-reads.Asked,
@@ -61,8 +56,6 @@ mark-sized-same-length t c = search needs
 mark-sized-same-length-2 : (t : ℕ) → mark-sized-lts.Need-same-length-2 (
   mark-lines-reads.Asked,
   mark-lines-reads.Learnt,
-  count-reads.Asked,
-  count-reads.Learnt,
   mark-sized-below t,
   mark-sized.Post,
   mark-some-reads.Asked,
@@ -77,8 +70,6 @@ mark-sized-same-length-2 t c = search needs
 mark-sized-returns : (t : ℕ) → mark-sized-lts.Need-returns (
   mark-lines-reads.Asked,
   mark-lines-reads.Learnt,
-  count-reads.Asked,
-  count-reads.Learnt,
   mark-sized-below t,
   mark-sized.Post,
   mark-some-reads.Asked,
@@ -90,27 +81,9 @@ mark-sized-returns : (t : ℕ) → mark-sized-lts.Need-returns (
 ) (mark-sized-at t) mark-sized.Post
 mark-sized-returns t c = search needs
 
-mark-sized-count-requires : (t : ℕ) → mark-sized-lts.Need-count-requires (
-  mark-lines-reads.Asked,
-  mark-lines-reads.Learnt,
-  count-reads.Asked,
-  count-reads.Learnt,
-  mark-sized-below t,
-  mark-sized.Post,
-  mark-some-reads.Asked,
-  mark-some-reads.Learnt,
-  mark-many-reads.Asked,
-  mark-many-reads.Learnt,
-  mark-most-reads.Asked,
-  mark-most-reads.Learnt,
-) (mark-sized-at t) mark-sized.Post
-mark-sized-count-requires t c κs = search needs
-
 mark-sized-slice-aggregate-mark-sized : (t : ℕ) → mark-sized-lts.Need-slice-aggregate-mark-sized (
   mark-lines-reads.Asked,
   mark-lines-reads.Learnt,
-  count-reads.Asked,
-  count-reads.Learnt,
   mark-sized-below t,
   mark-sized.Post,
   mark-some-reads.Asked,
@@ -125,8 +98,6 @@ mark-sized-slice-aggregate-mark-sized t c = search needs
 mark-sized-mark-sized-requires : (t : ℕ) → mark-sized-lts.Need-mark-sized-requires (
   mark-lines-reads.Asked,
   mark-lines-reads.Learnt,
-  count-reads.Asked,
-  count-reads.Learnt,
   mark-sized-below t,
   mark-sized.Post,
   mark-some-reads.Asked,
@@ -141,8 +112,6 @@ mark-sized-mark-sized-requires t c κs = search (all-open, needs)
 mark-sized-same-length-3 : (t : ℕ) → mark-sized-lts.Need-same-length-3 (
   mark-lines-reads.Asked,
   mark-lines-reads.Learnt,
-  count-reads.Asked,
-  count-reads.Learnt,
   mark-sized-below t,
   mark-sized.Post,
   mark-some-reads.Asked,
@@ -157,8 +126,6 @@ mark-sized-same-length-3 t c = search needs
 mark-sized-returns-2 : (t : ℕ) → mark-sized-lts.Need-returns-2 (
   mark-lines-reads.Asked,
   mark-lines-reads.Learnt,
-  count-reads.Asked,
-  count-reads.Learnt,
   mark-sized-below t,
   mark-sized.Post,
   mark-some-reads.Asked,
@@ -173,8 +140,6 @@ mark-sized-returns-2 t c = search needs
 mark-sized-mark-some-requires : (t : ℕ) → mark-sized-lts.Need-mark-some-requires (
   mark-lines-reads.Asked,
   mark-lines-reads.Learnt,
-  count-reads.Asked,
-  count-reads.Learnt,
   mark-sized-below t,
   mark-sized.Post,
   mark-some-reads.Asked,
@@ -189,8 +154,6 @@ mark-sized-mark-some-requires t c κs = search needs
 mark-sized-same-length-4 : (t : ℕ) → mark-sized-lts.Need-same-length-4 (
   mark-lines-reads.Asked,
   mark-lines-reads.Learnt,
-  count-reads.Asked,
-  count-reads.Learnt,
   mark-sized-below t,
   mark-sized.Post,
   mark-some-reads.Asked,
@@ -205,8 +168,6 @@ mark-sized-same-length-4 t c = search needs
 mark-sized-returns-3 : (t : ℕ) → mark-sized-lts.Need-returns-3 (
   mark-lines-reads.Asked,
   mark-lines-reads.Learnt,
-  count-reads.Asked,
-  count-reads.Learnt,
   mark-sized-below t,
   mark-sized.Post,
   mark-some-reads.Asked,
@@ -221,8 +182,6 @@ mark-sized-returns-3 t c = search needs
 mark-sized-mark-many-requires : (t : ℕ) → mark-sized-lts.Need-mark-many-requires (
   mark-lines-reads.Asked,
   mark-lines-reads.Learnt,
-  count-reads.Asked,
-  count-reads.Learnt,
   mark-sized-below t,
   mark-sized.Post,
   mark-some-reads.Asked,
@@ -237,8 +196,6 @@ mark-sized-mark-many-requires t c κs = search needs
 mark-sized-same-length-5 : (t : ℕ) → mark-sized-lts.Need-same-length-5 (
   mark-lines-reads.Asked,
   mark-lines-reads.Learnt,
-  count-reads.Asked,
-  count-reads.Learnt,
   mark-sized-below t,
   mark-sized.Post,
   mark-some-reads.Asked,
@@ -253,8 +210,6 @@ mark-sized-same-length-5 t c = search needs
 mark-sized-returns-4 : (t : ℕ) → mark-sized-lts.Need-returns-4 (
   mark-lines-reads.Asked,
   mark-lines-reads.Learnt,
-  count-reads.Asked,
-  count-reads.Learnt,
   mark-sized-below t,
   mark-sized.Post,
   mark-some-reads.Asked,
@@ -269,8 +224,6 @@ mark-sized-returns-4 t c = search needs
 mark-sized-mark-most-requires : (t : ℕ) → mark-sized-lts.Need-mark-most-requires (
   mark-lines-reads.Asked,
   mark-lines-reads.Learnt,
-  count-reads.Asked,
-  count-reads.Learnt,
   mark-sized-below t,
   mark-sized.Post,
   mark-some-reads.Asked,
@@ -285,8 +238,6 @@ mark-sized-mark-most-requires t c κs = search needs
 mark-sized-same-length-6 : (t : ℕ) → mark-sized-lts.Need-same-length-6 (
   mark-lines-reads.Asked,
   mark-lines-reads.Learnt,
-  count-reads.Asked,
-  count-reads.Learnt,
   mark-sized-below t,
   mark-sized.Post,
   mark-some-reads.Asked,
@@ -301,8 +252,6 @@ mark-sized-same-length-6 t c = search needs
 mark-sized-returns-5 : (t : ℕ) → mark-sized-lts.Need-returns-5 (
   mark-lines-reads.Asked,
   mark-lines-reads.Learnt,
-  count-reads.Asked,
-  count-reads.Learnt,
   mark-sized-below t,
   mark-sized.Post,
   mark-some-reads.Asked,
@@ -318,8 +267,6 @@ pub +mark-sized-spec : {M : Type 1} → statement M
 +mark-sized-spec = close μ-mark-sized λ t. mark-sized-lts.spec (
   mark-lines-reads.Asked,
   mark-lines-reads.Learnt,
-  count-reads.Asked,
-  count-reads.Learnt,
   mark-sized-below t,
   mark-sized.Post,
   mark-some-reads.Asked,
@@ -335,7 +282,6 @@ pub +mark-sized-spec : {M : Type 1} → statement M
     (mark-sized-same-length t)
     (mark-sized-same-length-2 t)
     (mark-sized-returns t)
-    (mark-sized-count-requires t)
     (mark-sized-slice-aggregate-mark-sized t)
     (mark-sized-mark-sized-requires t)
     (mark-sized-same-length-3 t)

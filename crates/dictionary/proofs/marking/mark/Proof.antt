@@ -3,9 +3,6 @@ use borrow.Author.Needs.{needs}
 use Rattle.dictionary.proofs.marking.mark.Statement.{statement}
 use Rattle.dictionary.proofs.marking.mark.Tie as tie
 
-count-requires : tie.Need-count-requires
-count-requires c κs = search (alls, needs)
-
 add-classes : tie.Need-add-classes
 add-classes c = search (alls, needs)
 
@@ -31,7 +28,6 @@ pub mark-spec : {M : Type 1} → statement M
 mark-spec =
     tie.close
     (tie.spec
-    count-requires
     add-classes
     mark-sought-requires
     mark-sought-requires-2

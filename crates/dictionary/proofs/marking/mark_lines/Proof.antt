@@ -1,16 +1,15 @@
-use Rattle.dictionary.proofs.Markings.{Marked}
-use Rattle.entries.specs.Tables.{room}
 use Prim.Native.Nat.{_-_}
-use Rattle.dictionary.proofs.Markings.{markeds}
+use Rattle.entries.specs.Tables.{room}
+use Rattle.dictionary.proofs.Markings.{Marked, markeds}
 use borrow.Author.Needs.{needs}
 use Rattle.dictionary.proofs.marking.mark_lines.Statement.{statement}
 use Rattle.dictionary.proofs.marking.mark_lines.Tie as tie
 
 abbrev Inv-loop : tie.InvT-loop
-Inv-loop h kept asked sought class marks₀ slots₀ form dictionary k₀ marks slots k = Marked sought class asked h kept marks₀ marks slots₀ slots k
+Inv-loop h kept asked sought class marks₀ slots₀ form dictionary lines₀ k₀ marks slots lines k = Marked sought class asked h kept marks₀ marks slots₀ slots lines k
 
 abbrev μ-loop : tie.MeasureT-loop
-μ-loop h kept asked sought class marks₀ slots₀ form dictionary k₀ marks slots k = room (asked .form) kept - k
+μ-loop h kept asked sought class marks₀ slots₀ form dictionary lines₀ k₀ marks slots lines k = room (asked .form) kept - k
 
 loop-holds : tie.Need-loop-holds Inv-loop μ-loop
 loop-holds c = search (markeds, needs)
@@ -26,6 +25,9 @@ add-k c = search (markeds, needs)
 
 has-kind-requires : tie.Need-has-kind-requires Inv-loop μ-loop
 has-kind-requires c κs = search (markeds, needs)
+
+add-lines : tie.Need-add-lines Inv-loop μ-loop
+add-lines c = search (markeds, needs)
 
 mark-line-requires : tie.Need-mark-line-requires Inv-loop μ-loop
 mark-line-requires c κs = search (markeds, needs)
@@ -62,6 +64,7 @@ mark-lines-spec =
     get-requires
     add-k
     has-kind-requires
+    add-lines
     mark-line-requires
     loop-less
     loop-again

@@ -1,16 +1,15 @@
-use Rattle.dictionary.proofs.Pairs.{Progress}
-use Rattle.entries.specs.Tables.{room}
 use Prim.Native.Nat.{_-_}
-use Rattle.dictionary.proofs.Pairs.{progresses}
+use Rattle.entries.specs.Tables.{room}
+use Rattle.dictionary.proofs.Pairs.{Progress, progresses}
 use borrow.Author.Needs.{needs}
 use Rattle.dictionary.proofs.numbering.number_lines.Statement.{statement}
 use Rattle.dictionary.proofs.numbering.number_lines.Tie as tie
 
 abbrev Inv-loop : tie.InvT-loop
-Inv-loop h kept asked marks out₀ form dictionary count₀ k₀ out count k = Progress (asked .dictionary) (asked .indexed) (asked .form) h kept out₀ out count k
+Inv-loop h kept asked marks out₀ form dictionary count₀ lines₀ k₀ out count lines k = Progress (asked .dictionary) (asked .indexed) (asked .form) h kept out₀ out count lines k
 
 abbrev μ-loop : tie.MeasureT-loop
-μ-loop h kept asked marks out₀ form dictionary count₀ k₀ out count k = room (asked .form) kept - k
+μ-loop h kept asked marks out₀ form dictionary count₀ lines₀ k₀ out count lines k = room (asked .form) kept - k
 
 first-number-requires : tie.Need-first-number-requires Inv-loop μ-loop
 first-number-requires c κs = search (progresses, needs)
@@ -30,8 +29,11 @@ add-k c = search (progresses, needs)
 has-kind-requires : tie.Need-has-kind-requires Inv-loop μ-loop
 has-kind-requires c κs = search (progresses, needs)
 
+add-lines : tie.Need-add-lines Inv-loop μ-loop
+add-lines c = search (progresses, needs)
+
 number-line-requires : tie.Need-number-line-requires Inv-loop μ-loop
-number-line-requires c κs = search (progresses, needs)
+number-line-requires c κs = (search (progresses, needs), (search (progresses, needs), (search (progresses, needs), search (progresses, needs))))
 
 enum-known-c : tie.Need-enum-known-c Inv-loop μ-loop
 enum-known-c c = search (progresses, needs)
@@ -75,6 +77,7 @@ number-lines-spec =
     get-requires
     add-k
     has-kind-requires
+    add-lines
     number-line-requires
     enum-known-c
     loop-less

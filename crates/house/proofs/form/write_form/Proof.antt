@@ -1,69 +1,81 @@
 use borrow.Author.Needs.{needs}
-use Rattle.house.proofs.Forms.{own-fits, writes}
+use Rattle.house.proofs.Weights.{formed-writes}
 use Rattle.house.proofs.form.write_form.Statement.{statement}
 use Rattle.house.proofs.form.write_form.Tie as tie
 
 limits-requires : tie.Need-limits-requires
-limits-requires c κs = search (writes, needs)
+limits-requires c κs = search (formed-writes, needs)
 
-are-formed-requires : tie.Need-are-formed-requires
-are-formed-requires c κs = search (writes, needs)
+find-standing-requires : tie.Need-find-standing-requires
+find-standing-requires c κs = search (formed-writes, needs)
 
-slice-aggregate-put-form : tie.Need-slice-aggregate-put-form
-slice-aggregate-put-form c = search (writes, needs)
-
-put-form-requires : tie.Need-put-form-requires
-put-form-requires c κs = search (writes, needs)
-
-outcome-of-requires : tie.Need-outcome-of-requires
-outcome-of-requires c κs = search (writes, needs)
-
-is-whole-requires : tie.Need-is-whole-requires
-is-whole-requires c κs = search (writes, needs)
-
-returns : tie.Need-returns
-returns c = search (writes, needs)
-
-is-own-requires : tie.Need-is-own-requires
-is-own-requires c κs = search (writes, needs)
-
-copy-requires : tie.Need-copy-requires
-copy-requires c κs = own-fits (c .before .before .is-own .ensures) (c .before .if2 .taken)
+write-measured-requires : tie.Need-write-measured-requires
+write-measured-requires c κs = search (formed-writes, needs)
 
 same-length : tie.Need-same-length
-same-length c = search (writes, needs)
+same-length c = search (formed-writes, needs)
 
-returns-2 : tie.Need-returns-2
-returns-2 c = search (writes, needs)
+returns : tie.Need-returns
+returns c = search (formed-writes, needs)
 
-slice-aggregate-put-form-2 : tie.Need-slice-aggregate-put-form-2
-slice-aggregate-put-form-2 c = search (writes, needs)
-
-put-form-requires-2 : tie.Need-put-form-requires-2
-put-form-requires-2 c κs = search (writes, needs)
+write-measured-requires-2 : tie.Need-write-measured-requires-2
+write-measured-requires-2 c κs = search (formed-writes, needs)
 
 same-length-2 : tie.Need-same-length-2
-same-length-2 c = search (writes, needs)
+same-length-2 c = search (formed-writes, needs)
+
+returns-2 : tie.Need-returns-2
+returns-2 c = search (formed-writes, needs)
+
+column-line-requires : tie.Need-column-line-requires
+column-line-requires c κs = search (formed-writes, needs)
+
+size-form-requires : tie.Need-size-form-requires
+size-form-requires c κs = search (formed-writes, needs)
+
+write-measured-requires-3 : tie.Need-write-measured-requires-3
+write-measured-requires-3 c κs = search (formed-writes, needs)
+
+same-length-3 : tie.Need-same-length-3
+same-length-3 c = search (formed-writes, needs)
 
 returns-3 : tie.Need-returns-3
-returns-3 c = search (writes, needs)
+returns-3 c = search (formed-writes, needs)
+
+returns-4 : tie.Need-returns-4
+returns-4 c = search (formed-writes, needs)
+
+slice-aggregate-put-form : tie.Need-slice-aggregate-put-form
+slice-aggregate-put-form c = search (formed-writes, needs)
+
+put-form-requires : tie.Need-put-form-requires
+put-form-requires c κs = search (formed-writes, needs)
+
+same-length-4 : tie.Need-same-length-4
+same-length-4 c = search (formed-writes, needs)
+
+returns-5 : tie.Need-returns-5
+returns-5 c = search (formed-writes, needs)
 
 pub write-form-spec : {M : Type 1} → statement M
 write-form-spec =
     tie.close
     (tie.spec
     limits-requires
-    are-formed-requires
+    find-standing-requires
+    write-measured-requires
+    same-length
+    returns
+    write-measured-requires-2
+    same-length-2
+    returns-2
+    column-line-requires
+    size-form-requires
+    write-measured-requires-3
+    same-length-3
+    returns-3
+    returns-4
     slice-aggregate-put-form
     put-form-requires
-    outcome-of-requires
-    is-whole-requires
-    returns
-    is-own-requires
-    copy-requires
-    same-length
-    returns-2
-    slice-aggregate-put-form-2
-    put-form-requires-2
-    same-length-2
-    returns-3)
+    same-length-4
+    returns-5)

@@ -3,8 +3,8 @@ use borrow.Author.Needs.{needs}
 use Rattle.house.proofs.progress.note_line.Statement.{statement}
 use Rattle.house.proofs.progress.note_line.Tie as tie
 
-count-lines-requires : tie.Need-count-lines-requires
-count-lines-requires c κs = search (notes, needs)
+count-on-requires : tie.Need-count-on-requires
+count-on-requires c κs = search (notes, needs)
 
 returns : tie.Need-returns
 returns c = search (notes, needs)
@@ -19,4 +19,4 @@ returns-4 : tie.Need-returns-4
 returns-4 c = search (notes, needs)
 
 pub note-line-spec : {M : Type 1} → statement M
-note-line-spec = tie.close (tie.spec count-lines-requires returns returns-2 returns-3 returns-4)
+note-line-spec = tie.close (tie.spec count-on-requires returns returns-2 returns-3 returns-4)

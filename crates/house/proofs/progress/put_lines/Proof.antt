@@ -9,8 +9,8 @@ put-text-requires c κs = search (lines, needs)
 end-line-requires : tie.Need-end-line-requires
 end-line-requires c κs = search (lines, needs)
 
-count-lines-requires : tie.Need-count-lines-requires
-count-lines-requires c κs = search (lines, needs)
+count-on-requires : tie.Need-count-on-requires
+count-on-requires c κs = search (lines, needs)
 
 same-length : tie.Need-same-length
 same-length c = search (lines, needs)
@@ -21,4 +21,4 @@ returns c = search (lines, needs)
 pub put-lines-spec : {M : Type 1} → statement M
 put-lines-spec =
     tie.close
-    (tie.spec put-text-requires end-line-requires count-lines-requires same-length returns)
+    (tie.spec put-text-requires end-line-requires count-on-requires same-length returns)

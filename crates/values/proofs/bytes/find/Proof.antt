@@ -24,14 +24,26 @@ returns c = search (finds, needs)
 add-i : tie.Need-add-i Inv-loop μ-loop
 add-i c = search (finds, needs)
 
+returns-2 : tie.Need-returns-2 Inv-loop μ-loop
+returns-2 c = search (finds, needs)
+
+shared-slice-read-if3 : tie.Need-shared-slice-read-if3 Inv-loop μ-loop
+shared-slice-read-if3 c = search (finds, needs)
+
+returns-3 : tie.Need-returns-3 Inv-loop μ-loop
+returns-3 c = search (finds, needs)
+
+add-i-2 : tie.Need-add-i-2 Inv-loop μ-loop
+add-i-2 c = search (finds, needs)
+
 loop-less : tie.Need-loop-less Inv-loop μ-loop
 loop-less c = search (finds, needs)
 
 loop-again : tie.Need-loop-again Inv-loop μ-loop
 loop-again c = search (finds, needs)
 
-returns-2 : tie.Need-returns-2 Inv-loop μ-loop
-returns-2 c = search (finds, needs)
+returns-4 : tie.Need-returns-4 Inv-loop μ-loop
+returns-4 c = search (finds, needs)
 
 pub find-spec : {M : Type 1} → statement M
 find-spec =
@@ -43,6 +55,10 @@ find-spec =
     shared-slice-read-if1
     returns
     add-i
+    returns-2
+    shared-slice-read-if3
+    returns-3
+    add-i-2
     loop-less
     loop-again
-    returns-2)
+    returns-4)

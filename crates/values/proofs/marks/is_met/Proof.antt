@@ -1,37 +1,37 @@
-use Rattle.values.proofs.Markings.{looks}
 use borrow.Author.Needs.{needs}
+use Rattle.values.proofs.Markings.{meets}
 use Rattle.values.proofs.marks.is_met.Statement.{statement}
 use Rattle.values.proofs.marks.is_met.Tie as tie
 
-returns : tie.Need-returns
-returns c = search (looks, needs)
-
 wide-step-requires : tie.Need-wide-step-requires
-wide-step-requires c κs = search (looks, needs)
+wide-step-requires c κs = search (meets, needs)
 
-word-of-requires : tie.Need-word-of-requires
-word-of-requires c κs = search (looks, needs)
+is-set-requires : tie.Need-is-set-requires
+is-set-requires c κs = search (meets, needs)
 
-bits-of-requires : tie.Need-bits-of-requires
-bits-of-requires c κs = search (looks, needs)
-
-mul-result : tie.Need-mul-result
-mul-result c = search (looks, needs)
-
-shared-slice-read-result : tie.Need-shared-slice-read-result
-shared-slice-read-result c = search (looks, needs)
+returns : tie.Need-returns
+returns c = search (meets, needs)
 
 returns-2 : tie.Need-returns-2
-returns-2 c = search (looks, needs)
+returns-2 c = search (meets, needs)
+
+wide-step-requires-2 : tie.Need-wide-step-requires-2
+wide-step-requires-2 c κs = search (meets, needs)
+
+is-set-requires-2 : tie.Need-is-set-requires-2
+is-set-requires-2 c κs = search (meets, needs)
+
+returns-3 : tie.Need-returns-3
+returns-3 c = search (meets, needs)
 
 pub is-met-spec : {M : Type 1} → statement M
 is-met-spec =
     tie.close
     (tie.spec
-    returns
     wide-step-requires
-    word-of-requires
-    bits-of-requires
-    mul-result
-    shared-slice-read-result
-    returns-2)
+    is-set-requires
+    returns
+    returns-2
+    wide-step-requires-2
+    is-set-requires-2
+    returns-3)

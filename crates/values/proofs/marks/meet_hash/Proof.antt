@@ -1,49 +1,49 @@
-use Rattle.values.proofs.Markings.{looks}
 use borrow.Author.Needs.{needs}
+use Rattle.values.proofs.Markings.{meets}
 use Rattle.values.proofs.marks.meet_hash.Statement.{statement}
 use Rattle.values.proofs.marks.meet_hash.Tie as tie
 
-returns : tie.Need-returns
-returns c = search (looks, needs)
-
 wide-step-requires : tie.Need-wide-step-requires
-wide-step-requires c κs = search (looks, needs)
+wide-step-requires c κs = search (meets, needs)
 
-word-of-requires : tie.Need-word-of-requires
-word-of-requires c κs = search (looks, needs)
-
-bits-of-requires : tie.Need-bits-of-requires
-bits-of-requires c κs = search (looks, needs)
-
-mul-word : tie.Need-mul-word
-mul-word c = search (looks, needs)
-
-slice-read-word : tie.Need-slice-read-word
-slice-read-word c = search (looks, needs)
-
-mul-marks : tie.Need-mul-marks
-mul-marks c = search (looks, needs)
-
-slice-write-marks : tie.Need-slice-write-marks
-slice-write-marks c = search (looks, needs)
+set-all-requires : tie.Need-set-all-requires
+set-all-requires c κs = search (meets, needs)
 
 same-length : tie.Need-same-length
-same-length c = search (looks, needs)
+same-length c = search (meets, needs)
+
+returns : tie.Need-returns
+returns c = search (meets, needs)
+
+wide-step-requires-2 : tie.Need-wide-step-requires-2
+wide-step-requires-2 c κs = search (meets, needs)
+
+is-set-requires : tie.Need-is-set-requires
+is-set-requires c κs = search (meets, needs)
+
+set-all-requires-2 : tie.Need-set-all-requires-2
+set-all-requires-2 c κs = search (meets, needs)
+
+set-all-requires-3 : tie.Need-set-all-requires-3
+set-all-requires-3 c κs = search (meets, needs)
+
+same-length-2 : tie.Need-same-length-2
+same-length-2 c = search (meets, needs)
 
 returns-2 : tie.Need-returns-2
-returns-2 c = search (looks, needs)
+returns-2 c = search (meets, needs)
 
 pub meet-hash-spec : {M : Type 1} → statement M
 meet-hash-spec =
     tie.close
     (tie.spec
-    returns
     wide-step-requires
-    word-of-requires
-    bits-of-requires
-    mul-word
-    slice-read-word
-    mul-marks
-    slice-write-marks
+    set-all-requires
     same-length
+    returns
+    wide-step-requires-2
+    is-set-requires
+    set-all-requires-2
+    set-all-requires-3
+    same-length-2
     returns-2)

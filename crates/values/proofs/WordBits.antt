@@ -1,18 +1,19 @@
 -- Bits of words: the one that was set is, and no other. Assumes nothing.
 use Prim.Native.Nat.{ℕ, zero, suc, _+_, _*_, _/_, _%_, _^_, _<_, _≤_, min, max}
 use native.Mathlib.Omega.{arith}
-use native.Mathlib.Nat.{mod-lt, pow-suc}
+use native.Mathlib.Nat.{pow-suc}
 use mathlib.Core.Path.{_≡_, refl, sym, ap, _∙_}
-use mathlib.Core.Bool.{Bool, true, false, _||_}
+use mathlib.Core.Bool.{false, _||_}
 use mathlib.Core.List.{List}
 use lib.Bits.{bitAnd, bitOr, and-step, or-step, and-zero-l, and-zero-r, or-zero-r}
-use lib.Dec.{eqb, ltb}
-use lib.ListN.{length, getD, set, length-set, List·getD-eq-default}
-use lib.Pow.{pow-lt, pow-pos}
-use lib.Seq.{getD-set-same, getD-set-other}
-use borrow.Author.Tests.{eqb-true, eqb-false, eq-eqb, ne-eqb, lt-ltb, le-ltb, ltb-true, ltb-false}
+use lib.Dec.{eqb}
+use lib.ListN.{length, getD, set, replicate, length-set, List·getD-eq-default}
+use lib.Pow.{pow-pos}
+use lib.Seq.{set-out, getD-set-same, getD-set-other}
+use borrow.Author.Tests.{eqb-true, eqb-false, eq-eqb, ne-eqb}
+use Rattle.values.specs.Marks.{markBit, hasBits}
+use Rattle.values.specs.Bits.{bitAt, setBit}
 use Rattle.values.proofs.Tests.{pass, fail, test}
-use Rattle.dictionary.specs.Marks.{bitOf, bitAt, setBit}
 
 -- In one word
 
@@ -49,29 +50,15 @@ word-other (suc a) (suc b) w f =
 
 module _ (ms : List ℕ) (n : ℕ) where
   abbrev word : ℕ
-  word = bitOr (getD ms (n / 64) 0) (bitOf n)
-
-  set-in : ltb (n / 64) (length ms) ≡ true → setBit ms n ≡ set ms (n / 64) word
-  unfolding setBit
-  set-in f = rw (setBit, f)
-
-  set-past : ltb (n / 64) (length ms) ≡ false → setBit ms n ≡ ms
-  unfolding setBit
-  set-past f = rw (setBit, f)
+  word = bitOr (getD ms (n / 64) 0) (markBit n)
 
   pub set-length : length (setBit ms n) ≡ length ms
-  set-length = elim (test (ltb (n / 64) (length ms))) [ pass f ↦ ap length (set-in f) ∙ length-set ms (n / 64) word | fail f ↦ ap length (set-past f) ]
+  unfolding setBit
+  set-length = length-set ms (n / 64) word
 
   module _ (j : ℕ) where
-    abbrev has : ℕ → Bool
-    has x = eqb (bitAnd x (bitOf j)) (bitOf j)
-
-    has-is : (xs : List ℕ) → bitAt xs j ≡ has (getD xs (j / 64) 0)
-    unfolding bitAt
-    has-is xs = refl
-
-    same-word : j / 64 ≡ n / 64 → has word ≡ (eqb j n || has (getD ms (n / 64) 0))
-    unfolding bitOf
+    same-word : j / 64 ≡ n / 64 → hasBits word (markBit j) ≡ (eqb j n || hasBits (getD ms (n / 64) 0) (markBit j))
+    unfolding hasBits markBit
     same-word d = elim (test (eqb j n)) [
       | pass i ↦ let e = eqb-true j n i in rw (i, e) (eq-eqb _ (2 ^ (n % 64)) (word-own (n % 64) (getD ms (n / 64) 0)))
       | fail i ↦
@@ -80,45 +67,44 @@ module _ (ms : List ℕ) (n : ℕ) where
     ]
 
     pub bit-set : j < 64 * length ms → bitAt (setBit ms n) j ≡ (eqb j n || bitAt ms j)
-    bit-set l = elim (test (ltb (n / 64) (length ms))) [
-      | fail f ↦ ap (λ (xs : List ℕ). bitAt xs j) (set-past f) ∙ rw (ne-eqb j n (λ e. omega (arith, ltb-false (n / 64) (length ms) f)))
-      | pass f ↦
-          let w : bitAt (setBit ms n) j ≡ has (getD (set ms (n / 64) word) (j / 64) 0) = ap (λ (xs : List ℕ). bitAt xs j) (set-in f) ∙ has-is (set ms (n / 64) word) in
-          elim (test (eqb (j / 64) (n / 64))) [
-            | fail e ↦
-                let o = eqb-false (j / 64) (n / 64) e in
-                w ∙ ap has (getD-set-other ms (n / 64) (j / 64) word 0 o) ∙ sym (has-is ms) ∙ rw (ne-eqb j n (λ i. o (ap (λ (x : ℕ). x / 64) i)))
-            | pass e ↦
-                let d = eqb-true (j / 64) (n / 64) e in
-                w ∙ ap (λ (x : ℕ). has (getD (set ms (n / 64) word) x 0)) d ∙ ap has (getD-set-same ms (n / 64) word 0 (ltb-true (n / 64) (length ms) f)) ∙ same-word d
-                ∙ ap (λ (x : ℕ). eqb j n || has (getD ms x 0)) (sym d) ∙ ap (λ (x : Bool). eqb j n || x) (sym (has-is ms))
-          ]
+    unfolding bitAt setBit
+    bit-set l = elim (test (eqb (j / 64) (n / 64))) [
+      | fail e ↦
+          let o = eqb-false (j / 64) (n / 64) e in
+          rw (getD-set-other ms (n / 64) (j / 64) word 0 o, ne-eqb j n (λ i. o (ap (λ (x : ℕ). x / 64) i)))
+      | pass e ↦
+          let d = eqb-true (j / 64) (n / 64) e in
+          rw (d, getD-set-same ms (n / 64) word 0 (omega arith)) (same-word d)
     ]
 
 pub word-open : (ms : List ℕ) (n : ℕ) → getD ms (n / 64) 0 ≡ 0 → bitAt ms n ≡ false
-unfolding bitAt bitOf
+unfolding bitAt hasBits markBit
 word-open ms n e = rw (e, and-zero-l (2 ^ (n % 64))) (ne-eqb 0 (2 ^ (n % 64)) (λ i. omega (arith, pow-pos (n % 64))))
 
--- what answers the needs of `bit_of`, `is_set` and `set`
-pub bit-is : (n : ℕ) → 1 * 2 ^ (n % 64) % 18446744073709551616 ≡ bitOf n
-unfolding bitOf
-bit-is n = omega (arith, pow-lt {i = n % 64} {j = 64} (mod-lt n (omega arith)))
+pub none-set : (k n : ℕ) → bitAt (replicate k 0) n ≡ false
+none-set k n = word-open (replicate k 0) n (zeros k (n / 64))
+  where
+    zeros : (k i : ℕ) → _≡_ {A = ℕ} (getD (replicate k 0) i 0) 0
+    zeros zero i = refl
+    zeros (suc k) zero = refl
+    zeros (suc k) (suc i) = zeros k i
 
+-- what answers the needs of `is_set` and `set`
 module _ (ms : List ℕ) (n : ℕ) where
   pub past-unset : length ms ≤ n / 64 → false ≡ bitAt ms n
   past-unset l = sym (word-open ms n (List·getD-eq-default ms 0 {n = n / 64} l))
 
   pub past-set : length ms ≤ n / 64 → ms ≡ setBit ms n
   unfolding setBit
-  past-set l = rw (setBit, le-ltb (n / 64) (length ms) l)
+  past-set l = sym (set-out ms (n / 64) _ l)
 
-  module _ {bit : ℕ} (eb : bit ≡ bitOf n) where
+  module _ {bit : ℕ} (eb : bit ≡ markBit n) where
     pub unset-or-set : eqb (bitAnd (getD ms (n / 64) 0) bit) bit ≡ bitAt ms n
-    unfolding bitAt
+    unfolding bitAt hasBits
     unset-or-set = rw eb
 
-    pub set-here : n / 64 < length ms → set ms (n / 64) (bitOr (getD ms (n / 64) 0) bit) ≡ setBit ms n
+    pub set-here : set ms (n / 64) (bitOr (getD ms (n / 64) 0) bit) ≡ setBit ms n
     unfolding setBit
-    set-here l = rw (eb, setBit, lt-ltb (n / 64) (length ms) l)
+    set-here = rw eb
 
-pub ruleset bits = (bit-is, past-unset, past-set, unset-or-set, set-here)
+pub ruleset bits = (past-unset, past-set, unset-or-set, set-here)

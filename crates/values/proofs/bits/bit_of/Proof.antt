@@ -1,7 +1,7 @@
 use Rattle.values.proofs.Markings.{bit-is}
 use borrow.Author.Needs.{needs}
-use Rattle.values.proofs.marks.bit_of.Statement.{statement}
-use Rattle.values.proofs.marks.bit_of.Tie as tie
+use Rattle.values.proofs.bits.bit_of.Statement.{statement}
+use Rattle.values.proofs.bits.bit_of.Tie as tie
 
 shl-result : tie.Need-shl-result
 shl-result c = search (bit-is, needs)

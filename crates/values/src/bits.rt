@@ -1,9 +1,10 @@
 // Words with a bit for each of some numbers.
 ghost use mathlib.Core.Path.{_≡_};
-ghost use Rattle.dictionary.specs.Marks.{bitOf, bitAt, setBit};
+ghost use Rattle.values.specs.Marks.{markBit};
+ghost use Rattle.values.specs.Bits.{bitAt, setBit};
 
-fn bit_of(n: usize) -> u64
-    ensures { λ r. ⌜ r ≡ bitOf n ⌝ }
+pub fn bit_of(n: u64) -> u64
+    ensures { λ r. ⌜ r ≡ markBit n ⌝ }
 {
     1 << (n % 64)
 }
@@ -15,7 +16,7 @@ pub fn is_set(words: &[u64], n: usize) -> bool
     if words.len() <= at {
         return false;
     }
-    let bit = bit_of(n);
+    let bit = bit_of(n as u64);
     words[at] & bit == bit
 }
 
@@ -26,7 +27,7 @@ pub fn set(words: &mut [u64], n: usize)
     if words.len() <= at {
         return;
     }
-    let bit = bit_of(n);
+    let bit = bit_of(n as u64);
     let word = words[at];
     words[at] = word | bit;
 }

@@ -105,6 +105,7 @@ HEADERS = {
     "pairs_700000": header([f"##{short(i)}=x" for _ in "ab" for i in range(700000)]),
     "mixed_20": header([f"##k{i % 20}={i}" for i in range(1000000)]),
     "mixed_300": header([f"##k{i % 300}={i}" for i in range(1000000)]),
+    "mixed_37": header([f"##{short(i % 37)}=" for i in range(3300000)]),
     "indexed_98000": header([f"##contig=<ID=c{i},IDX={i}>" for i in range(98000)]),
     "indexed_400000": header([f"##contig=<ID=c{i},IDX={i * 65536}>" for i in range(400000)]),
     "kinds_100000": header(kinds(100000)),

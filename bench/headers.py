@@ -1,5 +1,6 @@
 """Writes the headers that are measured into a folder: python3 headers.py FOLDER"""
 import pathlib
+import random
 import sys
 from string import ascii_letters, digits
 
@@ -106,6 +107,13 @@ HEADERS = {
     "mixed_20": header([f"##k{i % 20}={i}" for i in range(1000000)]),
     "mixed_300": header([f"##k{i % 300}={i}" for i in range(1000000)]),
     "mixed_37": header([f"##{short(i % 37)}=" for i in range(3300000)]),
+    "shuffled_37": header([f"##{short(i)}=" for i in random.Random(37).choices(range(37), k=3300000)]),
+    "mixed_1000": header([f"##{short(37 + i % 1000)}=" for i in range(2780000)]),
+    "pairs_1000000": header([f"##{short(i)}=" for _ in "ab" for i in range(1000000)]),
+    "tens_200000": header([f"##{short(i)}=" for _ in range(10) for i in range(200000)]),
+    # IDs of which many have the same last part, as contigs of many haplotypes have
+    "haplotypes_400000": header([f"##contig=<ID=HG{i // 25:05}#1#chr{i % 25}>" for i in range(400000)]),
+    "suffixed_400000": header([f'##x=<ID="a{i}=x">' for i in range(400000)]),
     "indexed_98000": header([f"##contig=<ID=c{i},IDX={i}>" for i in range(98000)]),
     "indexed_400000": header([f"##contig=<ID=c{i},IDX={i * 65536}>" for i in range(400000)]),
     "kinds_100000": header(kinds(100000)),

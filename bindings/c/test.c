@@ -195,6 +195,27 @@ static void long_line(uint64_t form, uint64_t number, uint64_t entries, uint64_t
     same("long line's names", vcfh_dictionaries(large, length, 0, 0, 0, form, table, WORDS, strings, 2, names, 2).number, number);
 }
 
+/* Where very many entries are written notes stand in the table for a while: afterwards it is what reading left. */
+static void many_lines(uint64_t form) {
+    enum { LINES = 100000, KEYS = 10, LENGTH = 21 + 5 * LINES + sizeof COLUMNS };
+    static uint8_t header[LENGTH], wanted[LENGTH], put[LENGTH];
+    static uint64_t as_read[3 * LINES + 6], after[3 * LINES + 6];
+    memcpy(header, "##fileformat=VCFv4.3\n", 21), memcpy(header + LENGTH - sizeof COLUMNS, COLUMNS "\n", sizeof COLUMNS);
+    memcpy(wanted, header, LENGTH);
+    for (unsigned i = 0; i < LINES; i++) {
+        uint8_t line[5] = {'#', '#', 'a' + i % KEYS, '=', '\n'};
+        memcpy(header + 21 + 5 * i, line, 5);
+        line[2] = 'a' + i / (LINES / KEYS);
+        memcpy(wanted + 21 + 5 * i, line, 5);
+    }
+    memset(as_read, 0, sizeof as_read), memset(after, 0, sizeof after);
+    same("many lines", vcfh_read(header, LENGTH, 0, 0, 0, form, as_read, 3 * LINES + 6).entries, LINES + 2);
+    same("many lines' form", vcfh_house(header, LENGTH, 0, 0, 0, form, after, 3 * LINES + 6, put, LENGTH).length, LENGTH);
+    same("many lines, by key", memcmp(put, wanted, LENGTH) != 0, 0), same("many lines' table", memcmp(after, as_read, sizeof after) != 0, 0);
+    same("many lines differ", vcfh_is_house(header, LENGTH, 0, 0, 0, form, after, 3 * LINES + 6).differs, 28);
+    same("many lines' table again", memcmp(after, as_read, sizeof after) != 0, 0);
+}
+
 /* Entry 1 is the FILTER x, entry 2 the INFO x and entry 3 the contig a"b, each at another place of eight; that of a contig x is open. */
 static void indexes(uint64_t form, uint64_t other) {
     const char *header = "##fileformat=VCFv4.3\n##FILTER=<ID=x,Description=d>\n##INFO=<ID=x,Number=1,Type=Float,Description=d>\n"
@@ -487,6 +508,7 @@ int main(void) {
     indexes(VCFH_FIRST, VCFH_SECOND), indexes(VCFH_SECOND, VCFH_FIRST), indexes(0, VCFH_SECOND), indexes(3, VCFH_SECOND);
     season(VCFH_FIRST), season(VCFH_SECOND);
     long_line(VCFH_FIRST, 2, 1, 2, 2), long_line(VCFH_SECOND, 0, 3, 28, 39);
+    many_lines(VCFH_FIRST), many_lines(VCFH_SECOND);
     pieces(VCFH_FIRST), pieces(VCFH_SECOND), feeding();
     same("UTF-8", vcfh_utf8(bytes("\xc3\xa9"), 2), 1);
     same("no UTF-8", vcfh_utf8(bytes("\xc3\xa9"), 1), 0);

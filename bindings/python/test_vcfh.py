@@ -502,6 +502,37 @@ class LongTest(unittest.TestCase):
         formed = [line for n, one in enumerate(lines) for line in [one, *(a for a in again if a.startswith(b"##k%d=" % n))]]
         self.assertEqual(vcfh.house_form(self.header(lines + again), form=vcfh.SECOND), self.header(formed))
 
+    def test_the_house_form_of_very_many_lines(self):
+        """Keys by first appearance, each with its lines in order, whatever the keys are and however many."""
+        for lines in (
+            [b"##k%d=%d" % (n * n % 301, n) for n in range(120000)],
+            [b"##k%d=%d" % (n * 7919 % 60000, n) for n in range(120000)],
+            [b"##k%d=%d" % (n % 130000, n) for n in range(260000)],
+            [b"##k%d=<ID=i%d>" % (n % 50, n) if n % 2 else b"##k%d=x" % (n % 50) for n in range(120000)],
+        ):
+            by_key = {}
+            for line in lines:
+                by_key.setdefault(line.split(b"=")[0], []).append(line)
+            formed = self.header([line for key in by_key for line in by_key[key]])
+            with self.subTest(first=lines[:3], lines=len(lines)):
+                self.assertEqual(vcfh.house_form(self.header(lines), form=vcfh.SECOND), formed)
+                self.assertEqual(vcfh.house_difference(self.header(lines), form=vcfh.SECOND), next(k for k, (a, b) in enumerate(zip(self.header(lines), formed)) if a != b))
+                self.assertTrue(vcfh.is_house(formed, form=vcfh.SECOND))
+
+    def test_a_map_is_found_beside_a_text_of_its_key_however_far_it_lies_back(self):
+        lines = [b"##k%06d=%s" % (n, b"x" * 20) for n in range(150000)]
+        self.assertEqual(len(vcfh.Header(self.header(lines), form=vcfh.SECOND)), 150002)
+        for again, first in ((149999, 0), (149999, 149998), (120000, 30000)):
+            with self.subTest(again=again, first=first):
+                self.refused_at(20, lines[:again] + [b"##k%06d=<ID=a>" % first] + lines[again + 1 :], again)
+
+    def test_an_id_with_parts_is_found_again(self):
+        lines = [b"##contig=<ID=HG%05d#1#chr%d>" % (n // 25, n % 25) for n in range(150000)]
+        self.assertEqual(len(vcfh.Header(self.header(lines), form=vcfh.SECOND)), 150002)
+        for again, first in ((149999, 0), (120000, 30001), (149999, 149998)):
+            with self.subTest(again=again, first=first):
+                self.refused_at(19, lines[:again] + [lines[first]] + lines[again + 1 :], again)
+
     def test_the_dictionary_of_ids_in_several_kinds(self):
         filters = [b'##FILTER=<ID=q%d,Description="d">' % n for n in range(5000)]
         infos = [b'##INFO=<ID=q%d,Number=1,Type=Integer,Description="d">' % n for n in range(2500, 7500)]

@@ -1,231 +1,205 @@
--- Names by classes: what their marks tell, and that names are distinct where those of each class are. Assumes nothing.
+-- Names that are such: what their marks tell, and that names are distinct where each is one of some that are. Assumes nothing.
 use Prim.Native.Nat.{ℕ, _+_, _%_, _^_, _≤_, _<_}
 use native.Mathlib.Omega.{arith}
 use native.Mathlib.Nat.{mod-lt}
 use mathlib.Core.Path.{_≡_, refl, sym, ap, _∙_}
-use mathlib.Core.Bool.{Bool, true, false, not, _&&_, false≢true}
-use mathlib.Core.List.{List, [], _∷_}
-use lib.Dec.{eqb, leb, ltb}
+use mathlib.Core.Bool.{Bool, true, false, not, _||_, _&&_, false≢true}
+use mathlib.Core.List.{List, [], _∷_, _++_}
+use lib.Dec.{ltb}
 use lib.ListN.{length, drop}
-use borrow.Author.Tests.{eq-eqb, le-leb, lt-leb, ltb-true, ltb-false}
-use Rattle.values.specs.Bytes.{Bytes}
+use borrow.Author.Tests.{eq-eqb, ne-eqb, ltb-true, ltb-false}
+use Rattle.values.specs.Bytes.{Bytes, same}
 use Rattle.values.specs.Hash.{wideBasis, wideStep, wideFrom, wideOf}
-use Rattle.values.specs.Marks.{isMet, meet, isMarked, mark}
-use Rattle.values.proofs.Tests.{pass, fail, test, and-l, and-r, not-true}
-use Rattle.values.proofs.Markings.{meet-length, meet-own, meet-kept}
+use Rattle.values.specs.Marks.{isMet, meet, isMarked}
+use Rattle.values.proofs.Tests.{pass, fail, test, both, or-r, or-on, and-l, and-r, and-off, not-true, not-false}
+use Rattle.values.proofs.Sames.{same-sound, same-sym}
+use Rattle.values.proofs.Markings.{none-met, meet-length, meet-kept}
 use Rattle.rules.specs.Known.{isIn}
 use Rattle.rules.specs.Columns.{split, distinct}
 use Rattle.rules.specs.Entry.{sampleKind}
 use Rattle.columns.specs.declared.header_line.ColumnsRead.{ColumnsRead}
-use Rattle.columns.specs.declared.header_line.ColumnsRead.the-variants as read
-use Rattle.columns.specs.HeaderLines.{samplesRead, isOf, distinctOf, again, isMarkedIn, markIn, markOf}
+use Rattle.columns.specs.HeaderLines.{samplesRead, isOf, again, isDoubted, isClear, isSure, distinctOf, meetIf, markIf, doubtIf, Doubts}
 
--- what answers the needs of `is_of`
-pub of-one : (n k : ℕ) (name : Bytes) → n ≤ 1 → true ≡ isOf n k name
-unfolding isOf
-of-one n k name l = rw (le-leb n 1 l)
+-- what answers the need of `name_hash`
+pub own-hash : (name : Bytes) {x : ℕ} → x ≡ wideStep wideBasis 10 → {y : ℕ} → y ≡ wideFrom x name → y ≡ wideOf sampleKind name
+unfolding wideOf
+own-hash name a b = rw (b, a)
 
-pub of-some : (n k : ℕ) (name : Bytes) → 1 < n → {x : ℕ} → x ≡ wideFrom wideBasis name → {y : ℕ} → y ≡ wideStep x 0 → eqb (y % 4294967296 % n) k ≡ isOf n k name
-unfolding isOf
-of-some n k name l a b = rw (lt-leb n 1 l, b, a)
+-- what is marked stays so
+module _ (ms : List ℕ) (hash : ℕ) where
+  pub if-length : (b : Bool) → length (meetIf b ms hash) ≡ length ms
+  if-length true = meet-length ms hash
+  if-length false = refl
 
-pub ruleset classes = (of-one, of-some)
+  pub if-kept : (b : Bool) (other : ℕ) → isMet ms other ≡ true → isMet (meetIf b ms hash) other ≡ true
+  if-kept true other a = meet-kept ms hash other a
+  if-kept false other a = a
 
--- what answers the needs of `meet_name`
-module _ (n : ℕ) (ms : List ℕ) (name : Bytes) {x : ℕ} (a : x ≡ wideStep wideBasis 10) {y : ℕ} (b : y ≡ wideFrom x name) where
-  own-hash : y ≡ wideOf sampleKind name
-  unfolding wideOf
-  own-hash = rw (b, a)
+-- what answers the needs of `doubt_name`
+module _ (n k : ℕ) (ms ds : List ℕ) (name : Bytes) {h : ℕ} (eh : h ≡ wideOf sampleKind name) where
+  module _ (ne : h % 4294967296 % n ≡ k → ⊥) where
+    not-of : isOf n k name ≡ false
+    unfolding isOf
+    not-of = rw (← eh) (ne-eqb (h % 4294967296 % n) k ne)
 
-  module _ {m : Bool} (c : m ≡ isMet ms y) where
-    first-met : m ≡ isMarked ms sampleKind name
-    unfolding isMarked
-    first-met = c ∙ ap (isMet ms) own-hash
+    pub other-marks : ms ≡ markIf (isOf n k name) ms name
+    other-marks = rw not-of
 
-    module _ {ms₁ : List ℕ} (d : ms₁ ≡ meet ms y) where
-      first-marks : ms₁ ≡ mark ms sampleKind name
-      unfolding mark
-      first-marks = d ∙ ap (meet ms) own-hash
+    pub other-doubts : ds ≡ doubtIf (isOf n k name && isMarked ms sampleKind name) ds name
+    other-doubts = rw not-of
 
-      pub one-met : n ≤ 1 → m ≡ isMarkedIn n ms name
-      unfolding isMarkedIn
-      one-met l = first-met ∙ rw (le-leb n 1 l) (sym (and-all (isMarked ms sampleKind name)))
-        where
-          and-all : (o : Bool) → (o && true) ≡ o
-          and-all true = refl
-          and-all false = refl
+  module _ (e : h % 4294967296 % n ≡ k) where
+    of-class : isOf n k name ≡ true
+    unfolding isOf
+    of-class = rw (← eh) (eq-eqb (h % 4294967296 % n) k e)
 
-      pub one-marks : n ≤ 1 → ms₁ ≡ markIn n ms name
-      unfolding markIn
-      one-marks l = first-marks ∙ rw (markIn, le-leb n 1 l)
+    pub own-marks : {ns : List ℕ} → ns ≡ meet ms h → ns ≡ markIf (isOf n k name) ms name
+    own-marks i = i ∙ rw (of-class, eh)
 
-      module _ (l : 1 < n) {z : ℕ} (e : z ≡ wideStep y 1) where
-        second-hash : z ≡ again name
-        second-hash = e ∙ ap (λ (h : ℕ). wideStep h 1) own-hash
+    module _ {q : Bool} (eq : q ≡ isMet ms h) where
+      met-is : isMarked ms sampleKind name ≡ q
+      unfolding isMarked
+      met-is = ap (isMet ms) (sym eh) ∙ sym eq
 
-        pub both-met : {q : Bool} → q ≡ isMet ms₁ z → (m && q) ≡ isMarkedIn n ms name
-        unfolding isMarkedIn
-        both-met f = rw (lt-leb n 1 l, f, first-met, first-marks, second-hash)
+      pub no-doubts : not q ≡ true → ds ≡ doubtIf (isOf n k name && isMarked ms sampleKind name) ds name
+      no-doubts f = rw (of-class, met-is ∙ not-true q f)
 
-        pub both-marks : {ms₂ : List ℕ} → ms₂ ≡ meet ms₁ z → ms₂ ≡ markIn n ms name
-        unfolding markIn
-        both-marks f = f ∙ rw (markIn, lt-leb n 1 l, first-marks, second-hash)
+      pub own-doubts : not q ≡ false → {i : ℕ} → i ≡ wideStep h 1 → {es : List ℕ} → es ≡ meet ds i → es ≡ doubtIf (isOf n k name && isMarked ms sampleKind name) ds name
+      own-doubts t ei j = j ∙ rw (of-class, met-is ∙ not-false q t, ei, eh)
 
-pub ruleset meetings = (one-met, one-marks, both-met, both-marks, meet-length)
+pub ruleset doubted = (other-marks, other-doubts, own-marks, no-doubts, own-doubts, meet-length)
 
--- What is marked stays so
+-- One name more
 
-module _ (n : ℕ) (ms : List ℕ) (name : Bytes) where
-  in-length : length (markIn n ms name) ≡ length ms
-  unfolding markIn mark
-  in-length = elim (test (leb n 1)) [
-    | pass e ↦ rw (markIn, e) (meet-length ms (wideOf sampleKind name))
-    | fail e ↦ rw (markIn, e) (meet-length (meet ms (wideOf sampleKind name)) (again name) ∙ meet-length ms (wideOf sampleKind name))
+pub in-append : (x : Bytes) (xs ys : List Bytes) → isIn x (xs ++ ys) ≡ (isIn x xs || isIn x ys)
+unfolding isIn
+in-append x [] ys = refl
+in-append x (y ∷ xs) ys = elim (test (same y x)) [
+  | pass e ↦ rw e
+  | fail e ↦ rw e (in-append x xs ys)
+]
+
+module _ (such : Bytes → Bool) where
+  pub distinct-twice : (xs : List Bytes) (y : Bytes) (ys : List Bytes) → such y ≡ true → isIn y xs ≡ true → distinctOf such (xs ++ y ∷ ys) ≡ false
+  unfolding isIn distinctOf
+  distinct-twice [] y ys o e = absurd (false≢true e)
+  distinct-twice (x ∷ xs) y ys o e = elim (test (same x y)) [
+    | pass f ↦
+        let own : such x ≡ true = ap such (same-sound x y f) ∙ o in
+        rw (own, in-append x xs (y ∷ ys), isIn, same-sym y x, f, or-on (isIn x xs) {b = true} refl)
+    | fail f ↦ and-off (not (such x && isIn x (xs ++ y ∷ ys))) (distinct-twice xs y ys o (rw f at e))
   ]
 
-  -- whatever was met is met still
-  in-kept : (hash : ℕ) → isMet ms hash ≡ true → isMet (markIn n ms name) hash ≡ true
-  unfolding markIn mark
-  in-kept hash a =
-      let first = meet-kept ms (wideOf sampleKind name) hash a in
-      elim (test (leb n 1)) [
-        | pass e ↦ rw (markIn, e) first
-        | fail e ↦ rw (markIn, e) (meet-kept (meet ms (wideOf sampleKind name)) (again name) hash first)
+  pub distinct-more : (xs : List Bytes) (y : Bytes) → distinctOf such xs ≡ true → (such y && isIn y xs) ≡ false → distinctOf such (xs ++ y ∷ []) ≡ true
+  unfolding isIn distinctOf
+  distinct-more [] y d e = rw (and-off (such y) {b = false} refl)
+  distinct-more (x ∷ xs) y d e =
+      let c : distinctOf such (xs ++ y ∷ []) ≡ true
+      = distinct-more xs y (and-r (not (such x && isIn x xs)) (distinctOf such xs) d) (and-later (such y) (same x y) (isIn y xs) e) in
+      elim (test (such x)) [
+        | fail f ↦ rw (f, c)
+        | pass f ↦
+            let a : isIn x xs ≡ false = not-true (isIn x xs) (rw f at (and-l (not (such x && isIn x xs)) (distinctOf such xs) d)) in
+            elim (test (same y x)) [
+              | fail g ↦ rw (f, in-append x xs (y ∷ []), a, g, c)
+              | pass g ↦
+                  let own : such y ≡ true = ap such (same-sound y x g) ∙ f in
+                  let here : same x y ≡ true = same-sym x y ∙ g in absurd (false≢true (sym e ∙ rw (own, here)))
+            ]
       ]
+    where
+      and-later : (o a b : Bool) → (o && (a || b)) ≡ false → (o && b) ≡ false
+      and-later true a b h = or-r a b h
+      and-later false a b h = refl
 
--- the marks of a name stand
-pub record Both (n : ℕ) (ms : List ℕ) (name : Bytes) : Type 0 where
-  pub first : isMet ms (wideOf sampleKind name) ≡ true
-  pub second : leb n 1 ≡ false → isMet ms (again name) ≡ true
+-- Names are distinct where each is one of some that are
 
-pub marked-by : {n : ℕ} {ms : List ℕ} {name : Bytes} → Both n ms name → isMarkedIn n ms name ≡ true
-unfolding isMarkedIn isMarked mark
-marked-by {n} {ms} {name} b = elim (test (leb n 1)) [
-  | pass e ↦ rw (b .first, e)
-  | fail e ↦ rw (b .first, e, meet-kept ms (wideOf sampleKind name) (again name) (b .second e))
-]
-
-module _ (n k : ℕ) (ms : List ℕ) (name : Bytes) where
-  pub of-length : length (markOf n k ms name) ≡ length ms
-  unfolding markOf
-  of-length = elim (test (isOf n k name)) [ pass e ↦ rw (markOf, e) (in-length n ms name) | fail e ↦ rw (markOf, e) ]
-
-  pub of-own : isOf n k name ≡ true → Both n (markOf n k ms name) name
-  unfolding markOf markIn mark
-  of-own o =
-      let own = meet-own ms (wideOf sampleKind name) in
-      elim (test (leb n 1)) [
-        | pass e ↦ record { first = rw (markOf, o, markIn, e) own; second = λ f. absurd (false≢true (sym f ∙ e)) }
-        | fail e ↦ record {
-          first = rw (markOf, o, markIn, e) (meet-kept (meet ms (wideOf sampleKind name)) (again name) (wideOf sampleKind name) own);
-          second = λ f. rw (markOf, o, markIn, e) (meet-own (meet ms (wideOf sampleKind name)) (again name));
-        }
-      ]
-
-  pub of-kept : {x : Bytes} → Both n ms x → Both n (markOf n k ms name) x
-  unfolding markOf
-  of-kept {x} b = elim (test (isOf n k name)) [
-    | pass e ↦ record { first = rw (markOf, e) (in-kept n ms name (wideOf sampleKind x) (b .first)); second = λ f. rw (markOf, e) (in-kept n ms name (again x) (b .second f)) }
-    | fail e ↦ record { first = rw (markOf, e) (b .first); second = λ f. rw (markOf, e) (b .second f) }
-  ]
-
--- Names are distinct where those of each class are
-
-one-class : (xs : List Bytes) → distinctOf 1 0 xs ≡ distinct xs
-unfolding distinctOf distinct isOf
-one-class [] = refl
-one-class (x ∷ xs) = rw (one-class xs)
-
-some-class : (n k : ℕ) (xs : List Bytes) → distinctOf n k xs ≡ false → distinct xs ≡ false
-unfolding distinctOf distinct
-some-class n k [] e = e
-some-class n k (x ∷ xs) e = elim (test (isIn x xs)) [
-  | pass f ↦ rw f
-  | fail f ↦ rw f (some-class n k xs (rw (f, and-none (isOf n k x)) at e))
-]
-  where
-    and-none : (o : Bool) → (o && false) ≡ false
-    and-none true = refl
-    and-none false = refl
-
-own-class : (n : ℕ) (x : Bytes) → 0 < n → (k : ℕ) × (k < n) × (isOf n k x ≡ true)
-unfolding isOf
-own-class n x l = elim (test (leb n 1)) [
-  | pass e ↦ (0, l, rw e)
-  | fail e ↦ let h = wideStep (wideFrom wideBasis x) 0 % 2 ^ 32 in (h % n, mod-lt h l, rw (e, eq-eqb (h % n) (h % n) refl))
-]
-
-all-classes : (n : ℕ) → 0 < n → (xs : List Bytes) → ((k : ℕ) → k < n → distinctOf n k xs ≡ true) → distinct xs ≡ true
-unfolding distinctOf distinct
-all-classes n l [] f = refl
-all-classes n l (x ∷ xs) f =
-    let own = own-class n x l in
-    let k = own .0 in
-    let fresh : not (isOf n k x && isIn x xs) ≡ true = and-l (not (isOf n k x && isIn x xs)) (distinctOf n k xs) (f k (own .1)) in
-    let none : isIn x xs ≡ false = not-true (isIn x xs) (rw (own .2) at fresh) in
-    rw none (all-classes n l xs (λ j m. and-r (not (isOf n j x && isIn x xs)) (distinctOf n j xs) (f j m)))
-
--- what answers the needs of those that count: one class, and one after the other
-pub count-one : (s : Bytes) {r : ColumnsRead} → r ≡ samplesRead (distinctOf 1 0 (split (drop 46 s))) (length (split (drop 46 s)))
-    → r ≡ samplesRead (distinct (split (drop 46 s))) (length (split (drop 46 s)))
-count-one s e = e ∙ ap (λ (d : Bool). samplesRead d (length (split (drop 46 s)))) (one-class (split (drop 46 s)))
-
-abbrev counted : ColumnsRead → Bool
-counted (read.Columns f m) = true
-counted read.WrongColumn = false
-counted read.DuplicateSample = false
-
-abbrev wrong : ColumnsRead → Bool
-wrong (read.Columns f m) = false
-wrong read.WrongColumn = true
-wrong read.DuplicateSample = false
-
-pub record Classing (s : Bytes) (n k : ℕ) : Type 0 where
-  pub some : 0 < n
-  pub inside : k < n
-  pub fresh : (j : ℕ) → j < k → distinctOf n j (split (drop 46 s)) ≡ true
-
-pub class-start : (s : Bytes) (n : ℕ) → Classing s (n + 1) 0
-class-start s n = record { some = omega arith; inside = omega arith; fresh = λ j l. absurd (omega arith) }
-
-module _ {s : Bytes} {n k : ℕ} (g : Classing s n k) {r : ColumnsRead} (e : r ≡ samplesRead (distinctOf n k (split (drop 46 s))) (length (split (drop 46 s)))) where
-  abbrev names : List Bytes
-  names = split (drop 46 s)
-
-  by-class : (d : Bool) → distinctOf n k names ≡ d → r ≡ samplesRead d (length names)
-  by-class d f = e ∙ ap (λ (b : Bool). samplesRead b (length names)) f
-
-  fresh-by : {f : Bool} {m : ℕ} → r ≡ read.Columns f m → distinctOf n k names ≡ true
-  fresh-by c = elim (test (distinctOf n k names)) [
-    | pass d ↦ d
-    | fail d ↦ absurd (false≢true (sym (ap counted (by-class false d)) ∙ ap counted c))
-  ]
-
-  pub class-twice : r ≡ read.DuplicateSample → read.DuplicateSample ≡ samplesRead (distinct names) (length names)
-  class-twice c = elim (test (distinctOf n k names)) [
-    | pass d ↦ absurd (false≢true (sym (ap counted c) ∙ ap counted (by-class true d)))
-    | fail d ↦ ap (λ (b : Bool). samplesRead b (length names)) (sym (some-class n k names d))
-  ]
-
-  pub class-wrong : r ≡ read.WrongColumn → read.WrongColumn ≡ samplesRead (distinct names) (length names)
-  class-wrong c = elim (test (distinctOf n k names)) [
-    | pass d ↦ absurd (false≢true (sym (ap counted c) ∙ ap counted (by-class true d)))
-    | fail d ↦ absurd (false≢true (sym (ap wrong (by-class false d)) ∙ ap wrong c))
-  ]
-
-  module _ {f : Bool} {m : ℕ} (c : r ≡ read.Columns f m) where
-    so-far : (j : ℕ) → j < k + 1 → distinctOf n j names ≡ true
-    so-far j l = elim (test (ltb j k)) [
-      | pass d ↦ g .fresh j (ltb-true j k d)
-      | fail d ↦ let z : j ≡ k = omega (arith, ltb-false j k d) in rw z (fresh-by c)
+distinct-each : (such : Bytes → Bool) (xs : List Bytes) → ((x : Bytes) → such x ≡ true → (some : Bytes → Bool) × (some x ≡ true) × (distinctOf some xs ≡ true))
+    → distinctOf such xs ≡ true
+unfolding distinctOf
+distinct-each such [] f = refl
+distinct-each such (x ∷ xs) f =
+    let rest : distinctOf such xs ≡ true
+    = distinct-each such xs (λ y o. let r = f y o in (r .0, r .1, and-r (not (r .0 x && isIn x xs)) (distinctOf (r .0) xs) (r .2))) in
+    elim (test (such x)) [
+      | fail e ↦ rw (e, rest)
+      | pass e ↦
+          let r = f x e in
+          let a : isIn x xs ≡ false = not-true (isIn x xs) (rw (r .1) at (and-l (not (r .0 x && isIn x xs)) (distinctOf (r .0) xs) (r .2))) in
+          rw (e, a, rest)
     ]
 
-    pub class-next : k + 1 < n → Classing s n (k + 1)
-    class-next l = record { some = g .some; inside = l; fresh = so-far }
+pub distinct-fewer : (such some : Bytes → Bool) → ((x : Bytes) → such x ≡ true → some x ≡ true) → (xs : List Bytes) → distinctOf some xs ≡ true → distinctOf such xs ≡ true
+distinct-fewer such some f xs d = distinct-each such xs (λ x o. (some, f x o, d))
 
-    pub class-last : n ≤ k + 1 → read.Columns f m ≡ samplesRead (distinct names) (length names)
-    class-last l =
-        let z : k + 1 ≡ n = omega (arith, g .inside) in
-        sym c ∙ by-class true (fresh-by c) ∙ ap (λ (b : Bool). samplesRead b (length names)) (sym (all-classes n (g .some) names (λ j i. so-far j (omega arith))))
+all-classes : (n : ℕ) → 0 < n → (ds : List ℕ) (xs : List Bytes) → ((k : ℕ) → k < n → distinctOf (isSure n k ds) xs ≡ true) → distinctOf (isClear ds) xs ≡ true
+unfolding isSure isOf
+all-classes n l ds xs f = distinct-each (isClear ds) xs (λ x o.
+    let h = wideOf sampleKind x % 2 ^ 32 in
+    (isSure n (h % n) ds, rw (eq-eqb (h % n) (h % n) refl) o, f (h % n) (mod-lt h l)))
 
-pub ruleset classings = (class-start, class-next, class-last, class-twice, class-wrong)
+-- where no clear name stands twice, only those in doubt may
+clear-and-doubted : (ds : List ℕ) (xs : List Bytes) → distinctOf (isClear ds) xs ≡ true → distinctOf (isDoubted ds) xs ≡ distinct xs
+unfolding isClear distinctOf distinct
+clear-and-doubted ds xs c = elim (test (distinctOf (isDoubted ds) xs)) [
+  | pass d ↦ d ∙ sym (sym (each xs) ∙ distinct-each (λ (x : Bytes). true) xs (λ x o. elim (test (isDoubted ds x)) [ pass e ↦ (isDoubted ds, e, d) | fail e ↦ (isClear ds, rw e, c) ]))
+  | fail d ↦ elim (test (distinct xs)) [
+    | pass e ↦ both (distinct-fewer (isDoubted ds) (λ (x : Bytes). true) (λ x o. refl) xs (each xs ∙ e)) d
+    | fail e ↦ d ∙ sym e
+  ]
+]
+  where
+    each : (xs : List Bytes) → distinctOf (λ (x : Bytes). true) xs ≡ distinct xs
+    each [] = refl
+    each (x ∷ xs) = rw (each xs)
+
+-- what answers the needs of those that count: where there are no doubts, no name is clear
+pub none-clear : (ds : List ℕ) (xs : List Bytes) → length ds ≡ 0 → distinctOf (isClear ds) xs ≡ true
+unfolding isClear isDoubted
+none-clear ds xs e = distinct-each (isClear ds) xs (λ x o. both (sym (none-met ds (again x) e)) (not-true (isMet ds (again x)) o))
+
+pub count-doubted : (ds s : Bytes) {r : ColumnsRead} → r ≡ samplesRead (distinctOf (isDoubted ds) (split (drop 46 s))) (length (split (drop 46 s)))
+    → distinctOf (isClear ds) (split (drop 46 s)) ≡ true → r ≡ samplesRead (distinct (split (drop 46 s))) (length (split (drop 46 s)))
+count-doubted ds s e c = e ∙ ap (λ (d : Bool). samplesRead d (length (split (drop 46 s)))) (clear-and-doubted ds (split (drop 46 s)) c)
+
+pub ruleset counted = (none-clear, count-doubted)
+
+-- Class by class
+
+pub sure-less : (n k : ℕ) (ds es : List ℕ) → ((x : Bytes) → isDoubted ds x ≡ true → isDoubted es x ≡ true) → (x : Bytes) → isSure n k es x ≡ true → isSure n k ds x ≡ true
+unfolding isSure isClear
+sure-less n k ds es up x o = elim (test (isDoubted ds x)) [
+  | pass e ↦ both (up x e) (not-true (isDoubted es x) (and-r (isOf n k x) (not (isDoubted es x)) o))
+  | fail e ↦ rw (and-l (isOf n k x) (not (isDoubted es x)) o, e)
+]
+
+-- what answers the needs of `doubt_classes`: no clear name of a class before k stands twice
+pub record Classing (s : Bytes) (n k : ℕ) (ds₀ ds : List ℕ) : Type 0 where
+  pub some : 0 < n
+  pub long : length ds ≡ length ds₀
+  pub fresh : (j : ℕ) → j < k → distinctOf (isSure n j ds) (split (drop 46 s)) ≡ true
+
+pub class-start : (s : Bytes) (n : ℕ) (ds : List ℕ) → Classing s (n + 1) 0 ds ds
+class-start s n ds = record { some = omega arith; long = refl; fresh = λ j l. absurd (omega arith) }
+
+module _ {s : Bytes} {n k : ℕ} {ds₀ ds : List ℕ} (g : Classing s n k ds₀ ds) where
+  pub class-some : 0 < n
+  class-some = g .some
+
+  pub class-long : length ds ≡ length ds₀
+  class-long = g .long
+
+  pub class-next : {es : List ℕ} → Doubts n k (split (drop 46 s)) ds es → length es ≡ length ds → Classing s n (k + 1) ds₀ es
+  class-next {es} d el = record {
+    some = g .some;
+    long = el ∙ g .long;
+    fresh = λ j l. elim (test (ltb j k)) [
+      | pass q ↦ distinct-fewer (isSure n j es) (isSure n j ds) (sure-less n j ds es (d .kept)) (split (drop 46 s)) (g .fresh j (ltb-true j k q))
+      | fail q ↦ let z : j ≡ k = omega (arith, ltb-false j k q) in rw z (d .fresh)
+    ];
+  }
+
+  pub class-last : n ≤ k → distinctOf (isClear ds) (split (drop 46 s)) ≡ true
+  class-last l = all-classes n (g .some) ds (split (drop 46 s)) (λ j i. g .fresh j (omega arith))
+
+pub ruleset classings = (class-start, class-some, class-long, class-next, class-last)

@@ -1,4 +1,4 @@
--- Whether a name was met, and how many names there are: a turn of each loop on plain values. Assumes nothing.
+-- Whether a name was met, how many names there are, and which are in doubt: a turn of each loop on plain values. Assumes nothing.
 use Prim.Native.Nat.{ℕ, _+_, _-_, _≤_, _<_}
 use native.Mathlib.Omega.{arith}
 use mathlib.Core.Path.{_≡_, refl, sym, ap, _∙_}
@@ -7,16 +7,23 @@ use mathlib.Core.List.{List, [], _∷_, _++_}
 use lib.ListN.{length, drop, take, length-append, take-append-drop}
 use lib.Seq.{drop-drop}
 use Rattle.values.specs.Bytes.{Bytes, is, before, same, TAB}
-use Rattle.values.proofs.Tests.{pass, fail, test, both, or-r, or-on, and-l, and-r, and-off, not-true, not-false}
+use Rattle.values.specs.Hash.{wideStep, wideOf}
+use Rattle.values.specs.Marks.{isMet, meet, isMarked}
+use Rattle.values.proofs.Tests.{pass, fail, test, both, and-l, and-r, and-off, not-true, not-false}
 use Rattle.values.proofs.Lists.{there, past, stands, before-none}
-use Rattle.values.proofs.Sames.{same-sound, same-sym}
-use Rattle.values.proofs.Markings.{sure}
+use Rattle.values.proofs.Sames.{same-sound}
+use Rattle.values.proofs.Markings.{meet-own, sure}
 use Rattle.rules.specs.Known.{isIn}
 use Rattle.rules.specs.Columns.{split}
+use Rattle.rules.specs.Entry.{sampleKind}
 use Rattle.columns.specs.declared.header_line.ColumnsRead.the-variants as read
-use Rattle.columns.specs.HeaderLines.{samplesRead, ended, isOf, distinctOf, isMarkedIn, markIn, isRepeated, markOf}
-use Rattle.columns.proofs.Classes.{Both, marked-by, of-length, of-own, of-kept}
+use Rattle.columns.specs.HeaderLines.{samplesRead, ended, isOf, again, isDoubted, isClear, isSure, distinctOf, markIf, doubtIf, isRepeated, markOf, Doubts}
+use Rattle.columns.proofs.Classes.{if-length, if-kept, in-append, distinct-twice, distinct-more, distinct-fewer, sure-less}
 use Rattle.columns.proofs.Splits.{name-part, part-tab, split-last, split-more, ended-none, ended-more, ended-names, names-more}
+
+-- the name that stands at `at`
+abbrev nameAt : Bytes → ℕ → Bytes
+nameAt s at = before (is TAB) (drop at s)
 
 -- the names before `at` are others
 pub record Looking (names name : Bytes) (at : ℕ) : Type 0 where
@@ -25,7 +32,7 @@ pub record Looking (names name : Bytes) (at : ℕ) : Type 0 where
 pub look-all : (names name : Bytes) → Looking names name 0
 look-all names name = record { still = refl }
 
-module _ {names name : Bytes} {at : ℕ} (g : Looking names name at) {end : ℕ} (a : end ≡ at + length (before (is TAB) (drop at names))) where
+module _ {names name : Bytes} {at : ℕ} (g : Looking names name at) {end : ℕ} (a : end ≡ at + length (nameAt names at)) where
   pub names-ended : length names ≤ end → false ≡ isIn name (ended names)
   unfolding isIn
   names-ended h = sym (g .still ∙ rw (ended-none names at a h))
@@ -42,181 +49,196 @@ module _ {names name : Bytes} {at : ℕ} (g : Looking names name at) {end : ℕ}
     pub name-next : q ≡ false → Looking names name (end + 1)
     name-next e = record { still = turn ∙ rw e }
 
-pub name-less : (s : Bytes) (at : ℕ) {stop : ℕ} → stop ≡ at + length (before (is TAB) (drop at s)) → stop < length s → length s - (stop + 1) < length s - at
+pub name-less : (s : Bytes) (at : ℕ) {stop : ℕ} → stop ≡ at + length (nameAt s at) → stop < length s → length s - (stop + 1) < length s - at
 name-less s at a h = omega arith
 
 pub ruleset looks = (look-all, names-ended, name-found, name-next, name-less)
 
--- what answers the needs of `is_repeated`: q is whether the name is of the class, m what the marks answered
-module _ (n k : ℕ) (names ms name : Bytes) {q : Bool} (e : q ≡ isOf n k name) where
-  pub name-apart : not q ≡ true → false ≡ isRepeated n k names ms name
+-- what answers the needs of `is_repeated`
+module _ (ds names ms name : Bytes) {h : ℕ} (eh : h ≡ wideOf sampleKind name) {i : ℕ} (ei : i ≡ wideStep h 1) {d : Bool} (ed : d ≡ isMet ds i) where
+  doubt-is : isDoubted ds name ≡ d
+  unfolding isDoubted
+  doubt-is = sym (ed ∙ rw (ei, eh))
+
+  pub name-clear : not d ≡ true → false ≡ isRepeated ds names ms name
   unfolding isRepeated
-  name-apart f = rw (← e, not-true q f)
+  name-clear f = rw (doubt-is, not-true d f)
 
-  pub name-left : not q ≡ true → ms ≡ markOf n k ms name
-  unfolding markOf
-  name-left f = rw (markOf, ← e, not-true q f)
+  pub clear-marks : not d ≡ true → ms ≡ markOf ds ms name
+  clear-marks f = rw (doubt-is, not-true d f)
 
-  module _ (o : not q ≡ false) where
-    pub name-held : {ms′ : Bytes} → ms′ ≡ markIn n ms name → ms′ ≡ markOf n k ms name
-    unfolding markOf
-    name-held f = f ∙ rw (markOf, ← e, not-false q o)
+  module _ (t : not d ≡ false) where
+    pub doubted-marks : {ns : Bytes} → ns ≡ meet ms h → ns ≡ markOf ds ms name
+    doubted-marks e = e ∙ rw (doubt-is, not-false d t, eh)
 
-    module _ {m : Bool} (d : m ≡ isMarkedIn n ms name) where
-      pub name-unmarked : not m ≡ true → false ≡ isRepeated n k names ms name
-      unfolding isRepeated
-      name-unmarked f = rw (← e, not-false q o, ← d, not-true m f)
+    module _ {q : Bool} (eq : q ≡ isMet ms h) where
+      pub name-unmarked : not q ≡ true → false ≡ isRepeated ds names ms name
+      unfolding isRepeated isMarked
+      name-unmarked f = rw (doubt-is, not-false d t, ← eh, ← eq, not-true q f)
 
-      pub name-looked : not m ≡ false → {r : Bool} → r ≡ isIn name (ended names) → r ≡ isRepeated n k names ms name
-      unfolding isRepeated
-      name-looked f g = g ∙ rw (← e, not-false q o, ← d, not-false m f)
+      pub name-looked : not q ≡ false → {r : Bool} → r ≡ isIn name (ended names) → r ≡ isRepeated ds names ms name
+      unfolding isRepeated isMarked
+      name-looked f e = e ∙ rw (doubt-is, not-false d t, ← eh, ← eq, not-false q f)
 
-pub ruleset repeats = (name-apart, name-left, name-held, name-unmarked, name-looked)
+pub ruleset repeats = (name-clear, clear-marks, doubted-marks, name-unmarked, name-looked)
 
 -- Names one after the other
 
-in-append : (x : Bytes) (xs ys : List Bytes) → isIn x (xs ++ ys) ≡ (isIn x xs || isIn x ys)
-unfolding isIn
-in-append x [] ys = refl
-in-append x (y ∷ xs) ys = elim (test (same y x)) [
-  | pass e ↦ rw e
-  | fail e ↦ rw e (in-append x xs ys)
-]
-
-and-none : (o : Bool) → not (o && false) && true ≡ true
-and-none true = refl
-and-none false = refl
-
-module _ (n k : ℕ) where
-  distinct-twice : (xs : List Bytes) (y : Bytes) (ys : List Bytes) → isOf n k y ≡ true → isIn y xs ≡ true → distinctOf n k (xs ++ y ∷ ys) ≡ false
-  unfolding isIn distinctOf
-  distinct-twice [] y ys o e = absurd (false≢true e)
-  distinct-twice (x ∷ xs) y ys o e = elim (test (same x y)) [
-    | pass f ↦
-        let own : isOf n k x ≡ true = ap (isOf n k) (same-sound x y f) ∙ o in
-        rw (own, in-append x xs (y ∷ ys), isIn, same-sym y x, f, or-on (isIn x xs) {b = true} refl)
-    | fail f ↦ and-off (not (isOf n k x && isIn x (xs ++ y ∷ ys))) (distinct-twice xs y ys o (rw f at e))
-  ]
-
-  distinct-more : (xs : List Bytes) (y : Bytes) → distinctOf n k xs ≡ true → (isOf n k y && isIn y xs) ≡ false → distinctOf n k (xs ++ y ∷ []) ≡ true
-  unfolding isIn distinctOf
-  distinct-more [] y d e = rw (and-none (isOf n k y))
-  distinct-more (x ∷ xs) y d e =
-      let c : distinctOf n k (xs ++ y ∷ []) ≡ true
-      = distinct-more xs y (and-r (not (isOf n k x && isIn x xs)) (distinctOf n k xs) d) (and-later (isOf n k y) (same x y) (isIn y xs) e) in
-      elim (test (isOf n k x)) [
-        | fail f ↦ rw (f, c)
-        | pass f ↦
-            let a : isIn x xs ≡ false = not-true (isIn x xs) (rw f at (and-l (not (isOf n k x && isIn x xs)) (distinctOf n k xs) d)) in
-            elim (test (same y x)) [
-              | fail g ↦ rw (f, in-append x xs (y ∷ []), a, g, c)
-              | pass g ↦
-                  let own : isOf n k y ≡ true = ap (isOf n k) (same-sound y x g) ∙ f in
-                  let here : same x y ≡ true = same-sym x y ∙ g in absurd (false≢true (sym e ∙ rw (own, here)))
-            ]
-      ]
-    where
-      and-later : (o a b : Bool) → (o && (a || b)) ≡ false → (o && b) ≡ false
-      and-later true a b h = or-r a b h
-      and-later false a b h = refl
-
--- a test that is sure where the first one holds
-sure-of : (o m t : Bool) → (o ≡ true → t ≡ true → m ≡ true) → (o && (m && t)) ≡ (o && t)
-sure-of true m t f = sure m t (f refl)
-sure-of false m t f = refl
-
--- the n names before `at` that are of class k of c are marked, and no two of these are the same
-pub record Counting (c k : ℕ) (s ms₀ : Bytes) (at n : ℕ) (ms : Bytes) : Type 0 where
+-- the names before `at`: such are marked, and none that is sure stands twice
+pub record Walked (such sure : Bytes → Bool) (s ms₀ ms : Bytes) (at : ℕ) : Type 0 where
   pub begun : 46 ≤ at
-  pub few : n ≤ at
-  pub inside : n ≤ length s
   pub long : length ms ≡ length ms₀
   pub names : List Bytes
-  pub count : length names ≡ n
   pub stand : (t : Bytes) → split (take (at - 46) (drop 46 s) ++ t) ≡ names ++ split t
-  pub fresh : distinctOf c k names ≡ true
-  pub marked : (x : Bytes) → isOf c k x ≡ true → isIn x names ≡ true → Both c ms x
+  pub marked : (x : Bytes) → such x ≡ true → isIn x names ≡ true → isMet ms (wideOf sampleKind x) ≡ true
+  pub fresh : distinctOf sure names ≡ true
 
-pub count-all : (c k : ℕ) (s ms : Bytes) → Counting c k s ms 46 0 ms
+walk-start : (such sure : Bytes → Bool) (s ms : Bytes) → Walked such sure s ms ms 46
 unfolding distinctOf isIn
-count-all c k s ms = record {
+walk-start such sure s ms = record {
   begun = omega arith;
-  few = omega arith;
-  inside = omega arith;
   long = refl;
   names = [];
-  count = refl;
   stand = λ t. refl;
-  fresh = refl;
   marked = λ x o e. absurd (false≢true e);
+  fresh = refl;
 }
 
-module _ {c k : ℕ} {s ms₀ : Bytes} {at n : ℕ} {ms : Bytes} (g : Counting c k s ms₀ at n ms) where
-  pub count-length : length ms ≡ length ms₀
-  count-length = g .long
+module _ {such sure : Bytes → Bool} {s ms₀ ms : Bytes} {at : ℕ} (g : Walked such sure s ms₀ ms at) where
+  pub walk-length : length ms ≡ length ms₀
+  walk-length = g .long
 
-  module _ {end : ℕ} (a : end ≡ at + length (before (is TAB) (drop at s))) where
-    abbrev here : Bytes
-    here = before (is TAB) (drop at s)
+  walk-all : split (drop 46 s) ≡ g .names ++ split (drop at s)
+  walk-all =
+      let n : 46 + (at - 46) ≡ at = omega (arith, g .begun) in
+      let d : drop (at - 46) (drop 46 s) ≡ drop at s = drop-drop (at - 46) 46 s ∙ rw n in
+      ap split (sym (take-append-drop (at - 46) (drop 46 s)) ∙ ap (take (at - 46) (drop 46 s) ++_) d) ∙ g .stand (drop at s)
 
-    all : split (drop 46 s) ≡ g .names ++ split (drop at s)
-    all =
-        let n : 46 + (at - 46) ≡ at = omega (arith, g .begun) in
-        let d : drop (at - 46) (drop 46 s) ≡ drop at s = drop-drop (at - 46) 46 s ∙ rw n in
-        ap split (sym (take-append-drop (at - 46) (drop 46 s)) ∙ ap (take (at - 46) (drop 46 s) ++_) d) ∙ g .stand (drop at s)
+  module _ {end : ℕ} (a : end ≡ at + length (nameAt s at)) where
+    walk-last : length s ≤ end → split (drop 46 s) ≡ g .names ++ nameAt s at ∷ []
+    walk-last h = walk-all ∙ ap (g .names ++_) (split-last s at a h)
 
-    -- q tells whether the name was met
-    module _ {name : Bytes} (b : name ≡ take (end - at) (drop at s)) {p : Bytes} (d : p ≡ take (at - 46) (drop 46 s))
-        {q : Bool} (r : q ≡ isRepeated c k p ms name) where
-      is-here : name ≡ here
-      is-here = b ∙ name-part s at a
+    -- a name more, which is new if it is to be sure then
+    module _ (sure′ : Bytes → Bool) (less : (x : Bytes) → sure′ x ≡ true → sure x ≡ true) (new : (sure′ (nameAt s at) && isIn (nameAt s at) (g .names)) ≡ false) where
+      walk-fresh : distinctOf sure′ (g .names ++ nameAt s at ∷ []) ≡ true
+      walk-fresh = distinct-more sure′ (g .names) (nameAt s at) (distinct-fewer sure′ sure less (g .names) (g .fresh)) new
 
-      met : q ≡ (isOf c k here && isIn here (g .names))
-      unfolding isRepeated
-      met = r ∙ rw (is-here, d, ended-names (take (at - 46) (drop 46 s)) (g .names) (g .stand))
-          (sure-of (isOf c k here) (isMarkedIn c ms here) (isIn here (g .names)) (λ o i. marked-by (g .marked here o i)))
-
-      pub count-twice : q ≡ true → read.DuplicateSample ≡ samplesRead (distinctOf c k (split (drop 46 s))) (length (split (drop 46 s)))
-      count-twice e =
-          let o = and-l (isOf c k here) (isIn here (g .names)) (sym met ∙ e) in
-          let i = and-r (isOf c k here) (isIn here (g .names)) (sym met ∙ e) in
-          elim (stands s end) [
-            | there h ↦ rw (all, split-more s at a h, distinct-twice c k (g .names) here (split (drop (end + 1) s)) o i)
-            | past h ↦ rw (all, split-last s at a h, distinct-twice c k (g .names) here [] o i)
+      walk-next : end < length s → {name : Bytes} → name ≡ take (end - at) (drop at s) → {ns : Bytes} → ns ≡ markIf (such name) ms name → Walked such sure′ s ms₀ ns (end + 1)
+      unfolding isIn
+      walk-next h {name} b m = record {
+        begun = omega (arith, g .begun);
+        long = ap length m ∙ if-length ms (wideOf sampleKind name) (such name) ∙ g .long;
+        names = g .names ++ nameAt s at ∷ [];
+        stand = λ t. ap (λ (x : Bytes). split (x ++ t)) (part-tab s at a 46 (g .begun) h)
+            ∙ names-more (take (at - 46) (drop 46 s)) (g .names) (g .stand) (nameAt s at) (before-none (is TAB) (drop at s)) t;
+        marked = λ x o i. rw (m, b, name-part s at a) (still x o i);
+        fresh = walk-fresh;
+      }
+        where
+          still : (x : Bytes) → such x ≡ true → isIn x (g .names ++ nameAt s at ∷ []) ≡ true → isMet (markIf (such (nameAt s at)) ms (nameAt s at)) (wideOf sampleKind x) ≡ true
+          still x o i = elim (test (isIn x (g .names))) [
+            | pass f ↦ if-kept ms (wideOf sampleKind (nameAt s at)) (such (nameAt s at)) (wideOf sampleKind x) (g .marked x o f)
+            | fail f ↦ elim (test (same (nameAt s at) x)) [
+              | pass l ↦ rw (same-sound (nameAt s at) x l, o) (meet-own ms (wideOf sampleKind x))
+              | fail l ↦ both i (in-append x (g .names) (nameAt s at ∷ []) ∙ rw (f, l))
+            ]
           ]
 
-      module _ (e : q ≡ false) where
-        more : distinctOf c k (g .names ++ here ∷ []) ≡ true
-        more = distinct-more c k (g .names) here (g .fresh) (sym met ∙ e)
+-- n names were counted, of which those in doubt are marked
+pub record Counting (ds s ms₀ : Bytes) (at n : ℕ) (ms : Bytes) : Type 0 where
+  pub walked : Walked (isDoubted ds) (isDoubted ds) s ms₀ ms at
+  pub few : n ≤ at
+  pub inside : n ≤ length s
+  pub count : length (walked .names) ≡ n
 
-        longer : length (g .names ++ here ∷ []) ≡ n + 1
-        longer = length-append (g .names) (here ∷ []) ∙ ap (_+ 1) (g .count)
+pub count-start : (ds s ms : Bytes) → Counting ds s ms 46 0 ms
+unfolding walk-start
+count-start ds s ms = record { walked = walk-start (isDoubted ds) (isDoubted ds) s ms; few = omega arith; inside = omega arith; count = refl }
 
-        pub count-last : length s ≤ end → read.Columns true (n + 1) ≡ samplesRead (distinctOf c k (split (drop 46 s))) (length (split (drop 46 s)))
-        count-last h = rw (all, split-last s at a h, more, longer)
+-- q tells whether the name was met
+module _ {ds s ms₀ : Bytes} {at n : ℕ} {ms : Bytes} (g : Counting ds s ms₀ at n ms) {end : ℕ} (a : end ≡ at + length (nameAt s at))
+    {name : Bytes} (b : name ≡ take (end - at) (drop at s)) {p : Bytes} (d : p ≡ take (at - 46) (drop 46 s)) {q : Bool} (r : q ≡ isRepeated ds p ms name) where
+  abbrev w : Walked (isDoubted ds) (isDoubted ds) s ms₀ ms at
+  w = g .walked
 
-        still : (x : Bytes) → isOf c k x ≡ true → isIn x (g .names ++ here ∷ []) ≡ true → Both c (markOf c k ms here) x
-        unfolding isIn
-        still x o i = elim (test (isIn x (g .names))) [
-          | pass f ↦ of-kept c k ms here (g .marked x o f)
-          | fail f ↦ elim (test (same here x)) [
-            | pass l ↦ rw (same-sound here x l) (of-own c k ms x o)
-            | fail l ↦ both i (in-append x (g .names) (here ∷ []) ∙ rw (f, l))
-          ]
-        ]
+  met : q ≡ (isDoubted ds (nameAt s at) && isIn (nameAt s at) (w .names))
+  unfolding isRepeated isMarked
+  met = r ∙ rw (b, name-part s at a, d, ended-names (take (at - 46) (drop 46 s)) (w .names) (w .stand))
+      (sure-of (isDoubted ds (nameAt s at)) (isMet ms (wideOf sampleKind (nameAt s at))) (isIn (nameAt s at) (w .names)) (w .marked (nameAt s at)))
+    where
+      -- a test that is sure where the first one holds
+      sure-of : (o m t : Bool) → (o ≡ true → t ≡ true → m ≡ true) → (o && (m && t)) ≡ (o && t)
+      sure-of true m t f = sure m t (f refl)
+      sure-of false m t f = refl
 
-        pub count-next : end < length s → {ms′ : Bytes} → ms′ ≡ markOf c k ms name → Counting c k s ms₀ (end + 1) (n + 1) ms′
-        count-next h m = record {
-          begun = omega (arith, g .begun);
-          few = omega (arith, g .few);
-          inside = omega (arith, g .few);
-          long = ap length m ∙ of-length c k ms name ∙ g .long;
-          names = g .names ++ here ∷ [];
-          count = longer;
-          stand = λ t. ap (λ (x : Bytes). split (x ++ t)) (part-tab s at a 46 (g .begun) h)
-              ∙ names-more (take (at - 46) (drop 46 s)) (g .names) (g .stand) here (before-none (is TAB) (drop at s)) t;
-          fresh = more;
-          marked = λ x o i. rw (m, is-here) (still x o i);
-        }
+  pub count-twice : q ≡ true → read.DuplicateSample ≡ samplesRead (distinctOf (isDoubted ds) (split (drop 46 s))) (length (split (drop 46 s)))
+  count-twice e =
+      let o = and-l (isDoubted ds (nameAt s at)) (isIn (nameAt s at) (w .names)) (sym met ∙ e) in
+      let i = and-r (isDoubted ds (nameAt s at)) (isIn (nameAt s at) (w .names)) (sym met ∙ e) in
+      elim (stands s end) [
+        | there h ↦ rw (walk-all w, split-more s at a h, distinct-twice (isDoubted ds) (w .names) (nameAt s at) (split (drop (end + 1) s)) o i)
+        | past h ↦ rw (walk-last w a h, distinct-twice (isDoubted ds) (w .names) (nameAt s at) [] o i)
+      ]
 
-pub ruleset counts = (count-all, count-length, count-twice, count-last, count-next, name-less)
+  module _ (e : q ≡ false) where
+    longer : length (w .names ++ nameAt s at ∷ []) ≡ n + 1
+    longer = length-append (w .names) (nameAt s at ∷ []) ∙ ap (_+ 1) (g .count)
+
+    pub count-last : length s ≤ end → read.Columns true (n + 1) ≡ samplesRead (distinctOf (isDoubted ds) (split (drop 46 s))) (length (split (drop 46 s)))
+    count-last h = rw (walk-last w a h, walk-fresh w a (isDoubted ds) (λ x o. o) (sym met ∙ e), longer)
+
+    pub count-next : end < length s → {ns : Bytes} → ns ≡ markOf ds ms name → Counting ds s ms₀ (end + 1) (n + 1) ns
+    unfolding walk-next
+    count-next h m = record {
+      walked = walk-next w a (isDoubted ds) (λ x o. o) (sym met ∙ e) h b m;
+      few = omega (arith, g .few);
+      inside = omega (arith, g .few);
+      count = longer;
+    }
+
+pub ruleset counts = (count-start, walk-length, count-twice, count-last, count-next, name-less)
+
+-- the names of class k of n are marked, and those that may have been met in doubt
+pub record Doubting (n k : ℕ) (s ms₀ ds₀ : Bytes) (at : ℕ) (ms ds : Bytes) : Type 0 where
+  pub walked : Walked (isOf n k) (isSure n k ds) s ms₀ ms at
+  pub long : length ds ≡ length ds₀
+  pub kept : (x : Bytes) → isDoubted ds₀ x ≡ true → isDoubted ds x ≡ true
+
+pub doubt-start : (n k : ℕ) (s ms ds : Bytes) → Doubting n k s ms ds 46 ms ds
+doubt-start n k s ms ds = record { walked = walk-start (isOf n k) (isSure n k ds) s ms; long = refl; kept = λ x o. o }
+
+module _ {n k : ℕ} {s ms₀ ds₀ : Bytes} {at : ℕ} {ms ds : Bytes} (g : Doubting n k s ms₀ ds₀ at ms ds) where
+  pub doubt-length : length ds ≡ length ds₀
+  doubt-length = g .long
+
+  module _ {end : ℕ} (a : end ≡ at + length (nameAt s at)) {name : Bytes} (b : name ≡ take (end - at) (drop at s))
+      {es : Bytes} (d : es ≡ doubtIf (isOf n k name && isMarked ms sampleKind name) ds name) where
+    stays : (x : Bytes) → isDoubted ds x ≡ true → isDoubted es x ≡ true
+    unfolding isDoubted
+    stays x o = rw d (if-kept ds (again name) (isOf n k name && isMarked ms sampleKind name) (again x) o)
+
+    -- a name of the class that stands again was marked, so that it is in doubt
+    sure-new : (isSure n k es (nameAt s at) && isIn (nameAt s at) (g .walked .names)) ≡ false
+    unfolding isSure isClear isDoubted isMarked
+    sure-new = elim (test (isOf n k (nameAt s at))) [
+      | fail o ↦ rw o
+      | pass o ↦ elim (test (isIn (nameAt s at) (g .walked .names))) [
+        | fail i ↦ and-off (isSure n k es (nameAt s at)) i
+        | pass i ↦ rw (d, b, name-part s at a, o, g .walked .marked (nameAt s at) o i, meet-own ds (again (nameAt s at)))
+      ]
+    ]
+
+    pub doubt-last : length s ≤ end → Doubts n k (split (drop 46 s)) ds₀ es
+    doubt-last h = record {
+      kept = λ x o. stays x (g .kept x o);
+      fresh = ap (distinctOf (isSure n k es)) (walk-last (g .walked) a h) ∙ walk-fresh (g .walked) a (isSure n k es) (sure-less n k ds es stays) sure-new;
+    }
+
+    pub doubt-next : end < length s → {ns : Bytes} → ns ≡ markIf (isOf n k name) ms name → Doubting n k s ms₀ ds₀ (end + 1) ns es
+    doubt-next h m = record {
+      walked = walk-next (g .walked) a (isSure n k es) (sure-less n k ds es stays) sure-new h b m;
+      long = ap length d ∙ if-length ds (again name) (isOf n k name && isMarked ms sampleKind name) ∙ g .long;
+      kept = λ x o. stays x (g .kept x o);
+    }
+
+pub ruleset doubts = (doubt-start, walk-length, doubt-length, doubt-last, doubt-next, name-less)

@@ -1,13 +1,13 @@
 -- What the code answers of a column line, and what it stores of it. Assumes nothing.
 use Prim.Native.Nat.{ℕ, _+_, _%_, _^_}
 use mathlib.Core.Path.{_≡_}
-use mathlib.Core.Bool.{Bool, true, false, not, _||_, _&&_}
+use mathlib.Core.Bool.{Bool, true, false, not, _&&_}
 use mathlib.Core.List.{List, [], _∷_}
 use lib.ListN.{length, drop}
 use lib.Dec.{eqb, leb}
 use Rattle.values.specs.Bytes.{Bytes}
-use Rattle.values.specs.Hash.{wideBasis, wideStep, wideFrom, wideOf}
-use Rattle.values.specs.Marks.{isMet, meet, isMarked, mark}
+use Rattle.values.specs.Hash.{wideStep, wideOf}
+use Rattle.values.specs.Marks.{isMet, meet, isMarked}
 use Rattle.rules.specs.Answer.{ok, refuse}
 use Rattle.rules.specs.Known.{isIn}
 use Rattle.rules.specs.Columns.{Columns, split, readColumns}
@@ -38,31 +38,52 @@ ended bs = butLast (split bs)
 
 -- Many names, class by class
 
--- a name is of class k of n, by its hash; one class has all
+-- a name is of class k of n, by its hash
 unfoldable pub isOf : ℕ → ℕ → Bytes → Bool
-isOf n k name = leb n 1 || eqb (wideStep (wideFrom wideBasis name) 0 % 2 ^ 32 % n) k
+isOf n k name = eqb (wideOf sampleKind name % 2 ^ 32 % n) k
 
--- no name of the class stands again after it
-unfoldable pub distinctOf : ℕ → ℕ → List Bytes → Bool
-distinctOf n k [] = true
-distinctOf n k (x ∷ xs) = not (isOf n k x && isIn x xs) && distinctOf n k xs
-
--- its second mark, where there are several classes
+-- another hash of it: that of its doubt
 abbrev pub again : Bytes → ℕ
 again name = wideStep (wideOf sampleKind name) 1
 
-unfoldable pub isMarkedIn : ℕ → List ℕ → Bytes → Bool
-isMarkedIn n ms name = isMarked ms sampleKind name && (leb n 1 || isMet (mark ms sampleKind name) (again name))
+-- a name that may stand twice; where there are no doubts, each may
+unfoldable pub isDoubted : List ℕ → Bytes → Bool
+isDoubted ds name = isMet ds (again name)
 
-unfoldable pub markIn : ℕ → List ℕ → Bytes → List ℕ
-markIn n ms name = elim (leb n 1) [ true ↦ mark ms sampleKind name | false ↦ meet (mark ms sampleKind name) (again name) ]
+unfoldable pub isClear : List ℕ → Bytes → Bool
+isClear ds name = not (isDoubted ds name)
 
--- a name is not looked for where the marks tell that it isn't there
-unfoldable pub isRepeated : ℕ → ℕ → Bytes → Bytes → Bytes → Bool
-isRepeated n k bs ms name = isOf n k name && (isMarkedIn n ms name && isIn name (ended bs))
+-- a name of class k of n that is not in doubt
+unfoldable pub isSure : ℕ → ℕ → List ℕ → Bytes → Bool
+isSure n k ds name = isOf n k name && isClear ds name
 
-unfoldable pub markOf : ℕ → ℕ → List ℕ → Bytes → List ℕ
-markOf n k ms name = elim (isOf n k name) [ true ↦ markIn n ms name | false ↦ ms ]
+-- no name that is such stands again after it
+unfoldable pub distinctOf : (Bytes → Bool) → List Bytes → Bool
+distinctOf such [] = true
+distinctOf such (x ∷ xs) = not (such x && isIn x xs) && distinctOf such xs
+
+-- a hash is marked if this holds
+abbrev pub meetIf : Bool → List ℕ → ℕ → List ℕ
+meetIf true ms hash = meet ms hash
+meetIf false ms hash = ms
+
+abbrev pub markIf : Bool → List ℕ → Bytes → List ℕ
+markIf b ms name = meetIf b ms (wideOf sampleKind name)
+
+abbrev pub doubtIf : Bool → List ℕ → Bytes → List ℕ
+doubtIf b ds name = meetIf b ds (again name)
+
+-- a name in doubt is not looked for where the marks tell that it isn't there
+unfoldable pub isRepeated : List ℕ → Bytes → List ℕ → Bytes → Bool
+isRepeated ds bs ms name = isDoubted ds name && (isMarked ms sampleKind name && isIn name (ended bs))
+
+abbrev pub markOf : List ℕ → List ℕ → Bytes → List ℕ
+markOf ds ms name = markIf (isDoubted ds name) ms name
+
+-- after the names of class k of n: no doubt is taken away, and none of the class that is clear stands again
+pub record Doubts (n k : ℕ) (names : List Bytes) (ds₀ ds : List ℕ) : Type 0 where
+  pub kept : (name : Bytes) → isDoubted ds₀ name ≡ true → isDoubted ds name ≡ true
+  pub fresh : distinctOf (isSure n k ds) names ≡ true
 
 -- the names stand from the place 46 of the line s on, if it is that long
 unfoldable pub nameEntries : Bytes → ℕ → List Entry

@@ -7,17 +7,25 @@ use values::bytes;
 use values::hash;
 use values::marks;
 ghost use mathlib.Core.Path.{_≡_};
+ghost use mathlib.Core.Bool.{true, _&&_};
+ghost use Prim.Native.Nat.{_≤_, _<_};
 ghost use lib.ListN.{length, drop};
+ghost use Rattle.values.specs.Hash.{wideOf};
+ghost use Rattle.values.specs.Marks.{isMarked};
 ghost use Rattle.rules.specs.Known.{isIn};
 ghost use Rattle.rules.specs.Columns.{split, distinct};
+ghost use Rattle.rules.specs.Entry.{sampleKind};
 ghost use Rattle.entries.specs.Tables.{putAll};
-ghost use Rattle.columns.specs.HeaderLines.{HeaderRead, samplesRead, ended, isOf, distinctOf, isMarkedIn, markIn, isRepeated, markOf, nameEntries, columnsPut};
+ghost use Rattle.columns.specs.HeaderLines.{HeaderRead, samplesRead, ended, isOf, isDoubted, isClear, distinctOf, markIf, doubtIf, isRepeated, markOf, Doubts, nameEntries, columnsPut};
 ghost use Rattle.values.specs.Bytes.{part};
 
 // Where the fixed columns end, and where the first name stands: after these, FORMAT and two tabs.
 const FIXED_END: usize = 38;
 
 const NAMES_START: usize = 46;
+
+// So many names have marks enough, where those that the marks can't tell from an earlier one are looked at again.
+const NAMES: usize = 262144;
 
 // Whether FORMAT stood, and how many samples there are.
 pub enum ColumnsRead {
@@ -43,49 +51,37 @@ fn is_among(names: &[u8], name: &[u8]) -> bool
     }
 }
 
-// Whether a name is of class number `class` of so many, by its hash; one class has all names.
-fn is_of(name: &[u8], classes: usize, class: usize) -> bool
-    ensures { λ r. ⌜ r ≡ isOf classes class (now (name .entry)) ⌝ }
+// The hash by which a name is marked.
+fn name_hash(name: &[u8]) -> u64
+    ensures { λ r. ⌜ r ≡ wideOf sampleKind (now (name .entry)) ⌝ }
 {
-    if classes <= 1 {
-        return true;
-    }
-    let hash = hash::wide_step(hash::wide_from(hash::WIDE_BASIS, name, false), 0);
-    hash % 0x1_0000_0000 % (classes as u64) == class as u64
+    hash::wide_from(
+        hash::wide_step(hash::WIDE_BASIS, kind::SAMPLE as u16),
+        name,
+        false,
+    )
 }
 
-// Whether a name may have been met, and it is marked: twice where there are several classes, since a search in vain is long there.
-fn meet_name(marks: &mut [u64], classes: usize, name: &[u8]) -> bool
-    ensures met { λ r. ⌜ r ≡ isMarkedIn classes (now (marks .entry)) (now (name .entry)) ⌝ }
-    ensures marks { λ _. ⌜ now (marks .exit) ≡ markIn classes (now (marks .entry)) (now (name .entry)) ⌝ }
+// Whether a name in doubt is one of those in `names`, where the marks don't tell it already; it is marked, by another hash than the doubts,
+// since names whose marks are the same there would have the same here.
+fn is_repeated(names: &[u8], doubts: &[u64], marks: &mut [u64], name: &[u8]) -> bool
+    ensures repeated { λ r. ⌜ r ≡ isRepeated (now (doubts .entry)) (now (names .entry)) (now (marks .entry)) (now (name .entry)) ⌝ }
+    ensures marks { λ _. ⌜ now (marks .exit) ≡ markOf (now (doubts .entry)) (now (marks .entry)) (now (name .entry)) ⌝ }
 {
-    let kind = hash::wide_step(hash::WIDE_BASIS, kind::SAMPLE as u16);
-    let hash = hash::wide_from(kind, name, false);
-    let met = marks::meet_hash(marks, hash);
-    if classes <= 1 {
-        return met;
-    }
-    let again = marks::meet_hash(marks, hash::wide_step(hash, 1));
-    met & again
-}
-
-// Whether a name of the class is one of those in `names`, where the marks don't tell it already; it is marked.
-fn is_repeated(names: &[u8], classes: usize, class: usize, marks: &mut [u64], name: &[u8]) -> bool
-    ensures repeated { λ r. ⌜ r ≡ isRepeated classes class (now (names .entry)) (now (marks .entry)) (now (name .entry)) ⌝ }
-    ensures marks { λ _. ⌜ now (marks .exit) ≡ markOf classes class (now (marks .entry)) (now (name .entry)) ⌝ }
-{
-    if !is_of(name, classes, class) {
+    let hash = name_hash(name);
+    if !marks::is_met(doubts, hash::wide_step(hash, 1)) {
         return false;
     }
-    if !meet_name(marks, classes, name) {
+    if !marks::meet_hash(marks, hash) {
         return false;
     }
     is_among(names, name)
 }
 
-// The names after FORMAT, those of the class each held against all before it, whatever stands in `marks` before.
-fn count_samples(s: &[u8], classes: usize, class: usize, marks: &mut [u64]) -> ColumnsRead
-    ensures { λ r. ⌜ r ≡ samplesRead (distinctOf classes class (split (drop 46 (now (s .entry))))) (length (split (drop 46 (now (s .entry))))) ⌝ }
+// The names after FORMAT, those in doubt each held against all before it, whatever stands in `marks` before.
+fn count_samples(s: &[u8], doubts: &[u64], marks: &mut [u64]) -> ColumnsRead
+    ensures { λ r.
+        ⌜ r ≡ samplesRead (distinctOf (isDoubted (now (doubts .entry))) (split (drop 46 (now (s .entry))))) (length (split (drop 46 (now (s .entry))))) ⌝ }
 {
     let mut at: usize = NAMES_START;
     let mut n: usize = 0;
@@ -93,7 +89,7 @@ fn count_samples(s: &[u8], classes: usize, class: usize, marks: &mut [u64]) -> C
         let end = bytes::find(s, at, b'\t');
         let name = bytes::part(s, at, end);
         let names = bytes::part(s, NAMES_START, at);
-        if is_repeated(names, classes, class, marks, name) {
+        if is_repeated(names, doubts, marks, name) {
             return ColumnsRead::DuplicateSample;
         }
         n += 1;
@@ -104,38 +100,104 @@ fn count_samples(s: &[u8], classes: usize, class: usize, marks: &mut [u64]) -> C
     }
 }
 
+// Where there are no doubts, each name is in doubt.
+fn count_all(s: &[u8], marks: &mut [u64]) -> ColumnsRead
+    ensures { λ r. ⌜ r ≡ samplesRead (distinct (split (drop 46 (now (s .entry))))) (length (split (drop 46 (now (s .entry))))) ⌝ }
+{
+    let none = [0u64; 0];
+    count_samples(s, &none, marks)
+}
+
 fn count_long(s: &[u8]) -> ColumnsRead
     ensures { λ r. ⌜ r ≡ samplesRead (distinct (split (drop 46 (now (s .entry))))) (length (split (drop 46 (now (s .entry))))) ⌝ }
 {
     let mut marks = [0u64; 8192];
-    count_samples(s, 1, 0, &mut marks)
+    count_all(s, &mut marks)
 }
 
-fn count_class(s: &[u8], classes: usize, class: usize) -> ColumnsRead
-    ensures { λ r. ⌜ r ≡ samplesRead (distinctOf classes class (split (drop 46 (now (s .entry))))) (length (split (drop 46 (now (s .entry))))) ⌝ }
+// A name of the class that may have been met is put in doubt, and each of the class is marked.
+fn doubt_name(name: &[u8], classes: usize, class: usize, marks: &mut [u64], doubts: &mut [u64])
+    requires { ⌜ 0 < classes ⌝ }
+    ensures marks { λ _. ⌜ now (marks .exit) ≡ markIf (isOf classes class (now (name .entry))) (now (marks .entry)) (now (name .entry)) ⌝ }
+    ensures doubts { λ _.
+        ⌜ now (doubts .exit) ≡ doubtIf (isOf classes class (now (name .entry)) && isMarked (now (marks .entry)) sampleKind (now (name .entry))) (now (doubts .entry)) (now (name .entry)) ⌝ }
 {
-    let mut marks = [0u64; 45056];
-    count_samples(s, classes, class, &mut marks)
+    let hash = name_hash(name);
+    if hash % 0x1_0000_0000 % (classes as u64) != class as u64 {
+        return;
+    }
+    if !marks::meet_hash(marks, hash) {
+        return;
+    }
+    marks::meet_hash(doubts, hash::wide_step(hash, 1));
+}
+
+fn doubt_names(s: &[u8], classes: usize, class: usize, marks: &mut [u64], doubts: &mut [u64])
+    requires { ⌜ 0 < classes ⌝ }
+    ensures { λ _. ⌜ Doubts classes class (split (drop 46 (now (s .entry)))) (now (doubts .entry)) (now (doubts .exit)) ⌝ }
+{
+    let mut at: usize = NAMES_START;
+    loop {
+        let end = bytes::find(s, at, b'\t');
+        doubt_name(bytes::part(s, at, end), classes, class, marks, doubts);
+        if s.len() <= end {
+            return;
+        }
+        at = end + 1;
+    }
+}
+
+fn doubt_class(s: &[u8], classes: usize, class: usize, doubts: &mut [u64])
+    requires { ⌜ 0 < classes ⌝ }
+    ensures { λ _. ⌜ Doubts classes class (split (drop 46 (now (s .entry)))) (now (doubts .entry)) (now (doubts .exit)) ⌝ }
+{
+    let mut marks = [0u64; 36864];
+    doubt_names(s, classes, class, &mut marks, doubts);
+}
+
+// How often a byte stands there: each is looked at, so that a compiler can take many at once.
+fn count(s: &[u8], x: u8) -> usize
+    ensures { λ r. ⌜ r ≤ length (now (s .entry)) ⌝ }
+{
+    let mut n: usize = 0;
+    let mut k: usize = 0;
+    while k < s.len() {
+        let b = s[k];
+        k += 1;
+        if b == x {
+            n += 1;
+        }
+    }
+    n
 }
 
 // The names of one class after the other, so that the marks are enough for a line of any length.
+fn doubt_classes(s: &[u8], doubts: &mut [u64])
+    ensures { λ _. ⌜ distinctOf (isClear (now (doubts .exit))) (split (drop 46 (now (s .entry)))) ≡ true ⌝ }
+{
+    let classes = count(s, b'\t') / NAMES + 1;
+    let mut class: usize = 0;
+    while class < classes {
+        doubt_class(s, classes, class, doubts);
+        class += 1;
+    }
+}
+
+fn count_doubted(s: &[u8], doubts: &[u64]) -> ColumnsRead
+    ensures { λ r.
+        ⌜ r ≡ samplesRead (distinctOf (isDoubted (now (doubts .entry))) (split (drop 46 (now (s .entry))))) (length (split (drop 46 (now (s .entry))))) ⌝ }
+{
+    let mut marks = [0u64; 36864];
+    count_samples(s, doubts, &mut marks)
+}
+
+// The names that may stand twice are found first, then only these are marked: so few are looked for in vain, each among all before it.
 fn count_longer(s: &[u8]) -> ColumnsRead
     ensures { λ r. ⌜ r ≡ samplesRead (distinct (split (drop 46 (now (s .entry))))) (length (split (drop 46 (now (s .entry))))) ⌝ }
 {
-    let classes = s.len() / 0x8_0000 + 1;
-    let mut class: usize = 0;
-    loop {
-        match count_class(s, classes, class) {
-            ColumnsRead::Columns(format, n) => {
-                class += 1;
-                if classes <= class {
-                    return ColumnsRead::Columns(format, n);
-                }
-            }
-            ColumnsRead::WrongColumn => return ColumnsRead::WrongColumn,
-            ColumnsRead::DuplicateSample => return ColumnsRead::DuplicateSample,
-        }
-    }
+    let mut doubts = [0u64; 8192];
+    doubt_classes(s, &mut doubts);
+    count_doubted(s, &doubts)
 }
 
 // The same, with marks of its own where none are lent: a short line has few names, and clearing more marks than they need costs more
@@ -145,7 +207,7 @@ fn count_marked(s: &[u8], marks: &mut [u64]) -> ColumnsRead
     ensures { λ r. ⌜ r ≡ samplesRead (distinct (split (drop 46 (now (s .entry))))) (length (split (drop 46 (now (s .entry))))) ⌝ }
 {
     if 0 < marks.len() {
-        return count_samples(s, 1, 0, marks);
+        return count_all(s, marks);
     }
     if s.len() < 16384 {
         let mut own = [0u64; 512];

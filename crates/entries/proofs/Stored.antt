@@ -7,9 +7,9 @@ use mathlib.Core.Bool.{Bool, true, false, not, _&&_}
 use mathlib.Core.List.{List, [], _∷_, _++_, append-assoc}
 use mathlib.Core.Option.{Option, none, some}
 use lib.Dec.{leb, ltb}
-use lib.ListN.{length, take, drop, set, drop-of-length-le, length-append, length-take, length-drop}
-use lib.Seq.{sets, length-sets, sets-eq, take-append-seam, take-set-le, take-all, take-take, take-add, take-at, drop-drop, drop-append-add}
-use borrow.Author.Tests.{lt-ltb, leb-true, leb-false}
+use lib.ListN.{length, take, drop, set, drop-of-length-le, length-append, length-take, length-drop, take-append-drop}
+use lib.Seq.{sets, length-sets, sets-eq, length-take-le, take-nil, take-append-seam, take-set-le, take-all, take-take, take-add, take-at, drop-drop, drop-append-add}
+use borrow.Author.Tests.{lt-ltb, ltb-true, ltb-false, leb-true, leb-false}
 use Rattle.values.specs.Bytes.{Bytes}
 use Rattle.values.proofs.Tests.{pass, fail, test, and-r, not-true, not-false}
 use Rattle.values.proofs.Lists.{some-is, none-not}
@@ -47,7 +47,7 @@ module _ (form : Form) where
   from-count t a (suc k) = ap suc (from-count t (a + 1) k)
 
   -- the same where the entries are
-  from-same : (t u : List ℕ) (a k : ℕ) → ((i : ℕ) → i < a + k → entryIn form t i ≡ entryIn form u i) → entriesFrom form t a k ≡ entriesFrom form u a k
+  pub from-same : (t u : List ℕ) (a k : ℕ) → ((i : ℕ) → i < a + k → entryIn form t i ≡ entryIn form u i) → entriesFrom form t a k ≡ entriesFrom form u a k
   unfolding entriesFrom
   from-same t u a zero h = refl
   from-same t u a (suc k) h = rw (h a (omega arith), from-same t u (a + 1) k (λ i l. h i (omega arith)))
@@ -278,6 +278,40 @@ module _ (form : Form) where
       let i : wordCount form * n ≡ length (words form es) = rw (← e) (sym (words-count form es)) in
       let f = entries-fit form t n l in
       rw (i, z, sets-eq (words form es) t 0 (omega (arith, i))) (take-append-seam (words form es) (drop (0 + length (words form es)) t))
+
+  -- of some of them
+  pub first-some : (t : List ℕ) (es : List Entry) (n : ℕ) → n ≤ length es → n ≤ room form t → firstEntries form (stored form t 0 es) n ≡ words form (take n es)
+  first-some t es n h l =
+      let k : length (take n es) ≡ n = length-take-le n es h in
+      let parts : stored form t 0 es ≡ stored form (stored form t 0 (take n es)) n (drop n es)
+      = ap (stored form t 0) (sym (take-append-drop n es)) ∙ sym (stored-more form t 0 (take n es) (drop n es) (omega (arith, k))) in
+      ap (λ (u : List ℕ). firstEntries form u n) parts
+      ∙ first-stays form (stored form t 0 (take n es)) n n (drop n es) (omega arith)
+      ∙ first-stored t (take n es) k l
+
+  -- where there is no room for all, the first are stored
+  put-stored : (t : List ℕ) (m : ℕ) (es : List Entry) → putAll form t m es ≡ stored form t m (take (room form t - m) es)
+  unfolding putAll
+  put-stored t m [] = sym (ap (stored form t m) (take-nil (room form t - m)) ∙ stored-none form t m)
+  put-stored t m (e ∷ es) = elim (test (ltb m (room form t))) [
+    | pass q ↦
+        let l = ltb-true m (room form t) q in
+        let z : room form t - m ≡ suc (room form t - (m + 1)) = omega arith in
+        rw (q, putAll, z)
+        (put-stored (stored form t m (e ∷ [])) (m + 1) es
+        ∙ rw (stored-room form t m (e ∷ [])) (stored-more form t m (e ∷ []) (take (room form t - (m + 1)) es) refl))
+    | fail q ↦
+        let l = ltb-false m (room form t) q in
+        let z : room form t - m ≡ 0 = omega arith in
+        rw (q, putAll, z) (sym (stored-none form t m))
+  ]
+
+  pub first-put : (t : List ℕ) (es : List Entry) (n : ℕ) → n ≤ length es → n ≤ room form t → firstEntries form (putAll form t 0 es) n ≡ words form (take n es)
+  first-put t es n h l =
+      let fs = take (room form t - 0) es in
+      ap (λ (u : List ℕ). firstEntries form u n) (put-stored t 0 es)
+      ∙ first-some t fs n (simp length-take (omega arith)) l
+      ∙ ap (words form) (take-take n (room form t - 0) es (omega arith))
 
   -- the calls find the same in a table's first words
   pub entry-at-first : (h : Bytes) (t : List ℕ) (n i : ℕ) → n ≤ room form t → i < n → entryAt form h (firstEntries form t n) i ≡ entryAt form h t i

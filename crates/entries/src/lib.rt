@@ -4,6 +4,7 @@ pub mod form;
 pub mod formed;
 pub mod kind;
 pub mod limits;
+pub mod notes;
 pub mod part;
 pub mod shown;
 pub mod table;

@@ -1,12 +1,12 @@
 -- What a house-form call answers is what the rules say. Assumes nothing.
-use Prim.Native.Nat.{ℕ, suc, _<_}
+use Prim.Native.Nat.{ℕ, suc, _*_, _^_, _≤_, _<_}
 use native.Mathlib.Omega.{arith}
 use mathlib.Core.Path.{_≡_, refl, ap, _∙_}
 use mathlib.Core.Bool.{false}
-use mathlib.Core.List.{List}
+use mathlib.Core.List.{List, _++_}
 use mathlib.Core.Option.{Option, none, some}
 use lib.Dec.{leb}
-use lib.ListN.{length}
+use lib.ListN.{length, take, drop, take-append-drop}
 use lib.Seq.{sets}
 use Rattle.values.specs.Bytes.{Bytes}
 use Rattle.values.proofs.Tests.{pass, fail, test}
@@ -18,6 +18,7 @@ use Rattle.rules.specs.Reading.{State, empty, ready, done, Reading}
 use Rattle.rules.specs.Meaning.{Meaning, headerMeaning}
 use Rattle.rules.specs.House.{houseLines, houseForm, HouseReading, tooLong, refusedForm, fitted, lined, formAnswer, houseOf, house}
 use Rattle.rules.proofs.Trace.{header-traced}
+use Rattle.rules.proofs.Stands.{reading-fits}
 use Rattle.records.specs.Formats.{versionOf}
 use Rattle.records.specs.Refusals.{number}
 use Rattle.records.specs.declared.refusal.Refusal.{Refusal}
@@ -29,7 +30,12 @@ use Rattle.header.specs.declared.parser.ReadAnswer.{ReadAnswer}
 use Rattle.header.specs.Parsers.{AnswerMeaning, answerMeans, readingMeans, readInto, ReadCall}
 use Rattle.entries.specs.declared.form.Form.{Form}
 use Rattle.entries.specs.Values.{limitsBy}
+use Rattle.entries.specs.Words.{wordCount}
 use Rattle.entries.specs.Tables.{room, firstEntries, entriesIn}
+use Rattle.entries.specs.Notes.{bare}
+use Rattle.entries.proofs.Tables.{entries-fit, kept-some}
+use Rattle.entries.proofs.Stored.{stored-length}
+use Rattle.entries.proofs.Noted.{kept-bare}
 use Rattle.header.proofs.Callers.{Read, read-line, read-start, read-entries, read-refused, read-accepted, read-records, read-kept, read-good}
 use Rattle.house.specs.declared.form.FormOutcome.{FormOutcome}
 use Rattle.house.specs.declared.form.FormOutcome.the-variants.{Whole, TooLong, LineTooLong, NoRoom}
@@ -105,6 +111,36 @@ house-refused lim room r e = go (r .state)
     go (ready v rs) = refl
     go (done v rs c) = rw e
 
+-- What `house_form` and `is_house` lend of the table after a reading: the words of its entries
+
+module _ {form : Form} {imposed : Option Version} {h : Bytes} {t₀ : List ℕ} {a : ReadAnswer} {t : List ℕ} (call : ReadCall form imposed h t₀ a t) {c : ℕ} (w : c ≡ wordCount form) where
+  fits : a .entries ≤ room form t₀
+  fits = rw (read-entries call) (reading-fits (limitsBy form) imposed (room form t₀) h)
+
+  inside : c * a .entries ≤ length t₀
+  inside = rw w (entries-fit form t₀ (a .entries) fits)
+
+  pub lent-inside : c * a .entries ≤ length t
+  lent-inside = rw (call .table, stored-length form t₀ 0 (readInto form imposed t₀ h .entries)) inside
+
+  pub lent-fits : length t₀ * 8 < 2 ^ 63 → c * a .entries < 2 ^ 64
+  lent-fits z = omega (arith, inside)
+
+  pub lent-first : take (c * a .entries) t ≡ firstEntries form t (a .entries)
+  lent-first = kept-some form t (a .entries) refl w
+
+  -- no notes stand there
+  pub lent-bare : bare (take (c * a .entries) t) ≡ take (c * a .entries) t
+  lent-bare =
+      let es = readInto form imposed t₀ h .entries in
+      kept-bare form t₀ es (a .entries) (omega (arith, read-entries call)) fits (lent-first ∙ ap (λ (u : List ℕ). firstEntries form u (a .entries)) (call .table))
+
+-- they come back as they were
+pub lent-back : (t : List ℕ) (n : ℕ) {kept : List ℕ} → kept ≡ take n t → kept ++ drop n t ≡ t
+lent-back t n e = rw e (take-append-drop n t)
+
+pub ruleset lent = (lent-inside, lent-fits, lent-first, lent-bare, lent-back)
+
 -- what answers the needs of `house_form`
 module _ (form : Form) (imposed : Option Version) (h : Bytes) (t₀ : List ℕ) (a : ReadAnswer) {t : List ℕ} (call : ReadCall form imposed h t₀ a t) where
   abbrev read : Reading
@@ -154,11 +190,11 @@ module _ (form : Form) (imposed : Option Version) (h : Bytes) (t₀ : List ℕ) 
           rw (e, the-lines, house-is) (answers-form (limitsBy form) a read (call .answer) (read-accepted call o) space means)
 
   module _ {f : FileFormat} {n : ℕ} (o : a .outcome ≡ outcome.Accepted f n) {kept : List ℕ} (ek : kept ≡ firstEntries form t (a .entries))
-      {out : Bytes} {r : HouseAnswer} {new : Bytes} (w : AnswersForm (limitsBy form) a f h (entriesIn form kept) out r new) where
-    pub house-accepted-call : HouseCall form imposed h t₀ out r t new
+      {t′ : List ℕ} (et : t′ ≡ t) {out : Bytes} {r : HouseAnswer} {new : Bytes} (w : AnswersForm (limitsBy form) a f h (entriesIn form kept) out r new) where
+    pub house-accepted-call : HouseCall form imposed h t₀ out r t′ new
     house-accepted-call =
         let d = is-readable o (w .sized) ek in
         let x = answers-it o (w .sized) ek (length out) (w .written) (w .writes .is d) in
-        record { answer = ap formAnswerMeans (w .answers) ∙ x .tells-it; table = call .table; output = w .writes .output d ∙ ap (sets out 0) (x .writes-it) }
+        record { answer = ap formAnswerMeans (w .answers) ∙ x .tells-it; table = et ∙ call .table; output = w .writes .output d ∙ ap (sets out 0) (x .writes-it) }
 
 pub ruleset houses = (house-refused-call, house-accepted-call)

@@ -25,6 +25,7 @@ use Rattle.rules.specs.House.{writeRecord, tooLong}
 use Rattle.entries.specs.declared.entry.Entry.{Entry as CodeEntry}
 use Rattle.entries.specs.Values.{entryOf}
 use Rattle.entries.specs.Tables.{room, entriesIn, entryIn}
+use Rattle.entries.specs.Notes.{bare}
 use Rattle.entries.proofs.Stored.{entries-here, entries-past}
 use Rattle.house.specs.declared.progress.Progress.{Progress}
 use Rattle.house.specs.declared.form.FormOutcome.{FormOutcome}
@@ -66,6 +67,17 @@ module _ {form : Form} {h : Bytes} {t : List ℕ} {k : ℕ} (g : Columns form h 
 
 pub ruleset columns = (column-start, column-end, column-here, column-later)
 
+-- A table that came back from a call as it was
+
+pub still-bare : {t t′ : List ℕ} → t′ ≡ t → bare t ≡ t → bare t′ ≡ t′
+still-bare e b = ap bare e ∙ b ∙ sym e
+
+pub still-entries : (form : Form) {t t′ : List ℕ} → t′ ≡ t → entriesIn form t′ ≡ entriesIn form t
+still-entries form e = ap (entriesIn form) e
+
+pub still-same : {t t′ t″ : List ℕ} → t′ ≡ t → t″ ≡ t′ → t″ ≡ t
+still-same a b = b ∙ a
+
 -- what answers the needs of `put_records` and `put_form`
 module _ {v : Version} {h : Bytes} {es : List Entry} {given old : Bytes} where
   pub records-put : {s r : Progress} {o : Bytes} → PutsKeys v h es typedKeys given old s r o → {r′ : Progress} {o′ : Bytes} → PutsOthers v h es given o r r′ o′ → PutsRecords v h es given old s r′ o′
@@ -73,9 +85,11 @@ module _ {v : Version} {h : Bytes} {es : List Entry} {given old : Bytes} where
   records-put p q = record { is = λ a. let w = p .is a in then-lines w (q .is (listed-on w v h es a)) }
 
   pub form-put : {limit : ℕ} {formed : Bool} {r₁ : Progress} {o₁ : Bytes} → WroteLines given old (begun limit formed) (writeRecord (fileformat v) ∷ []) r₁ o₁ → {r₂ : Progress} {o₂ : Bytes} → PutsRecords v h es given o₁ r₁ r₂ o₂
-      → {l : Bytes} → l ≡ columnLine h es → {r₃ : Progress} {o₃ : Bytes} → WroteLines given o₂ r₂ (l ∷ []) r₃ o₃ → PutsForm limit formed v h es given old r₃ o₃
+      → {l : Bytes} {es′ : List Entry} → l ≡ columnLine h es′ → es′ ≡ es → {r₃ : Progress} {o₃ : Bytes} → WroteLines given o₂ r₂ (l ∷ []) r₃ o₃ → PutsForm limit formed v h es given old r₃ o₃
   unfolding formLines
-  form-put p q e t = record { is = λ a. then-lines p (then-lines (q .is (listed-on p v h es a)) (rw e at t)) }
+  form-put p q e i t = record { is = λ a. then-lines p (then-lines (q .is (listed-on p v h es a)) (rw (e, i) at t)) }
+
+pub ruleset form-puts = (form-put, still-entries)
 
 -- What becomes of a form; m is what the measuring of it told
 
@@ -136,8 +150,8 @@ module _ (form : Form) {limits : CodeLimits} (g : limitsOf limits ≡ limitsBy f
     pub form-refused : not q ≡ true → WritesForm (limitsBy form) v h es out o out
     form-refused n = record { is = outcome-is (length out) e; output = λ a. rw (not-whole o (sym w ∙ not-true q n) (formLines v h es)) }
 
-    pub form-whole : not q ≡ false → {given′ : Bytes} {m′ : Progress} {new : Bytes} → PutsForm (limits .line) f v h es given′ out m′ new → WritesForm (limitsBy form) v h es out o new
-    form-whole n p′ = record { is = outcome-is (length out) e; output = λ a. p′ .is (k .is a) .text .output ∙ rw (is-whole o (sym w ∙ not-false q n) (formLines v h es)) }
+    pub form-whole : not q ≡ false → {es′ : List Entry} {given′ : Bytes} {m′ : Progress} {new : Bytes} → PutsForm (limits .line) f v h es′ given′ out m′ new → es′ ≡ es → WritesForm (limitsBy form) v h es out o new
+    form-whole n p′ i = record { is = outcome-is (length out) e; output = λ a. (rw i at p′) .is (k .is a) .text .output ∙ rw (is-whole o (sym w ∙ not-false q n) (formLines v h es)) }
 
 -- what answers the needs of `is_own`
 module _ (end : Sink) (size room : ℕ) where
@@ -189,7 +203,7 @@ form-own form {limits} g {v} {h} {es} {m = m} p k {out} {o} e {q} w n x c d = re
 pub own-fits : {end : Sink} {size room : ℕ} {own : Bool} → IsOwn end size room own → own ≡ true → 0 + size ≤ room
 own-fits x c = let y = x .is c .2 in omega arith
 
-pub ruleset writes = (form-refused, form-whole, form-own)
+pub ruleset writes = (form-refused, form-own, still-bare)
 
 -- what answers the needs of `compare_form`
 pub form-compared : (form : Form) {limits : CodeLimits} → limitsOf limits ≡ limitsBy form → {v : Version} {h : Bytes} {es : List Entry} {none-out none-left : Bytes} {m : Progress}

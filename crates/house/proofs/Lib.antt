@@ -3,11 +3,10 @@ pub mod Copies
 pub mod Picks
 pub mod Looks
 pub mod Runs
-pub mod Sets
 pub mod Linkings
 pub mod Chainings
 pub mod Others
-pub mod Windowings
+pub mod Manys
 pub mod Forms
 pub mod Weights
 pub mod Entries

@@ -31,7 +31,7 @@ use Rattle.house.specs.declared.progress.Progress.{Progress}
 use Rattle.house.specs.Writes.{WroteLines, PutsEntry, PutsRun}
 use Rattle.house.specs.Keys.{isRecord, isUnder, picked, Listed, AllListed, isOtherRecord, prefixIn, seenUnder, isFirst, linesIf, otherLines, PutsOthers}
 use Rattle.house.specs.Doubles.{hashIn, MarksTwice}
-use Rattle.house.specs.Links.{slotOf, slotIn, isPast, linkOf, Links, NextIs, PassesOther, Linked, SeesKey, PutsLinked, PutsFirst, SkipsUnder, SkipsSame, PutsOthersBy, PutsOthersMarked}
+use Rattle.house.specs.Links.{slotOf, slotIn, isPast, linkOf, Links, NextIs, PassesOther, Linked, SeesKey, PutsLinked, PutsFirst, SkipsUnder, SkipsSame, PutsOthersBy}
 use Rattle.house.proofs.Writes.{wrote-no-lines, then-lines}
 use Rattle.house.proofs.Picks.{listed-on, picked-yes, picked-no}
 use Rattle.house.specs.Runs.{FindsRun}
@@ -421,22 +421,11 @@ place-inside form t en l = omega (arith, en, room-small form t)
 
 pub ruleset others = (other-more, other-end, skip-less)
 
--- what answers the needs of `put_others_linked` and its callers
-pub others-linked : {form : Form} {v : Version} {h : Bytes} {t twice heads links : List ℕ} {given old : Bytes} {s r : Progress} {new : Bytes} → Links form h t twice heads links 0
-    → PutsOthersBy form v h t twice heads links given old s r new → PutsOthersMarked form v h t twice given old s r new
-others-linked m p = record { is = λ a tw. p .is a tw m }
+-- what answers the needs of `put_others_linked` and `put_others_few`: where there are no marks, any key may be one of several entries
+module _ {form : Form} {v : Version} {h : Bytes} {t twice heads links : List ℕ} {given old : Bytes} {s r : Progress} {new : Bytes} (p : PutsOthersBy form v h t twice heads links given old s r new) where
+  pub others-linked : Links form h t twice heads links 0 → length twice ≡ 0 → PutsOthers v h (entriesIn form t) given old s r new
+  others-linked m z = record { is = λ a. p .is a (record { is = λ i j b c d e f. sym (none-met twice (hashIn h (entryIn form t j)) z) }) m }
 
-module _ {form : Form} {v : Version} {h : Bytes} {t twice : List ℕ} {given old : Bytes} {s r : Progress} {new : Bytes} (p : PutsOthersMarked form v h t twice given old s r new) where
-  pub others-marked : MarksTwice form h t twice → PutsOthers v h (entriesIn form t) given old s r new
-  others-marked m = record { is = λ a. p .is a m }
-
-  -- where there are no marks, any key may be one of several entries
-  pub others-unmarked : length twice ≡ 0 → PutsOthers v h (entriesIn form t) given old s r new
-  others-unmarked z = others-marked (record { is = λ i j a b c d e. sym (none-met twice (hashIn h (entryIn form t j)) z) })
-
-pub ruleset markeds = (others-marked, others-unmarked)
-
--- where there are no heads, nothing is linked
-pub others-unlinked : {form : Form} {v : Version} {h : Bytes} {t twice heads links : List ℕ} {given old : Bytes} {s r : Progress} {new : Bytes} → PutsOthersBy form v h t twice heads links given old s r new
-    → length heads ≡ 0 → length twice ≡ 0 → PutsOthers v h (entriesIn form t) given old s r new
-others-unlinked p z y = others-unmarked (others-linked (record { first = λ m a b c. absurd (omega arith); next = λ j m a b c d e. absurd (omega arith) }) p) y
+  -- where there are no heads, nothing is linked
+  pub others-unlinked : length heads ≡ 0 → length twice ≡ 0 → PutsOthers v h (entriesIn form t) given old s r new
+  others-unlinked z = others-linked (record { first = λ m a b c. absurd (omega arith); next = λ j m a b c d e. absurd (omega arith) })

@@ -221,7 +221,7 @@ module _ (form : Form) (imposed : Option Version) (h : Bytes) (t₀ : List ℕ) 
         table = call .table;
       }
 
-  module _ {f : FileFormat} {n : ℕ} (o : a .outcome ≡ outcome.Accepted f n) {kept : List ℕ} (ek : kept ≡ firstEntries form t (a .entries)) {r : IsHouseAnswer}
+  module _ {f : FileFormat} {n : ℕ} (o : a .outcome ≡ outcome.Accepted f n) {kept : List ℕ} (ek : kept ≡ firstEntries form t (a .entries)) {t′ : List ℕ} (et : t′ ≡ t) {r : IsHouseAnswer}
       (w : AnswersComparison (limitsBy form) a f h (entriesIn form kept) r) where
     abbrev ls : List Bytes
     ls = formLines (versionOf f) h (entriesIn form kept)
@@ -250,11 +250,11 @@ module _ (form : Form) (imposed : Option Version) (h : Bytes) (t₀ : List ℕ) 
           let l = whole-within (limitsBy form) (header-limit) ls (ap isWhole (sym (w .compares .is readable)) ∙ whole) in
           omega (arith, l, limits-small form, ap length text)
 
-    pub is-house-accepted : IsHouseCall form imposed h t₀ r t
+    pub is-house-accepted : IsHouseCall form imposed h t₀ r t′
     unfolding isHouse
     is-house-accepted = record {
       answer = ap verdictMeans (w .answers) ∙ verdict-is h (formAnswered a written) read form-in (answers .tells-it) (w .compared .differs) kept-is small;
-      table = call .table;
+      table = et ∙ call .table;
     }
 
 pub ruleset is-houses = (is-house-refused, is-house-accepted)

@@ -1,85 +1,85 @@
--- The entries of some keys, found by chains of nodes. Assumes nothing.
-use Prim.Native.Nat.{ℕ, _+_, _-_, _*_, _/_, _%_, _≤_, _<_}
+-- The entries of a key, found by links that stand as notes in the table. Assumes nothing.
+use Prim.Native.Nat.{ℕ, _+_, _-_, _%_, _^_, _≤_, _<_}
 use mathlib.Core.Path.{_≡_}
-use mathlib.Core.Bool.{Bool, true, false, not, _&&_}
-use mathlib.Core.List.{List}
-use lib.Dec.{ltb}
+use mathlib.Core.Bool.{Bool, true, false}
+use mathlib.Core.List.{List, []}
+use lib.Dec.{leb, ltb}
 use lib.ListN.{length, getD}
 use Rattle.values.specs.Bytes.{Bytes}
-use Rattle.values.specs.Marks.{isMet}
-use Rattle.rules.specs.Entry.{Entry}
 use Rattle.entries.specs.declared.form.Form.{Form}
-use Rattle.entries.specs.Tables.{entryIn}
-use Rattle.house.specs.declared.chains.Place.{Place}
-use Rattle.house.specs.Keys.{isOtherRecord}
-use Rattle.house.specs.Sets.{bitAt}
-use Rattle.house.specs.Doubles.{hashIn, Keeps}
+use Rattle.entries.specs.Tables.{room, entryIn}
+use Rattle.entries.specs.Notes.{bare, noteAt, noted}
 use Rattle.house.specs.Links.{slotIn}
 
--- the head of an entry's slot; 0 if it has none
-unfoldable pub nodeIn : Bytes → List ℕ → List ℕ → Entry → ℕ
-nodeIn h near heads e = getD heads (slotIn h near (length heads) e) 0
+-- the note of an entry is the number of the next entry of its slot, and 2^23 more where its line is written
 
--- the number of node v, and the node after it
-unfoldable pub numberOf : List ℕ → ℕ → ℕ
-numberOf nodes v = getD nodes (v - 1) 0 / 65536
+unfoldable pub linkAt : Form → List ℕ → ℕ → ℕ
+linkAt form t m = noteAt form t m % 2 ^ 23
 
-unfoldable pub nextOf : List ℕ → ℕ → ℕ
-nextOf nodes v = getD nodes (v - 1) 0 % 65536
+unfoldable pub isWritten : Form → List ℕ → ℕ → Bool
+isWritten form t m = leb (2 ^ 23) (noteAt form t m)
 
--- the slot of entry number m, among n
-abbrev pub slotAt : Form → Bytes → List ℕ → List ℕ → ℕ → ℕ → ℕ
-slotAt form h t near n m = slotIn h near n (entryIn form t m)
+unfoldable pub writtenAt : Form → List ℕ → ℕ → List ℕ
+writtenAt form t m = noted form t m (linkAt form t m + 2 ^ 23)
 
--- entry number m, before `end`, is not written and has a slot
-unfoldable pub isWanted : Form → Bytes → List ℕ → List ℕ → List ℕ → ℕ → ℕ → ℕ → Bool
-isWanted form h t done near n end m = not (bitAt done m) && (ltb (slotAt form h t near n m) n && ltb m end)
+-- where the link of entry number k leads, if it leads on
+unfoldable pub nextAt : Form → List ℕ → ℕ → ℕ → ℕ
+nextAt form t k end = elim (ltb k (linkAt form t k)) [ true ↦ linkAt form t k | false ↦ end ]
 
--- the key of an entry, if it is not typed, is marked
-pub record MarksKeyOf (h : Bytes) (e : Entry) (near near′ : List ℕ) : Type 0 where
-  pub keeps : Keeps near near′
-  pub own : isOtherRecord e ≡ true → isMet near′ (hashIn h e) ≡ true
+-- the slot of entry number m among n; past them if its key is typed
+abbrev pub slotAt : Form → Bytes → List ℕ → ℕ → ℕ → ℕ
+slotAt form h t n m = slotIn h [] n (entryIn form t m)
 
--- the keys of the entries from a to b that are not written are marked
-pub record MarksWindow (form : Form) (h : Bytes) (t done : List ℕ) (a b : ℕ) (near : List ℕ) : Type 0 where
-  pub is : (m : ℕ) → a ≤ m → m < b → bitAt done m ≡ false → isOtherRecord (entryIn form t m) ≡ true → isMet near (hashIn h (entryIn form t m)) ≡ true
+-- r is the first number from k on whose slot is s; none before the end is, where r is not before it
+pub record FirstFrom (slot : ℕ → ℕ) (end s k r : ℕ) : Type 0 where
+  pub back : k ≤ r
+  pub own : r < end → slot r ≡ s
+  pub none : (m : ℕ) → k ≤ m → m < r → m < end → slot m ≡ s → ⊥
 
--- node v is one of n, of an entry of slot s, no later than number m
-pub record At (slot : ℕ → ℕ) (nodes : List ℕ) (n s v m : ℕ) : Type 0 where
-  pub some : 0 < v
-  pub fits : v ≤ n
-  pub back : numberOf nodes v ≤ m
-  pub same : slot (numberOf nodes v) ≡ s
+-- the link of each entry that has a slot is the next one of it
+pub record Linked (form : Form) (h : Bytes) (t : List ℕ) : Type 0 where
+  pub slots : ℕ
+  pub some : 0 < slots
+  pub next : (m : ℕ) → m < room form t → slotAt form h t slots m < slots → FirstFrom (slotAt form h t slots) (room form t) (slotAt form h t slots m) (m + 1) (linkAt form t m)
 
--- after the entry of a node, the next that is wanted of its slot is no earlier than that of the next node
-pub record Chain (slot : ℕ → ℕ) (wanted : ℕ → Bool) (nodes : List ℕ) (n : ℕ) : Type 0 where
-  pub fits : n ≤ length nodes
-  pub less : (v m : ℕ) → 0 < v → v ≤ n → numberOf nodes v < m → wanted m ≡ true → slot m ≡ slot (numberOf nodes v) → nextOf nodes v < v
-  pub next : (v m : ℕ) → 0 < v → v ≤ n → numberOf nodes v < m → wanted m ≡ true → slot m ≡ slot (numberOf nodes v) → At slot nodes n (slot m) (nextOf nodes v) m
+-- of the entries from number k on, the link of each that is of one of n slots from number `from` on is the next one of its slot
+pub record Nexts (slot link : ℕ → ℕ) (end from n k : ℕ) : Type 0 where
+  pub is : (m : ℕ) → k ≤ m → m < end → from ≤ slot m → slot m < from + n → FirstFrom slot end (slot m) (m + 1) (link m)
 
--- all that are wanted of slot s from number k on are in the chain from node v on
-pub record Leads (slot : ℕ → ℕ) (wanted : ℕ → Bool) (nodes : List ℕ) (n s v k : ℕ) : Type 0 where
-  pub is : 0 < length nodes → (m : ℕ) → k ≤ m → wanted m ≡ true → slot m ≡ s → At slot nodes n s v m
+-- and the first of each of these slots is its head
+pub record LinkedFrom (slot link : ℕ → ℕ) (end from : ℕ) (heads : List ℕ) (k : ℕ) : Type 0 where
+  pub small : (s : ℕ) → s < length heads → getD heads s 0 < 2 ^ 23
+  pub firsts : (s : ℕ) → s < length heads → FirstFrom slot end (from + s) k (getD heads s 0)
+  pub links : Nexts slot link end from (length heads) k
 
--- the entries from number k on that are wanted have nodes, n in all
-pub record Gathered (slot : ℕ → ℕ) (wanted : ℕ → Bool) (heads nodes : List ℕ) (k n : ℕ) : Type 0 where
-  pub chain : Chain slot wanted nodes n
-  pub from : (v : ℕ) → 0 < v → v ≤ n → k ≤ numberOf nodes v
-  pub first : (m : ℕ) → k ≤ m → wanted m ≡ true → At slot nodes n (slot m) (getD heads (slot m) 0) m
+-- no slot has a head
+pub record Headless (heads : List ℕ) : Type 0 where
+  pub is : (s : ℕ) → s < length heads → getD heads s 0 ≡ 2 ^ 23 - 1
 
-abbrev pub GatheredFrom : Form → Bytes → List ℕ → List ℕ → List ℕ → ℕ → List ℕ → List ℕ → ℕ → ℕ → Type 0
-GatheredFrom form h t done near end heads nodes k n = Gathered (slotAt form h t near (length heads)) (isWanted form h t done near (length heads) end) heads nodes k n
+-- the links of entries of other slots stay, and nothing is noted as written
+pub record Relinks (form : Form) (slot : ℕ → ℕ) (from n : ℕ) (t t′ : List ℕ) : Type 0 where
+  pub same : bare t′ ≡ bare t
+  pub kept : (m : ℕ) → (from ≤ slot m → slot m < from + n → ⊥) → linkAt form t′ m ≡ linkAt form t m
+  pub fresh : (m : ℕ) → isWritten form t m ≡ false → isWritten form t′ m ≡ false
 
-pub record AddsNode (form : Form) (h : Bytes) (t done near : List ℕ) (k n : ℕ) (heads nodes : List ℕ) (r : ℕ) (heads′ nodes′ : List ℕ) : Type 0 where
-  pub small : r ≤ n + 1
-  pub is : (end : ℕ) → GatheredFrom form h t done near end heads nodes (k + 1) n → GatheredFrom form h t done near end heads′ nodes′ k r
+-- entry number k was linked, if it is of one of these slots; t₀ is the table before any was
+pub record LinksEntry (form : Form) (h : Bytes) (slots from k : ℕ) (heads t heads′ t′ : List ℕ) : Type 0 where
+  pub is : (t₀ : List ℕ) → bare t ≡ bare t₀ → k < room form t₀ → LinkedFrom (slotAt form h t₀ slots) (linkAt form t) (room form t₀) from heads (k + 1)
+      → Relinks form (slotAt form h t₀ slots) from (length heads) t t′ × LinkedFrom (slotAt form h t₀ slots) (linkAt form t′) (room form t₀) from heads′ k
 
-pub record Gathers (form : Form) (h : Bytes) (t done near : List ℕ) (first end r : ℕ) (heads nodes : List ℕ) : Type 0 where
-  pub is : first ≤ end → r < length nodes → GatheredFrom form h t done near end heads nodes first r
-  pub some : r < length nodes → length heads ≡ 0 → ⊥
+-- all entries of n slots from number `from` on were
+pub record LinksRange (form : Form) (h : Bytes) (slots from n : ℕ) (t t′ : List ℕ) : Type 0 where
+  pub keeps : Relinks form (slotAt form h t slots) from n t t′
+  pub links : Nexts (slotAt form h t slots) (linkAt form t′) (room form t) from n 0
 
--- no entry that is wanted of the chain's slot is between k and r
-pub record AfterIs (nodes : List ℕ) (node k end : ℕ) (r : Place) : Type 0 where
-  pub back : k ≤ end → k ≤ r .number
-  pub leads : k ≤ end → (slot : ℕ → ℕ) (wanted : ℕ → Bool) (n s : ℕ) → Chain slot wanted nodes n → Leads slot wanted nodes n s node k → Leads slot wanted nodes n s (r .node) (r .number)
-  pub is : (slot : ℕ → ℕ) (wanted : ℕ → Bool) (n s : ℕ) → Chain slot wanted nodes n → Leads slot wanted nodes n s node k → (m : ℕ) → k ≤ m → wanted m ≡ true → slot m ≡ s → r .number ≤ m
+-- all of the slots below number `from` were
+pub record LinksBelow (form : Form) (h : Bytes) (slots from : ℕ) (t t′ : List ℕ) : Type 0 where
+  pub same : bare t′ ≡ bare t
+  pub links : Nexts (slotAt form h t′ slots) (linkAt form t′) (room form t′) 0 from 0
+  pub fresh : (m : ℕ) → isWritten form t m ≡ false → isWritten form t′ m ≡ false
+
+-- all entries were linked, and none is written if none had a note
+pub record LinksAll (form : Form) (h : Bytes) (t t′ : List ℕ) : Type 0 where
+  pub same : bare t′ ≡ bare t
+  pub linked : Linked form h t′
+  pub fresh : bare t ≡ t → (m : ℕ) → isWritten form t′ m ≡ false

@@ -9,7 +9,6 @@ use Rattle.values.specs.Hash.{wideBasis, wideStep, wideFrom}
 use Rattle.values.specs.Marks.{markWord, markBit, markBits, hasBits, isSet, setAll, isFew, isMet, meet}
 use Rattle.rules.specs.Sizes.{Limits, limits}
 use Rattle.rules.specs.Examples.{opened as rules}
-use Rattle.house.specs.Sets.{bitAt}
 use Rattle.house.specs.Links.{slotOf, cellOf}
 use Rattle.house.specs.IsHouse.{firstDifference, IsHouse, isHouse}
 
@@ -64,10 +63,10 @@ refusals : map (λ (h : Bytes). answer (isHouse few none 64 h)) (
 unfolding opened
 refusals = refl
 
--- the numbers of a set, and where links are kept that are more than there is room for
-remainders : (map (bitAt (4 ∷ 1 ∷ [])) (2 ∷ 3 ∷ 64 ∷ 128 ∷ []) ≡ true ∷ false ∷ true ∷ false ∷ []) × (map (cellOf 3) (1 ∷ 2 ∷ 3 ∷ 7 ∷ []) ≡ 1 ∷ 2 ∷ 0 ∷ 1 ∷ [])
-unfolding bitAt cellOf
-remainders = (refl, refl)
+-- where links are kept that are more than there is room for
+remainders : map (cellOf 3) (1 ∷ 2 ∷ 3 ∷ 7 ∷ []) ≡ 1 ∷ 2 ∷ 0 ∷ 1 ∷ []
+unfolding cellOf
+remainders = refl
 
 -- a key's slot among 8: by its hash where it is marked or there are no marks, else none
 abbrev pub prefix : Bytes

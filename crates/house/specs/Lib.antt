@@ -1,11 +1,10 @@
 pub mod Writes
 pub mod Keys
-pub mod Sets
 pub mod Doubles
 pub mod Links
 pub mod Runs
 pub mod Chains
-pub mod Windows
+pub mod Many
 pub mod Forms
 pub mod Sizes
 pub mod Answers

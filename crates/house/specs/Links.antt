@@ -111,6 +111,3 @@ pub record SkipsSame (form : Form) (h : Bytes) (t : List ℕ) (k r : ℕ) : Type
 pub record PutsOthersBy (form : Form) (v : Version) (h : Bytes) (t twice heads links : List ℕ) (given old : Bytes) (s r : Progress) (new : Bytes) : Type 0 where
   pub is : AllListed (s .formed) v h (entriesIn form t) → MarksTwice form h t twice → Links form h t twice heads links 0
       → WroteLines given old s (otherLines v h (entriesIn form t) [] (entriesIn form t)) r new
-
-pub record PutsOthersMarked (form : Form) (v : Version) (h : Bytes) (t twice : List ℕ) (given old : Bytes) (s r : Progress) (new : Bytes) : Type 0 where
-  pub is : AllListed (s .formed) v h (entriesIn form t) → MarksTwice form h t twice → WroteLines given old s (otherLines v h (entriesIn form t) [] (entriesIn form t)) r new

@@ -1,195 +1,144 @@
-// Where the entries of some keys stand: a node is the number of an entry and the node of the next entry of its slot, numbered from 1, in one
-// word; a head is the node of a slot's first entry. Only keys that are marked have a slot, so that there are few nodes.
-use crate::bits;
+// Where the entries of a key stand in a header of very many entries, so that they are found without looking at all. Each key has a slot, by
+// its hash. The note of an entry is the number of the next entry of its slot, and whether its line is written: there are too many entries
+// for the stack, so that these stand in the table for a while.
 use crate::keys;
+use crate::links;
 use entries::entry::Entry;
 use entries::form::Form;
+use entries::notes;
 use entries::table;
 use values::hash;
-use values::marks;
 ghost use mathlib.Core.Path.{_≡_};
-ghost use Prim.Native.Nat.{_≤_, _<_};
+ghost use mathlib.Core.List.{[]};
+ghost use Prim.Native.Nat.{_^_, _≤_, _<_};
 ghost use lib.ListN.{length};
 ghost use Rattle.entries.specs.Values.{entryOf};
-ghost use Rattle.house.specs.Links.{slotOf, slotIn};
-ghost use Rattle.house.specs.Chains.{nodeIn, MarksKeyOf, MarksWindow, AddsNode, Gathers, AfterIs};
+ghost use Rattle.entries.specs.Tables.{room};
+ghost use Rattle.house.specs.Links.{slotIn};
+ghost use Rattle.house.specs.Chains.{isWritten, nextAt, writtenAt, Headless, LinksEntry, LinksRange, LinksAll};
 
-// The slot of a key, among those of `heads`; past them if it is not marked in `near`.
-fn slot_of(near: &[u64], heads: &[u16], prefix: &[u8]) -> usize
-    ensures { λ r. ⌜ r ≡ slotOf (now (near .entry)) (length (now (heads .entry))) (now (prefix .entry)) ⌝ }
-{
-    if heads.len() == 0 {
-        return 0;
-    }
-    let hash = hash::wide_from(hash::WIDE_BASIS, prefix, false);
-    if !marks::is_met(near, hash) {
-        return heads.len();
-    }
-    (hash::wide_step(hash, 0) % (heads.len() as u64)) as usize
-}
+// What is added to the link of an entry whose line is written; no entry has this number, nor the one before it.
+const WRITTEN: usize = 0x80_0000;
 
-// That of an entry's key; past them too if the key is typed.
-fn slot_in(h: &[u8], e: Entry, near: &[u64], heads: &[u16]) -> usize
-    ensures { λ r. ⌜ r ≡ slotIn (now (h .entry)) (now (near .entry)) (length (now (heads .entry))) (entryOf e) ⌝ }
+// The slot of an entry's key, among so many; past them if the key is typed.
+fn slot_in(h: &[u8], e: Entry, slots: usize) -> usize
+    requires { ⌜ 0 < slots ⌝ }
+    ensures { λ r. ⌜ r ≡ slotIn (now (h .entry)) [] slots (entryOf e) ⌝ }
 {
     if !keys::is_other(e) {
-        return heads.len();
-    }
-    slot_of(near, heads, keys::prefix_part(h, e))
-}
-
-fn wide(n: u16) -> usize
-    ensures { λ r. ⌜ r ≡ n ⌝ }
-{
-    n as usize
-}
-
-// The node of the first entry of an entry's slot; 0 if it has none.
-pub fn node_of(h: &[u8], e: Entry, near: &[u64], heads: &[u16]) -> usize
-    ensures { λ r. ⌜ r ≡ nodeIn (now (h .entry)) (now (near .entry)) (now (heads .entry)) (entryOf e) ⌝ }
-{
-    let slot = slot_in(h, e, near, heads);
-    if heads.len() <= slot {
-        return 0;
-    }
-    wide(heads[slot])
-}
-
-fn mark_key(h: &[u8], e: Entry, near: &mut [u64])
-    ensures { λ _. ⌜ MarksKeyOf (now (h .entry)) (entryOf e) (now (near .entry)) (now (near .exit)) ⌝ }
-{
-    if !keys::is_other(e) {
-        return;
+        return slots;
     }
     let hash = hash::wide_from(hash::WIDE_BASIS, keys::prefix_part(h, e), false);
-    marks::meet_hash(near, hash);
+    (hash::wide_step(hash, 0) % (slots as u64)) as usize
 }
 
-// Marks the keys of the entries from number `first` to `until` that are not written.
-pub fn mark_window(
+// Entry number k becomes the head of its slot, if that is one of those from number `from` on that have heads, and the head that was there
+// its link.
+fn link_entry(
     h: &[u8],
-    kept: &[u64],
+    kept: &mut [u64],
     form: Form,
-    done: &[u64],
-    near: &mut [u64],
-    first: usize,
-    until: usize,
-)
-    ensures { λ _. ⌜ MarksWindow form (now (h .entry)) (now (kept .entry)) (now (done .entry)) first until (now (near .exit)) ⌝ }
-{
-    let mut k = first;
-    while k < until {
-        let at = k;
-        k += 1;
-        if !bits::is_set(done, at) {
-            mark_key(h, table::get(kept, form, at), near);
-        }
-    }
-}
-
-// The node of entry number k, if it is not written and its key has a slot; n nodes are there.
-fn add_node(
-    h: &[u8],
-    kept: &[u64],
-    form: Form,
-    done: &[u64],
-    near: &[u64],
+    slots: usize,
+    from: usize,
+    heads: &mut [u32],
     k: usize,
-    heads: &mut [u16],
-    nodes: &mut [u64],
-    n: usize,
-) -> usize
-    requires { ⌜ n < length (now nodes) ⌝ }
-    requires { ⌜ n < 65535 ⌝ }
-    requires { ⌜ k < 0x1_0000_0000 ⌝ }
-    ensures { λ r. ⌜ AddsNode form (now (h .entry)) (now (kept .entry)) (now (done .entry)) (now (near .entry)) k n (now (heads .entry)) (now (nodes .entry)) r (now (heads .exit)) (now (nodes .exit)) ⌝ }
+)
+    requires some { ⌜ 0 < slots ⌝ }
+    requires few { ⌜ k < 2 ^ 23 ⌝ }
+    ensures { λ _. ⌜ LinksEntry form (now (h .entry)) slots from k (now (heads .entry)) (now (kept .entry)) (now (heads .exit)) (now (kept .exit)) ⌝ }
 {
-    if bits::is_set(done, k) {
-        return n;
+    let slot = slot_in(h, table::get(kept, form, k), slots);
+    if slot < from {
+        return;
     }
-    let slot = slot_in(h, table::get(kept, form, k), near, heads);
-    if heads.len() <= slot {
-        return n;
+    let at = slot - from;
+    if heads.len() <= at {
+        return;
     }
-    let next = wide(heads[slot]);
-    nodes[n] = (k as u64) * 65536 + (next % 65536) as u64;
-    let node = n + 1;
-    heads[slot] = node as u16;
-    node
+    let next = links::number_at(heads, at);
+    heads[at] = k as u32;
+    notes::set(kept, form, k, next);
 }
 
-// A node for each entry from number `first` to `end` that is not written and whose key has a slot; as many as there may be at most, if there are too many.
-pub fn gather(
-    h: &[u8],
-    kept: &[u64],
-    form: Form,
-    done: &[u64],
-    near: &[u64],
-    first: usize,
-    end: usize,
-    heads: &mut [u16],
-    nodes: &mut [u64],
-) -> usize
-    ensures { λ r. ⌜ Gathers form (now (h .entry)) (now (kept .entry)) (now (done .entry)) (now (near .entry)) first end r (now (heads .exit)) (now (nodes .exit)) ⌝ }
+// Links the entries whose slots have heads, from the last one to the first.
+fn link_by(h: &[u8], kept: &mut [u64], form: Form, slots: usize, from: usize, heads: &mut [u32])
+    requires some { ⌜ 0 < slots ⌝ }
+    requires few { ⌜ room form (now kept) < 2 ^ 23 ⌝ }
+    requires headless { ⌜ Headless (now heads) ⌝ }
+    ensures { λ _. ⌜ LinksRange form (now (h .entry)) slots from (length (now (heads .entry))) (now (kept .entry)) (now (kept .exit)) ⌝ }
 {
-    if heads.len() == 0 {
-        return nodes.len();
-    }
-    let mut n = 0;
-    let mut k = end;
-    while first < k {
+    let mut k = table::count(kept, form);
+    while 0 < k {
         k -= 1;
-        if nodes.len() <= n {
-            return nodes.len();
+        link_entry(h, kept, form, slots, from, heads, k);
+    }
+}
+
+// How many slots have an entry.
+fn count_used(heads: &[u32]) -> usize
+    ensures { λ r. ⌜ r ≤ length (now (heads .entry)) ⌝ }
+{
+    let mut n: usize = 0;
+    let mut k: usize = 0;
+    while k < heads.len() {
+        let head = heads[k];
+        k += 1;
+        if head < 0x7F_FFFF {
+            n += 1;
         }
-        if 65535 <= n {
-            return nodes.len();
-        }
-        if 0xFFFF_FFFF < k {
-            return nodes.len();
-        }
-        n = add_node(h, kept, form, done, near, k, heads, nodes, n);
     }
     n
 }
 
-// A number, and the node by which that of the next entry is found.
-pub struct Place {
-    pub number: usize,
-    pub node: usize,
+// Links the entries of the slots from number `from` on, as many as there are heads; and how many of these slots have an entry.
+fn link_range(h: &[u8], kept: &mut [u64], form: Form, slots: usize, from: usize) -> usize
+    requires some { ⌜ 0 < slots ⌝ }
+    requires few { ⌜ room form (now kept) < 2 ^ 23 ⌝ }
+    ensures { λ _. ⌜ LinksRange form (now (h .entry)) slots from 196608 (now (kept .entry)) (now (kept .exit)) ⌝ }
+{
+    let mut heads = [0x7F_FFFFu32; 196608];
+    link_by(h, kept, form, slots, from, &mut heads);
+    count_used(&heads)
 }
 
-// The first entry from number k on that a chain of nodes tells; number k itself where there are no nodes, and `end` where the chain ends.
-pub fn place_after(nodes: &[u64], node: usize, k: usize, end: usize) -> Place
-    ensures { λ r. ⌜ AfterIs (now (nodes .entry)) node k end r ⌝ }
+// Links all entries whose keys are not typed, by four times as many slots as there are heads, a quarter of them at a time. Where few slots of
+// a quarter have an entry there are so few keys that as many slots as heads are enough, and one pass links all.
+pub fn link_all(h: &[u8], kept: &mut [u64], form: Form)
+    requires { ⌜ room form (now kept) < 2 ^ 23 ⌝ }
+    ensures { λ _. ⌜ LinksAll form (now (h .entry)) (now (kept .entry)) (now (kept .exit)) ⌝ }
 {
-    if nodes.len() == 0 {
-        return Place { number: k, node };
-    }
-    let mut v = node;
-    while 0 < v {
-        if nodes.len() < v {
-            return Place {
-                number: end,
-                node: 0,
-            };
+    let mut from: usize = 0;
+    while from < 786432 {
+        let used = link_range(h, kept, form, 786432, from);
+        from += 196608;
+        if used < 24576 {
+            link_range(h, kept, form, 196608, 0);
+            return;
         }
-        let word = nodes[v - 1];
-        let number = (word / 65536) as usize;
-        if k <= number {
-            return Place { number, node: v };
-        }
-        let next = (word % 65536) as usize;
-        if v <= next {
-            return Place {
-                number: end,
-                node: 0,
-            };
-        }
-        v = next;
     }
-    Place {
-        number: end,
-        node: 0,
+}
+
+// Where the next entry of the slot of entry number k stands; `end` if there is none.
+pub fn next_of(kept: &[u64], form: Form, k: usize, end: usize) -> usize
+    ensures { λ r. ⌜ r ≡ nextAt form (now (kept .entry)) k end ⌝ }
+{
+    let next = notes::get(kept, form, k) % WRITTEN;
+    if k < next {
+        return next;
     }
+    end
+}
+
+pub fn is_written(kept: &[u64], form: Form, k: usize) -> bool
+    ensures { λ r. ⌜ r ≡ isWritten form (now (kept .entry)) k ⌝ }
+{
+    WRITTEN <= notes::get(kept, form, k)
+}
+
+// The link of an entry stays as it is.
+pub fn mark_written(kept: &mut [u64], form: Form, k: usize)
+    ensures { λ _. ⌜ now (kept .exit) ≡ writtenAt form (now (kept .entry)) k ⌝ }
+{
+    let link = notes::get(kept, form, k) % WRITTEN;
+    notes::set(kept, form, k, link + WRITTEN);
 }

@@ -23,6 +23,7 @@ ghost use Rattle.rules.specs.House.{house};
 ghost use Rattle.records.specs.Formats.{versionOf};
 ghost use Rattle.entries.specs.Values.{limitsOf, limitsBy};
 ghost use Rattle.entries.specs.Tables.{entriesIn};
+ghost use Rattle.entries.specs.Notes.{bare};
 ghost use Rattle.house.specs.Keys.{AreFormed};
 ghost use Rattle.house.specs.Sizes.{SizesForm};
 ghost use Rattle.house.specs.Forms.{columnLine, PutsRecords, PutsForm, isWhole, measuredAs, IsOwn, WritesForm, ComparesForm};
@@ -95,14 +96,16 @@ fn column_line<'a>(h: &'a [u8], kept: &[u64], form: Form) -> &'a [u8]
 // The typed keys, then the others.
 fn put_records(
     h: &[u8],
-    kept: &[u64],
+    kept: &mut [u64],
     form: Form,
     version: FileFormat,
     out: &mut [u8],
     given: &[u8],
     s: Progress,
 ) -> Progress
-    ensures { λ r. ⌜ PutsRecords (versionOf version) (now (h .entry)) (entriesIn form (now (kept .entry))) (now (given .entry)) (now (out .entry)) s r (now (out .exit)) ⌝ }
+    requires bare { ⌜ bare (now kept) ≡ now kept ⌝ }
+    ensures lines { λ r. ⌜ PutsRecords (versionOf version) (now (h .entry)) (entriesIn form (now (kept .entry))) (now (given .entry)) (now (out .entry)) s r (now (out .exit)) ⌝ }
+    ensures table { λ _. ⌜ now (kept .exit) ≡ now (kept .entry) ⌝ }
 {
     let typed = keys::put_typed(h, kept, form, version, out, given, s);
     keys::put_others(h, kept, form, version, out, given, typed)
@@ -111,7 +114,7 @@ fn put_records(
 // All lines; `kept` are the header's entries. `formed`: the line of each stands as the form writes it.
 fn put_form(
     h: &[u8],
-    kept: &[u64],
+    kept: &mut [u64],
     form: Form,
     version: FileFormat,
     limit: usize,
@@ -119,7 +122,9 @@ fn put_form(
     out: &mut [u8],
     given: &[u8],
 ) -> Progress
-    ensures { λ r. ⌜ PutsForm limit formed (versionOf version) (now (h .entry)) (entriesIn form (now (kept .entry))) (now (given .entry)) (now (out .entry)) r (now (out .exit)) ⌝ }
+    requires bare { ⌜ bare (now kept) ≡ now kept ⌝ }
+    ensures lines { λ r. ⌜ PutsForm limit formed (versionOf version) (now (h .entry)) (entriesIn form (now (kept .entry))) (now (given .entry)) (now (out .entry)) r (now (out .exit)) ⌝ }
+    ensures table { λ _. ⌜ now (kept .exit) ≡ now (kept .entry) ⌝ }
 {
     let begun = Progress {
         limit,
@@ -172,15 +177,17 @@ fn is_own(end: Sink, size: usize, room: usize) -> bool
 // The form is measured by putting it nowhere. A header that is its own form is copied.
 fn write_measured(
     h: &[u8],
-    kept: &[u64],
+    kept: &mut [u64],
     form: Form,
     version: FileFormat,
     formed: bool,
     out: &mut [u8],
 ) -> FormOutcome
-    requires { ⌜ AreFormed (versionOf version) (now h) (entriesIn form (now kept)) formed ⌝ }
-    ensures { λ r. ⌜ WritesForm (limitsBy form) (versionOf version) (now (h .entry)) (entriesIn form (now (kept .entry))) (now (out .entry)) r
+    requires formed { ⌜ AreFormed (versionOf version) (now h) (entriesIn form (now kept)) formed ⌝ }
+    requires bare { ⌜ bare (now kept) ≡ now kept ⌝ }
+    ensures lines { λ r. ⌜ WritesForm (limitsBy form) (versionOf version) (now (h .entry)) (entriesIn form (now (kept .entry))) (now (out .entry)) r
         (now (out .exit)) ⌝ }
+    ensures table { λ _. ⌜ now (kept .exit) ≡ now (kept .entry) ⌝ }
 {
     let limits = form.limits();
     let mut nothing = [0u8; 0];
@@ -225,13 +232,15 @@ fn size_form(columns: &[u8], version: FileFormat, limit: usize, records: usize) 
 // once, and not at each putting.
 fn write_form(
     h: &[u8],
-    kept: &[u64],
+    kept: &mut [u64],
     form: Form,
     version: FileFormat,
     out: &mut [u8],
 ) -> FormOutcome
-    ensures { λ r. ⌜ WritesForm (limitsBy form) (versionOf version) (now (h .entry)) (entriesIn form (now (kept .entry))) (now (out .entry)) r
+    requires bare { ⌜ bare (now kept) ≡ now kept ⌝ }
+    ensures lines { λ r. ⌜ WritesForm (limitsBy form) (versionOf version) (now (h .entry)) (entriesIn form (now (kept .entry))) (now (out .entry)) r
         (now (out .exit)) ⌝ }
+    ensures table { λ _. ⌜ now (kept .exit) ≡ now (kept .entry) ⌝ }
 {
     let limits = form.limits();
     let standing = sizes::find_standing(h, kept, form, version, limits.line);
@@ -255,8 +264,10 @@ fn write_form(
 }
 
 // The form is held against the header, and written nowhere; the header limit is room enough for it.
-fn compare_form(h: &[u8], kept: &[u64], form: Form, version: FileFormat) -> Compared
-    ensures { λ r. ⌜ ComparesForm (limitsBy form) (versionOf version) (now (h .entry)) (entriesIn form (now (kept .entry))) r ⌝ }
+fn compare_form(h: &[u8], kept: &mut [u64], form: Form, version: FileFormat) -> Compared
+    requires bare { ⌜ bare (now kept) ≡ now kept ⌝ }
+    ensures lines { λ r. ⌜ ComparesForm (limitsBy form) (versionOf version) (now (h .entry)) (entriesIn form (now (kept .entry))) r ⌝ }
+    ensures table { λ _. ⌜ now (kept .exit) ≡ now (kept .entry) ⌝ }
 {
     let limits = form.limits();
     let mut nothing = [0u8; 0];
@@ -305,13 +316,15 @@ fn answer(read: ReadAnswer, written: FormOutcome) -> HouseAnswer
 // The form of a header that was read and accepted; `kept` are its entries.
 fn answer_accepted(
     h: &[u8],
-    kept: &[u64],
+    kept: &mut [u64],
     form: Form,
     read: ReadAnswer,
     version: FileFormat,
     out: &mut [u8],
 ) -> HouseAnswer
-    ensures { λ r. ⌜ AnswersForm (limitsBy form) read version (now (h .entry)) (entriesIn form (now (kept .entry))) (now (out .entry)) r (now (out .exit)) ⌝ }
+    requires bare { ⌜ bare (now kept) ≡ now kept ⌝ }
+    ensures lines { λ r. ⌜ AnswersForm (limitsBy form) read version (now (h .entry)) (entriesIn form (now (kept .entry))) (now (out .entry)) r (now (out .exit)) ⌝ }
+    ensures table { λ _. ⌜ now (kept .exit) ≡ now (kept .entry) ⌝ }
 {
     let written = write_form(h, kept, form, version, out);
     answer(read, written)
@@ -334,14 +347,8 @@ pub fn house_form(
     match outcome {
         Outcome::Refused(x) => refuse(x, read.line, read.start, entries),
         Outcome::Accepted(version, _) => {
-            answer_accepted(
-                header,
-                table::kept(table, form, entries),
-                form,
-                read,
-                version,
-                out,
-            )
+            let n = form.words() * entries;
+            answer_accepted(header, &mut table[..n], form, read, version, out)
         }
     }
 }
@@ -381,12 +388,14 @@ fn judge(answered: HouseAnswer, size: usize, differs: usize) -> IsHouseAnswer
 // The verdict on a header that was read and accepted; `kept` are its entries.
 fn judge_accepted(
     h: &[u8],
-    kept: &[u64],
+    kept: &mut [u64],
     form: Form,
     read: ReadAnswer,
     version: FileFormat,
 ) -> IsHouseAnswer
-    ensures { λ r. ⌜ AnswersComparison (limitsBy form) read version (now (h .entry)) (entriesIn form (now (kept .entry))) r ⌝ }
+    requires bare { ⌜ bare (now kept) ≡ now kept ⌝ }
+    ensures lines { λ r. ⌜ AnswersComparison (limitsBy form) read version (now (h .entry)) (entriesIn form (now (kept .entry))) r ⌝ }
+    ensures table { λ _. ⌜ now (kept .exit) ≡ now (kept .entry) ⌝ }
 {
     let compared = compare_form(h, kept, form, version);
     let written = compared.outcome;
@@ -408,13 +417,8 @@ pub fn is_house(
     match outcome {
         Outcome::Refused(x) => told(refuse(x, read.line, read.start, entries), false, 0),
         Outcome::Accepted(version, _) => {
-            judge_accepted(
-                header,
-                table::kept(table, form, entries),
-                form,
-                read,
-                version,
-            )
+            let n = form.words() * entries;
+            judge_accepted(header, &mut table[..n], form, read, version)
         }
     }
 }

@@ -1,9 +1,9 @@
 // The entries of a key, as they follow one another in the header.
 use crate::links;
+use crate::many;
 use crate::progress;
 use crate::progress::Progress;
 use crate::run;
-use crate::windows;
 use entries::entry::Entry;
 use entries::form::Form;
 use entries::kind;
@@ -18,9 +18,10 @@ ghost use Rattle.rules.specs.Known.{typedKeys};
 ghost use Rattle.entries.specs.Values.{entryOf};
 ghost use Prim.Native.Nat.{_<_};
 ghost use Rattle.entries.specs.Tables.{entriesIn};
+ghost use Rattle.entries.specs.Notes.{bare};
 ghost use Rattle.house.specs.Keys.{isRecord, isUnder, PutsKey, AreFormed, PutsKeys, laterKeys, isTypedRecord, anyTyped, prefixIn, isOtherRecord, PutsOthers};
 ghost use lib.ListN.{length};
-ghost use Rattle.house.specs.Links.{isPast, SeesKey, PutsLinked, PutsFirst, SkipsUnder, SkipsSame, PutsOthersBy, PutsOthersMarked};
+ghost use Rattle.house.specs.Links.{isPast, SeesKey, PutsLinked, PutsFirst, SkipsUnder, SkipsSame, PutsOthersBy};
 
 // Whether an entry is a map or a text.
 pub fn is_record(e: Entry) -> bool
@@ -373,57 +374,43 @@ fn put_others_by(
     progress
 }
 
-// The same, where `heads` and `links` are to be filled.
+// The same, where `heads` and `links` are to be filled, and no keys are marked: any may be that of several.
 fn put_others_linked(
     h: &[u8],
     kept: &[u64],
     form: Form,
     version: FileFormat,
-    twice: &[u64],
     heads: &mut [u32],
     links: &mut [u32],
     out: &mut [u8],
     given: &[u8],
     s: Progress,
 ) -> Progress
-    ensures { λ r. ⌜ PutsOthersMarked form (versionOf version) (now (h .entry)) (now (kept .entry)) (now (twice .entry)) (now (given .entry)) (now (out .entry)) s r (now (out .exit)) ⌝ }
+    ensures { λ r. ⌜ PutsOthers (versionOf version) (now (h .entry)) (entriesIn form (now (kept .entry))) (now (given .entry)) (now (out .entry)) s r (now (out .exit)) ⌝ }
 {
+    let twice = &kept[..0];
     links::link_all(h, kept, form, twice, heads, links);
     put_others_by(h, kept, form, version, twice, heads, links, out, given, s)
 }
 
-// The other keys where there are more entries than links. A bit for each entry that a header may have, with the marks, heads and nodes of a
-// window, takes 870 KiB of the stack.
-fn put_others_marked(
+// The other keys where there are more entries than links. No header that was read has so many that a note can't hold their numbers.
+fn put_others_noted(
     h: &[u8],
-    kept: &[u64],
+    kept: &mut [u64],
     form: Form,
     version: FileFormat,
     out: &mut [u8],
     given: &[u8],
     s: Progress,
 ) -> Progress
-    ensures { λ r. ⌜ PutsOthers (versionOf version) (now (h .entry)) (entriesIn form (now (kept .entry))) (now (given .entry)) (now (out .entry)) s r (now (out .exit)) ⌝ }
+    requires { ⌜ bare (now kept) ≡ now kept ⌝ }
+    ensures lines { λ r. ⌜ PutsOthers (versionOf version) (now (h .entry)) (entriesIn form (now (kept .entry))) (now (given .entry)) (now (out .entry)) s r (now (out .exit)) ⌝ }
+    ensures table { λ _. ⌜ now (kept .exit) ≡ now (kept .entry) ⌝ }
 {
-    let end = windows::others_end(kept, form);
-    let mut heads = [0u32; 0];
-    let mut links = [0u32; 0];
-    if 2801664 < end {
-        return put_others_linked(
-            h,
-            kept,
-            form,
-            version,
-            &kept[..0],
-            &mut heads,
-            &mut links,
-            out,
-            given,
-            s,
-        );
+    if 0x80_0000 <= table::count(kept, form) {
+        return put_others_few(h, kept, form, version, out, given, s);
     }
-    let mut done = [0u64; 43776];
-    windows::put_windows(h, kept, form, end, version, &mut done, out, given, s)
+    many::put_linked(h, kept, form, version, out, given, s)
 }
 
 fn put_others_many(
@@ -444,7 +431,6 @@ fn put_others_many(
         kept,
         form,
         version,
-        &kept[..0],
         &mut heads,
         &mut links,
         out,
@@ -471,7 +457,6 @@ fn put_others_most(
         kept,
         form,
         version,
-        &kept[..0],
         &mut heads,
         &mut links,
         out,
@@ -484,7 +469,7 @@ fn put_others_most(
 // part of its caller, nor are those with more links of it: else all links would be on the stack of every header.
 fn put_others_sized(
     h: &[u8],
-    kept: &[u64],
+    kept: &mut [u64],
     form: Form,
     version: FileFormat,
     heads: &mut [u32],
@@ -493,21 +478,12 @@ fn put_others_sized(
     given: &[u8],
     s: Progress,
 ) -> Progress
-    ensures { λ r. ⌜ PutsOthers (versionOf version) (now (h .entry)) (entriesIn form (now (kept .entry))) (now (given .entry)) (now (out .entry)) s r (now (out .exit)) ⌝ }
+    requires { ⌜ bare (now kept) ≡ now kept ⌝ }
+    ensures lines { λ r. ⌜ PutsOthers (versionOf version) (now (h .entry)) (entriesIn form (now (kept .entry))) (now (given .entry)) (now (out .entry)) s r (now (out .exit)) ⌝ }
+    ensures table { λ _. ⌜ now (kept .exit) ≡ now (kept .entry) ⌝ }
 {
     if 0 < links.len() {
-        return put_others_linked(
-            h,
-            kept,
-            form,
-            version,
-            &kept[..0],
-            heads,
-            links,
-            out,
-            given,
-            s,
-        );
+        return put_others_linked(h, kept, form, version, heads, links, out, given, s);
     }
     if kept.len() < 2048 {
         let mut one = [0xFFFF_FFFFu32; 1024];
@@ -520,7 +496,7 @@ fn put_others_sized(
     if table::count(kept, form) < 98304 {
         return put_others_most(h, kept, form, version, out, given, s);
     }
-    put_others_marked(h, kept, form, version, out, given, s)
+    put_others_noted(h, kept, form, version, out, given, s)
 }
 
 // Few entries are looked through in less time than it takes to link them.
@@ -553,14 +529,16 @@ fn put_others_few(
 // The other keys, by first appearance.
 pub fn put_others(
     h: &[u8],
-    kept: &[u64],
+    kept: &mut [u64],
     form: Form,
     version: FileFormat,
     out: &mut [u8],
     given: &[u8],
     s: Progress,
 ) -> Progress
-    ensures { λ r. ⌜ PutsOthers (versionOf version) (now (h .entry)) (entriesIn form (now (kept .entry))) (now (given .entry)) (now (out .entry)) s r (now (out .exit)) ⌝ }
+    requires { ⌜ bare (now kept) ≡ now kept ⌝ }
+    ensures lines { λ r. ⌜ PutsOthers (versionOf version) (now (h .entry)) (entriesIn form (now (kept .entry))) (now (given .entry)) (now (out .entry)) s r (now (out .exit)) ⌝ }
+    ensures table { λ _. ⌜ now (kept .exit) ≡ now (kept .entry) ⌝ }
 {
     if kept.len() <= 128 {
         return put_others_few(h, kept, form, version, out, given, s);

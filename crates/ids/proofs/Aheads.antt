@@ -1,32 +1,32 @@
--- Names that lines still to be read may have: what their last bytes between cuts, and their last eight bytes, tell. Assumes nothing.
+-- Names that lines still to be read may have: what their first and last bytes between cuts, and their last eight bytes, tell. Assumes nothing.
 use Prim.Native.Nat.{ℕ, zero, suc, _+_, _-_, _*_, _/_, _%_, _^_, _≤_, _<_}
 use native.Mathlib.Omega.{arith}
-use native.Mathlib.Nat.{min-eq-left, mod-lt, div-lt-iff-lt-mul}
+use native.Mathlib.Nat.{min-eq-left, min-le-left, mod-lt, div-lt-iff-lt-mul}
 use mathlib.Core.Path.{_≡_, refl, sym, ap, subst, _∙_}
 use mathlib.Core.Bool.{Bool, true, false, not, _||_, _&&_, false≢true}
 use mathlib.Core.List.{List, [], _∷_}
 use lib.Bits.{bitXor}
 use lib.Dec.{eqb, leb, ltb}
 use lib.ListN.{length, getD, take, drop, length-drop, length-take, take-append-drop, drop-of-length-le, List·getD-eq-default}
-use lib.Seq.{take-all, drop-drop, getD-take, getD-drop}
+use lib.Seq.{take-all, take-take, drop-drop, getD-take, getD-drop}
 use borrow.Author.Tests.{eq-eqb, eqb-true, eqb-false, ne-eqb, leb-true, leb-false, le-leb, lt-leb, ltb-true, ltb-false, lt-ltb, le-ltb}
 use mir.Syntax.{w64}
 use mir.Val.{Fits}
-use Rattle.values.specs.Bytes.{Bytes, is, any, before, BACKSLASH, EQUALS, QUOTE}
+use Rattle.values.specs.Bytes.{Bytes, is, any, before, BACKSLASH, EQUALS, LESS, QUOTE}
 use Rattle.values.specs.Value.{meaning, unescaped, isEscapable}
 use Rattle.values.specs.Hash.{wideStep}
 use Rattle.values.specs.Marks.{isNoted, note}
-use Rattle.values.proofs.Tests.{pass, fail, test, or-l, or-r, and-l, and-r, not-true, not-false}
+use Rattle.values.proofs.Tests.{pass, fail, test, or-l, or-r, and-l, and-r, not-true, not-false, or-on, and-off}
 use Rattle.values.proofs.Lists.{here, any-append, before-hit, before-miss}
 use Rattle.values.proofs.Markings.{note-length, note-own, note-kept}
-use Rattle.rules.specs.Entry.{Entry}
+use Rattle.rules.specs.Entry.{Entry, textKind}
 use Rattle.rules.specs.Shown.{idIn, idMeaning}
 use Rattle.rules.specs.Claims.{keyIn}
 use Rattle.entries.specs.declared.entry.Entry.{Entry as CodeEntry}
 use Rattle.entries.specs.declared.form.Form.{Form}
 use Rattle.entries.specs.Values.{entryOf}
 use Rattle.entries.specs.Tables.{room, entryIn}
-use Rattle.ids.specs.Ahead.{isEnd, isCut, idEnd, isOpened, isEnded, NewName, runOn, runStep, lastStep, runFrom, once, twice, noteRun, runNoted, fourAt, tailHash, noteTail, noteCut, noteCuts, notesFrom, hasEscape, tailNoted, isAhead, isNear, NextNear}
+use Rattle.ids.specs.Ahead.{isEnd, isCut, idEnd, isOpened, isEnded, idEnds, keyEnds, rivalEnds, NewName, runOn, runStep, lastStep, runFrom, isInner, pieceEnds, once, twice, noteRun, runNoted, firstNoted, textNoted, mapRun, mapNoted, fourAt, tailHash, noteTail, noteKey, notePiece, noteCut, noteCuts, notesFrom, hasEscape, tailNoted, isAhead, isNear, NextNear}
 
 pub either-way : (b : Bool) → (b || true) ≡ true
 either-way true = refl
@@ -96,13 +96,20 @@ uncut-equals : (b : ℕ) → isCut b ≡ false → is EQUALS b ≡ false
 unfolding isCut
 uncut-equals b n = or-l (is EQUALS b) _ (or-r (is 35 b) _ (or-r (is QUOTE b) _ n))
 
--- past the header nothing ends an ID
+uncut-piece : (h : Bytes) (end : ℕ) → isCut (getD h end 0) ≡ false → pieceEnds h end ≡ false
+unfolding pieceEnds
+uncut-piece h end n = rw n (and-off (leb 1 end) refl)
+
+-- past its end a text has no byte but 0
+byte-inside : (c : ℕ → Bool) → c 0 ≡ false → (s : Bytes) (n : ℕ) → c (getD s n 0) ≡ true → n < length s
+byte-inside c z s n e = elim (test (ltb n (length s))) [
+  | pass f ↦ ltb-true n (length s) f
+  | fail f ↦ absurd (false≢true (sym z ∙ ap c (sym (List·getD-eq-default s 0 {n = n} (ltb-false n (length s) f))) ∙ e))
+]
+
 end-inside : (h : Bytes) (n : ℕ) → isEnd (getD h n 0) ≡ true → n < length h
 unfolding isEnd
-end-inside h n e = elim (test (ltb n (length h))) [
-  | pass f ↦ ltb-true n (length h) f
-  | fail f ↦ absurd (false≢true (ap isEnd (sym (List·getD-eq-default h 0 {n = n} (ltb-false n (length h) f))) ∙ e))
-]
+end-inside = byte-inside isEnd refl
 
 module _ (h : Bytes) (x : CodeEntry) {line id : Bytes} (a : line ≡ take (length h) (drop (x .start) h)) (b : id ≡ take (length h) (drop (x .offset) line)) where
   id-rest : id ≡ drop (x .start + x .offset) h
@@ -210,6 +217,65 @@ run-anywhere last (b ∷ bs) n = elim (test (isCut b)) [
   | fail c ↦ rw (last-uncut last 0 b c, last-uncut 0 0 b c)
 ]
 
+-- The bytes before the first cut
+
+cut-inside : (s : Bytes) (n : ℕ) → isCut (getD s n 0) ≡ true → n < length s
+unfolding isCut
+cut-inside = byte-inside isCut refl
+
+piece-inside : (h : Bytes) (n : ℕ) → pieceEnds h n ≡ true → n < length h
+unfolding pieceEnds
+piece-inside h n e = cut-inside h n (and-l (isCut (getD h n 0)) _ (and-r (leb 1 n) _ e))
+
+first-taken : (s : Bytes) → take (length (before isCut s)) s ≡ before isCut s
+unfolding before
+first-taken [] = refl
+first-taken (b ∷ bs) = elim (test (isCut b)) [
+  | pass e ↦ rw (before-hit isCut b bs e)
+  | fail e ↦ rw (before-miss isCut b bs e) (ap (b ∷_) (first-taken bs))
+]
+
+-- two texts that are the same up to the first cut
+record Begun (s t : Bytes) : Type 0 where
+  same : before isCut s ≡ before isCut t
+  cut : isCut (getD s (length (before isCut s)) 0) ≡ isCut (getD t (length (before isCut t)) 0)
+
+begun-cut : (b c : ℕ) (bs cs : Bytes) → isCut b ≡ true → isCut c ≡ true → Begun (b ∷ bs) (c ∷ cs)
+begun-cut b c bs cs e f =
+    let i = before-hit isCut b bs e in
+    let j = before-hit isCut c cs f in
+    record { same = i ∙ sym j; cut = rw (i, j) (e ∙ sym f) }
+
+begun-on : (b : ℕ) {s t : Bytes} → Begun s t → Begun (b ∷ s) (b ∷ t)
+begun-on b {s} {t} g = elim (test (isCut b)) [
+  | pass e ↦ begun-cut b b s t e e
+  | fail e ↦
+      let i = before-miss isCut b s e in
+      let j = before-miss isCut b t e in
+      record { same = i ∙ ap (b ∷_) (g .same) ∙ sym j; cut = rw (i, j) (g .cut) }
+]
+
+-- an escape begins with a cut, and means one
+begun-escape : (b : ℕ) (bs t : Bytes) → isCut b ≡ true → Begun (unescaped true t) (b ∷ bs)
+unfolding unescaped
+begun-escape b bs [] e = begun-cut 92 b [] bs (backslash-cut 92 refl) e
+begun-escape b bs (c ∷ cs) e = elim (test (isEscapable c)) [
+  | pass f ↦ rw (unescaped, f) (begun-cut c b (unescaped false cs) bs (escapable-cut c f) e)
+  | fail f ↦ rw (unescaped, f) (begun-cut 92 b (c ∷ unescaped false cs) bs (backslash-cut 92 refl) e)
+]
+
+begun-unescaped : (t : Bytes) → Begun (unescaped false t) t
+unfolding unescaped
+begun-unescaped [] = record { same = refl; cut = refl }
+begun-unescaped (b ∷ bs) = elim (test (is BACKSLASH b)) [
+  | pass e ↦ rw (unescaped, e) (begun-escape b bs bs (backslash-cut b e))
+  | fail e ↦ rw (unescaped, e) (begun-on b (begun-unescaped bs))
+]
+
+begun-meaning : (q : Bool) (t : Bytes) → Begun (meaning q t) t
+begun-meaning true t = begun-unescaped t
+begun-meaning false t = record { same = refl; cut = refl }
+
 -- Last bytes
 
 -- equal parts have equal last bytes
@@ -266,23 +332,106 @@ plain-drop n t e = or-r (any (is BACKSLASH) (take n t)) (any (is BACKSLASH) (dro
 plain-take : (n : ℕ) (t : Bytes) → any (is BACKSLASH) t ≡ false → any (is BACKSLASH) (take n t) ≡ false
 plain-take n t e = or-l (any (is BACKSLASH) (take n t)) (any (is BACKSLASH) (drop n t)) (sym (any-append (is BACKSLASH) (take n t) (drop n t)) ∙ ap (any (is BACKSLASH)) (take-append-drop n t) ∙ e)
 
--- what stands ahead is noted: the runs of all names, and the last bytes of all that may be IDs
+-- a place where a name may end, or a piece of one
+abbrev pub nameEnds : Bytes → ℕ → Bool
+nameEnds h end = idEnds h end || (keyEnds h end || pieceEnds h end)
+
+-- the notes ns tell of each name ahead that ends so: asked of its run they answer yes
+abbrev pub AllTold : (Bytes → ℕ → Bool) → (List ℕ → ℕ → Bool) → Bytes → ℕ → List ℕ → Type 0
+AllTold ends told h from ns = (at size : ℕ) → from ≤ at → isCut (getD h at 0) ≡ true → ends h (at + 1 + size) ≡ true → told ns (runFrom 0 0 (take size (drop (at + 1) h))) ≡ true
+
+-- what stands ahead is noted: the runs of all names and their pieces, those of maps' keys once more, and the last bytes of all that may be IDs
 pub record Noted (h : Bytes) (from : ℕ) (ns : List ℕ) : Type 0 where
-  pub runs : (at size : ℕ) → from ≤ at → isCut (getD h at 0) ≡ true → (isEnd (getD h (at + 1 + size) 0) || is EQUALS (getD h (at + 1 + size) 0)) ≡ true
-      → runNoted ns (runFrom 0 0 (take size (drop (at + 1) h))) ≡ true
+  pub runs : AllTold nameEnds runNoted h from ns
+  pub maps : AllTold (rivalEnds textKind) mapNoted h from ns
   pub tails : (end : ℕ) → from + 8 ≤ end → end < length h → isEnd (getD h end 0) ≡ true → isNoted ns (tailHash h end) ≡ true
 
--- a text whose run is not noted means no name ahead
-pub run-away : (closes : ℕ → Bool) → ((b : ℕ) → closes b ≡ true → (isEnd b || is EQUALS b) ≡ true) → (h : Bytes) (from : ℕ) (ns : List ℕ) → Noted h from ns
-    → (q : Bool) (t : Bytes) → runNoted ns (runFrom 0 0 t) ≡ false → NewName closes h from (meaning q t) → ⊥
-run-away closes f h from ns noted q t miss new =
+-- a text of whose run the notes answer no means no name ahead
+pub run-away : (ends : Bytes → ℕ → Bool) (told : List ℕ → ℕ → Bool) (h : Bytes) (from : ℕ) (ns : List ℕ) → AllTold ends told h from ns
+    → (q : Bool) (t : Bytes) → told ns (runFrom 0 0 t) ≡ false → NewName ends h from (meaning q t) → ⊥
+run-away ends told h from ns all q t miss new =
     let text = take (new .size) (drop (new .at + 1) h) in
     let twin : runFrom 0 0 t ≡ runFrom 0 0 text = sym (run-meaning q t) ∙ ap (runFrom 0 0) (new .text) ∙ run-meaning (new .quoted) text in
-    false≢true (sym miss ∙ ap (runNoted ns) twin ∙ noted .runs (new .at) (new .size) (new .behind) (new .opened) (f (getD h (new .at + 1 + new .size) 0) (new .ended)))
+    false≢true (sym miss ∙ ap (told ns) twin ∙ all (new .at) (new .size) (new .behind) (new .opened) (new .ended))
+
+-- nor does one whose first piece was not noted
+module _ (h : Bytes) (from : ℕ) (ns : List ℕ) (all : AllTold nameEnds runNoted h from ns) (q : Bool) (t : Bytes) (miss : firstNoted ns t ≡ false) {ends : Bytes → ℕ → Bool} (new : NewName ends h from (meaning q t)) where
+  abbrev ahead : Bytes
+  ahead = take (new .size) (drop (new .at + 1) h)
+
+  abbrev size : ℕ
+  size = length (before isCut t)
+
+  begun : Begun (meaning q t) ahead
+  begun = subst (λ (s : Bytes). Begun s ahead) (sym (new .text)) (begun-meaning (new .quoted) ahead)
+
+  first-same : before isCut ahead ≡ before isCut t
+  first-same = sym (begun .same) ∙ begun-meaning q t .same
+
+  piece : pieceEnds t size ≡ true
+  unfolding firstNoted
+  piece = not-false (pieceEnds t size) (or-l (not (pieceEnds t size)) _ miss)
+
+  some : 1 ≤ size
+  unfolding pieceEnds
+  some = leb-true 1 size (and-l (leb 1 size) _ piece)
+
+  cut-ahead : isCut (getD ahead size 0) ≡ true
+  unfolding pieceEnds
+  cut-ahead = ap (λ (s : Bytes). isCut (getD ahead (length s) 0)) (sym first-same) ∙ sym (begun .cut) ∙ begun-meaning q t .cut ∙ and-l (isCut (getD t size 0)) _ (and-r (leb 1 size) _ piece)
+
+  short : size < new .size
+  short = let most : length ahead ≤ new .size = rw (length-take (new .size) (drop (new .at + 1) h)) (min-le-left (new .size) _) in omega (arith, most, cut-inside ahead size cut-ahead)
+
+  byte-ahead : (i : ℕ) → i < new .size → getD ahead i 0 ≡ getD h (new .at + 1 + i) 0
+  byte-ahead i l = getD-take (new .size) (drop (new .at + 1) h) i 0 l ∙ getD-drop (new .at + 1) h i 0
+
+  taken-ahead : take size ahead ≡ take size t
+  taken-ahead = ap (λ (s : Bytes). take (length s) ahead) (sym first-same) ∙ first-taken ahead ∙ first-same ∙ sym (first-taken t)
+
+  last-same : getD t (size - 1) 0 ≡ getD h (new .at + 1 + size - 1) 0
+  last-same =
+      let l : size - 1 < size = omega (arith, some) in
+      let i : new .at + 1 + (size - 1) ≡ new .at + 1 + size - 1 = omega (arith, some) in
+      sym (getD-take size t (size - 1) 0 l) ∙ ap (λ (s : Bytes). getD s (size - 1) 0) (sym taken-ahead) ∙ getD-take size ahead (size - 1) 0 l
+      ∙ byte-ahead (size - 1) (omega (arith, short)) ∙ ap (λ (n : ℕ). getD h n 0) i
+
+  piece-ahead : pieceEnds h (new .at + 1 + size) ≡ true
+  unfolding pieceEnds
+  piece-ahead = rw (le-leb 1 (new .at + 1 + size) (omega arith), ← byte-ahead size short, cut-ahead, ← last-same) (and-r (isCut (getD t size 0)) _ (and-r (leb 1 size) _ piece))
+
+  first-away : ⊥
+  unfolding firstNoted
+  first-away =
+      let told = all (new .at) size (new .behind) (new .opened) (or-on (idEnds h (new .at + 1 + size)) (or-on (keyEnds h (new .at + 1 + size)) piece-ahead)) in
+      let twin : before isCut t ≡ take size (drop (new .at + 1) h) = sym (first-taken t) ∙ sym taken-ahead ∙ take-take size (new .size) (drop (new .at + 1) h) (omega (arith, short)) in
+      false≢true (sym (or-r (not (pieceEnds t size)) _ miss) ∙ ap (λ (s : Bytes). runNoted ns (runFrom 0 0 s)) twin ∙ told)
+
+-- a name that ends so ends otherwise too
+pub name-as : {ends ends′ : Bytes → ℕ → Bool} {h : Bytes} → ((end : ℕ) → ends h end ≡ true → ends′ h end ≡ true) → {from : ℕ} {name : Bytes} → NewName ends h from name → NewName ends′ h from name
+name-as f new = record {
+  at = new .at;
+  size = new .size;
+  quoted = new .quoted;
+  behind = new .behind;
+  opened = new .opened;
+  text = new .text;
+  ended = f (new .at + 1 + new .size) (new .ended);
+}
+
+pub rival-key : (kind : ℕ) {h : Bytes} {from : ℕ} {name : Bytes} → NewName (rivalEnds kind) h from name → NewName keyEnds h from name
+rival-key kind {h} = name-as (λ end. and-l (keyEnds h end) _)
 
 not-no : (b : Bool) → not b ≡ false → b ≡ true
 not-no true e = refl
 not-no false e = sym e
+
+pub text-away : (h : Bytes) (from : ℕ) (ns : List ℕ) → Noted h from ns → (q : Bool) (t : Bytes) → textNoted ns t ≡ false → NewName idEnds h from (meaning q t) → ⊥
+unfolding textNoted
+text-away h from ns noted q t miss new = elim (test (runNoted ns (runFrom 0 0 t))) [
+  | pass e ↦ first-away h from ns (noted .runs) q t (rw e at miss) new
+  | fail e ↦ run-away nameEnds runNoted h from ns (noted .runs) q t e (name-as (λ end i. rw i) new)
+]
 
 -- an entry that is not ahead has the ID of no line from there on
 module _ (h : Bytes) (ns : List ℕ) (e : Entry) (away : isAhead h ns e ≡ false) where
@@ -311,7 +460,7 @@ module _ (h : Bytes) (ns : List ℕ) (e : Entry) (away : isAhead h ns e ≡ fals
   unfolding idIn
   bare = rw (or-l (e .quoted) _ rest-one)
 
-  pub away-from : (from : ℕ) → Noted h from ns → hasEscape h from ≡ false → NewName isEnd h from (idMeaning h e) → ⊥
+  pub away-from : (from : ℕ) → Noted h from ns → hasEscape h from ≡ false → NewName idEnds h from (idMeaning h e) → ⊥
   away-from from noted plain new =
       let at = new .at + 1 in
       let n = new .size in
@@ -330,7 +479,7 @@ module _ (h : Bytes) (ns : List ℕ) (e : Entry) (away : isAhead h ns e ≡ fals
       false≢true (sym (or-r (not (leb (idEnd e) (length h))) _ rest-three) ∙ ap (isNoted ns) hash ∙ told)
 
 -- the ID of a new line, where it stands as those do that were looked for
-pub new-id : (h : Bytes) (from : ℕ) (e : Entry) → from ≤ e .start → (isOpened h e && isEnded h e) ≡ true → NewName isEnd h from (idMeaning h e)
+pub new-id : (h : Bytes) (from : ℕ) (e : Entry) → from ≤ e .start → (isOpened h e && isEnded h e) ≡ true → NewName idEnds h from (idMeaning h e)
 unfolding idIn isOpened isEnded
 new-id h from e b d =
     let o = and-l (isOpened h e) (isEnded h e) d in
@@ -414,6 +563,94 @@ module _ {l : Bytes} {last run k : ℕ} (g : Keying l last run k) where
 
 pub ruleset keyings = (keying-start, keying-hit, keying-next, keying-end)
 
+-- whether a piece ends at a place
+module _ (b : ℕ) where
+  pub inner-lf : b ≡ 10 → false ≡ isInner b
+  unfolding isInner
+  inner-lf e = rw (eq-eqb b 10 e)
+
+  pub inner-uncut : (b ≡ 10 → ⊥) → {q : Bool} → q ≡ isCut b → not q ≡ isInner b
+  unfolding isInner
+  inner-uncut n e = rw (ne-eqb b 10 n, e)
+
+module _ (h : Bytes) (end : ℕ) where
+  pub piece-first : end ≡ 0 → false ≡ pieceEnds h end
+  unfolding pieceEnds
+  piece-first e = rw (lt-leb 1 end (omega arith))
+
+  module _ (n : end ≡ 0 → ⊥) {q : Bool} (a : q ≡ isCut (getD h end 0)) where
+    pub piece-uncut : not q ≡ true → false ≡ pieceEnds h end
+    unfolding pieceEnds
+    piece-uncut e = rw (le-leb 1 end (omega (arith, n)), ← a, not-true q e)
+
+    pub piece-cut : not q ≡ false → {r : Bool} → r ≡ isInner (getD h (end - 1) 0) → r ≡ pieceEnds h end
+    unfolding pieceEnds
+    piece-cut e f = f ∙ rw (le-leb 1 end (omega (arith, n)), ← a, not-false q e)
+
+pub ruleset pieces = (inner-lf, inner-uncut, piece-first, piece-uncut, piece-cut)
+
+-- the first piece of a text, of which k bytes were taken
+pub record Beginning (s : Bytes) (run k : ℕ) : Type 0 where
+  pub still : runFrom 0 0 (before isCut s) ≡ runFrom run run (before isCut (drop k s))
+  pub size : length (before isCut s) ≡ k + length (before isCut (drop k s))
+
+pub beginning-start : (s : Bytes) → Beginning s 0 0
+beginning-start s = record { still = refl; size = omega arith }
+
+module _ {s : Bytes} {run k : ℕ} (g : Beginning s run k) where
+  pub beginning-end : (ns : List ℕ) → length s ≤ k → true ≡ firstNoted ns s
+  unfolding firstNoted
+  beginning-end ns l = elim (test (pieceEnds s (length (before isCut s)))) [
+    | pass e ↦ absurd (omega (arith, piece-inside s (length (before isCut s)) e, g .size))
+    | fail e ↦ rw e
+  ]
+
+  module _ (l : k < length s) {q : Bool} (a : q ≡ isCut (getD s k 0)) where
+    pub beginning-next : q ≡ false → {r : ℕ} → r ≡ runOn run (getD s k 0) → Beginning s r (k + 1)
+    unfolding runFrom
+    beginning-next e f =
+        let b = getD s k 0 in
+        let c : isCut b ≡ false = sym a ∙ e in
+        let i : before isCut (drop k s) ≡ b ∷ before isCut (drop (k + 1) s) = ap (before isCut) (here s k l) ∙ before-miss isCut b (drop (k + 1) s) c in
+        record {
+          still = g .still ∙ rw (i, runFrom, last-uncut run run b c, step-uncut run b c, f);
+          size = g .size ∙ rw i (omega arith);
+        }
+
+    module _ (e : q ≡ true) where
+      ended : before isCut (drop k s) ≡ []
+      ended = ap (before isCut) (here s k l) ∙ before-hit isCut (getD s k 0) (drop (k + 1) s) (sym a ∙ e)
+
+      size-is : length (before isCut s) ≡ k
+      size-is = g .size ∙ rw ended (omega arith)
+
+      run-is : runFrom 0 0 (before isCut s) ≡ run
+      unfolding runFrom
+      run-is = g .still ∙ rw ended
+
+      module _ (ns : List ℕ) {p : Bool} (b : p ≡ pieceEnds s k) where
+        pub beginning-none : not p ≡ true → true ≡ firstNoted ns s
+        unfolding firstNoted
+        beginning-none n = rw (size-is, ← b, n)
+
+        pub beginning-asked : not p ≡ false → {r : Bool} → r ≡ runNoted ns run → r ≡ firstNoted ns s
+        unfolding firstNoted
+        beginning-asked n f = f ∙ rw (size-is, ← b, n, run-is)
+
+pub ruleset beginnings = (beginning-start, beginning-end, beginning-next, beginning-none, beginning-asked)
+
+-- run is that of the text
+module _ (ns : List ℕ) (t : Bytes) {run : ℕ} (e : run ≡ runFrom 0 0 t) {q : Bool} (a : q ≡ runNoted ns run) where
+  pub text-missed : not q ≡ true → false ≡ textNoted ns t
+  unfolding textNoted
+  text-missed n = rw (← e, ← a, not-true q n)
+
+  pub text-asked : not q ≡ false → {r : Bool} → r ≡ firstNoted ns t → r ≡ textNoted ns t
+  unfolding textNoted
+  text-asked n f = f ∙ rw (← e, ← a, not-false q n)
+
+pub ruleset texts = (text-missed, text-asked)
+
 -- two bits
 module _ (ns : List ℕ) (run : ℕ) {o : ℕ} (eo : o ≡ wideStep run 0) where
   pub run-noting : {ns′ : List ℕ} → ns′ ≡ note ns o → {t : ℕ} → t ≡ wideStep o 0 → {ns″ : List ℕ} → ns″ ≡ note ns′ t → ns″ ≡ noteRun ns run
@@ -436,7 +673,21 @@ run-none ns run z = rw (eq-eqb run 0 z)
 pub run-asked : (ns : List ℕ) {run of : ℕ} → run ≡ of → {r : Bool} → r ≡ runNoted ns run → r ≡ runNoted ns of
 run-asked ns e f = f ∙ ap (runNoted ns) e
 
-pub ruleset two-bits = (run-noting, run-missed, run-looked, run-none, run-asked)
+pub map-hashed : (run : ℕ) {r : ℕ} → r ≡ wideStep run 7 → r ≡ mapRun run
+unfolding mapRun
+map-hashed run e = e
+
+-- run is what was computed of the key
+module _ (ns : List ℕ) {run of : ℕ} (e : run ≡ of) where
+  pub map-none : run ≡ 0 → true ≡ mapNoted ns of
+  unfolding mapNoted
+  map-none z = rw (← e, eq-eqb run 0 z)
+
+  pub map-asked : (run ≡ 0 → ⊥) → {m : ℕ} → m ≡ mapRun run → {r : Bool} → r ≡ runNoted ns m → r ≡ mapNoted ns of
+  unfolding mapNoted
+  map-asked z f g = g ∙ rw (f, ← e, ne-eqb run 0 z)
+
+pub ruleset two-bits = (run-noting, run-missed, run-looked, run-none, run-asked, map-hashed, map-none, map-asked)
 
 -- what is noted at a place
 module _ (h : Bytes) (end : ℕ) (ns : List ℕ) where
@@ -448,21 +699,43 @@ module _ (h : Bytes) (end : ℕ) (ns : List ℕ) where
   unfolding noteTail
   tail-late l e f = f ∙ rw (noteTail, le-leb 8 end l, e)
 
+module _ (h : Bytes) (end run : ℕ) (ns : List ℕ) {ns′ : List ℕ} (f : ns′ ≡ noteRun ns run) where
+  pub key-last : length h ≤ end + 1 → ns′ ≡ noteKey h end run ns
+  unfolding noteKey
+  key-last l = f ∙ rw (noteKey, List·getD-eq-default h 0 {n = end + 1} l)
+
+  pub key-text : (getD h (end + 1) 0 ≡ 60 → ⊥) → ns′ ≡ noteKey h end run ns
+  unfolding noteKey
+  key-text n = f ∙ rw (noteKey, ne-eqb (getD h (end + 1) 0) 60 n)
+
+  pub key-map : getD h (end + 1) 0 ≡ 60 → {m : ℕ} → m ≡ mapRun run → {ns″ : List ℕ} → ns″ ≡ noteRun ns′ m → ns″ ≡ noteKey h end run ns
+  unfolding noteKey
+  key-map e d g = g ∙ rw (noteKey, eq-eqb (getD h (end + 1) 0) 60 e, f, d)
+
+module _ (h : Bytes) (end run : ℕ) (ns : List ℕ) {q : Bool} (a : q ≡ pieceEnds h end) where
+  pub piece-none : not q ≡ true → ns ≡ notePiece h end run ns
+  unfolding notePiece
+  piece-none e = rw (notePiece, ← a, not-true q e)
+
+  pub piece-noted : not q ≡ false → {ns′ : List ℕ} → ns′ ≡ noteRun ns run → ns′ ≡ notePiece h end run ns
+  unfolding notePiece
+  piece-noted e f = f ∙ rw (notePiece, ← a, not-false q e)
+
 module _ (h : Bytes) (end run : ℕ) (ns : List ℕ) {b : ℕ} (eb : b ≡ getD h end 0) where
-  pub cut-key : b ≡ 61 → {ns′ : List ℕ} → ns′ ≡ noteRun ns run → ns′ ≡ noteCut h end run ns
+  pub cut-key : b ≡ 61 → {ns′ : List ℕ} → ns′ ≡ noteKey h end run ns → ns′ ≡ noteCut h end run ns
   unfolding noteCut
   cut-key e f = f ∙ rw (noteCut, ← eb, eq-eqb b 61 e)
 
   module _ (n : b ≡ 61 → ⊥) {q : Bool} (eq : q ≡ isEnd b) where
-    pub cut-none : not q ≡ true → ns ≡ noteCut h end run ns
+    pub cut-piece : not q ≡ true → {ns′ : List ℕ} → ns′ ≡ notePiece h end run ns → ns′ ≡ noteCut h end run ns
     unfolding noteCut
-    cut-none e = rw (noteCut, ← eb, ne-eqb b 61 n, ← eb, ← eq, not-true q e)
+    cut-piece e f = f ∙ rw (noteCut, ← eb, ne-eqb b 61 n, ← eb, ← eq, not-true q e)
 
     pub cut-id : not q ≡ false → {ns′ : List ℕ} → ns′ ≡ noteRun ns run → {ns″ : List ℕ} → ns″ ≡ noteTail h end ns′ → ns″ ≡ noteCut h end run ns
     unfolding noteCut
     cut-id e f g = g ∙ rw (noteCut, ← eb, ne-eqb b 61 n, ← eb, ← eq, not-false q e, f)
 
-pub ruleset notings-at = (tail-early, tail-late, cut-key, cut-none, cut-id)
+pub ruleset notings-at = (tail-early, tail-late, key-last, key-text, key-map, piece-none, piece-noted, cut-key, cut-piece, cut-id)
 
 -- what was noted stays so, and the notes are as many
 record Kept (ns ns′ : List ℕ) : Type 0 where
@@ -486,13 +759,25 @@ kept-tail : (h : Bytes) (end : ℕ) (ns : List ℕ) → Kept ns (noteTail h end 
 unfolding noteTail
 kept-tail h end ns = elim (test (leb 8 end)) [ pass e ↦ rw (noteTail, e) (kept-note ns (tailHash h end)) | fail e ↦ rw (noteTail, e) (kept-same ns) ]
 
+-- after a key its run is noted, and what was before stays so
+after-key : (h : Bytes) (end run : ℕ) (ns : List ℕ) → Kept (noteRun ns run) (noteKey h end run ns)
+unfolding noteKey
+after-key h end run ns = elim (test (is LESS (getD h (end + 1) 0))) [
+  | pass e ↦ rw (noteKey, e) (kept-run (noteRun ns run) (mapRun run))
+  | fail e ↦ rw (noteKey, e) (kept-same (noteRun ns run))
+]
+
+kept-piece : (h : Bytes) (end run : ℕ) (ns : List ℕ) → Kept ns (notePiece h end run ns)
+unfolding notePiece
+kept-piece h end run ns = elim (test (pieceEnds h end)) [ pass e ↦ rw (notePiece, e) (kept-run ns run) | fail e ↦ rw (notePiece, e) (kept-same ns) ]
+
 kept-cut : (h : Bytes) (end run : ℕ) (ns : List ℕ) → Kept ns (noteCut h end run ns)
 unfolding noteCut
 kept-cut h end run ns = elim (test (is EQUALS (getD h end 0))) [
-  | pass e ↦ rw (noteCut, e) (kept-run ns run)
+  | pass e ↦ rw (noteCut, e) (kept-then (kept-run ns run) (after-key h end run ns))
   | fail e ↦ elim (test (isEnd (getD h end 0))) [
     | pass f ↦ rw (noteCut, e, f) (kept-then (kept-run ns run) (kept-tail h end (noteRun ns run)))
-    | fail f ↦ rw (noteCut, e, f) (kept-same ns)
+    | fail f ↦ rw (noteCut, e, f) (kept-piece h end run ns)
   ]
 ]
 
@@ -512,15 +797,22 @@ run-own : (ns : List ℕ) (run : ℕ) → runNoted (noteRun ns run) run ≡ true
 unfolding noteRun runNoted
 run-own ns run = rw (note-kept (note ns (once run)) (twice run) (once run) (note-own ns (once run)), note-own (note ns (once run)) (twice run)) (either-way (eqb run 0))
 
-cut-own : (h : Bytes) (end run : ℕ) (ns : List ℕ) → (isEnd (getD h end 0) || is EQUALS (getD h end 0)) ≡ true → runNoted (noteCut h end run ns) run ≡ true
-unfolding noteCut
+cut-own : (h : Bytes) (end run : ℕ) (ns : List ℕ) → nameEnds h end ≡ true → runNoted (noteCut h end run ns) run ≡ true
+unfolding noteCut notePiece
 cut-own h end run ns a = elim (test (is EQUALS (getD h end 0))) [
-  | pass e ↦ rw (noteCut, e) (run-own ns run)
+  | pass e ↦ rw (noteCut, e) (run-kept (after-key h end run ns) run (run-own ns run))
   | fail e ↦ elim (test (isEnd (getD h end 0))) [
     | pass f ↦ rw (noteCut, e, f) (run-kept (kept-tail h end (noteRun ns run)) run (run-own ns run))
-    | fail f ↦ absurd (false≢true (rw (e, f) at a))
+    | fail f ↦ rw (noteCut, e, f, notePiece, rw (e, f) at a) (run-own ns run)
   ]
 ]
+
+map-own : (h : Bytes) (end run : ℕ) (ns : List ℕ) → rivalEnds textKind h end ≡ true → mapNoted (noteCut h end run ns) run ≡ true
+unfolding noteCut noteKey mapNoted
+map-own h end run ns a =
+    let e = and-l (keyEnds h end) _ a in
+    let f = and-r (keyEnds h end) _ a in
+    rw (noteCut, e, noteKey, f, run-own (noteRun ns run) (mapRun run)) (either-way (eqb run 0))
 
 end-equals : (b : ℕ) → isEnd b ≡ true → is EQUALS b ≡ false
 unfolding isEnd
@@ -533,32 +825,37 @@ tail-own : (h : Bytes) (end run : ℕ) (ns : List ℕ) → isEnd (getD h end 0) 
 unfolding noteCut noteTail
 tail-own h end run ns e l = rw (noteCut, end-equals (getD h end 0) e, e, noteTail, le-leb 8 end l) (note-own (noteRun ns run) (tailHash h end))
 
-module _ (h : Bytes) where
-  -- a text from k on, up to a byte that closes a name
-  text-noted : (size k n last run : ℕ) (ns : List ℕ) → k + n ≤ length h → size < n → (isEnd (getD h (k + size) 0) || is EQUALS (getD h (k + size) 0)) ≡ true
-      → runNoted (noteCuts h k n last run ns) (runFrom last run (take size (drop k h))) ≡ true
+-- how the notes tell of names that end so: by what is noted where they end, and stays so; of a name that has nothing but cuts nothing is known
+record Telling (h : Bytes) (ends : Bytes → ℕ → Bool) (told : List ℕ → ℕ → Bool) : Type 0 where
+  inside : (end : ℕ) → ends h end ≡ true → end < length h
+  own : (end run : ℕ) (ns : List ℕ) → ends h end ≡ true → told (noteCut h end run ns) run ≡ true
+  stays : {ns ns′ : List ℕ} → Kept ns ns′ → (run : ℕ) → told ns run ≡ true → told ns′ run ≡ true
+  none : (ns : List ℕ) (run : ℕ) → run ≡ 0 → true ≡ told ns run
+
+module _ (h : Bytes) (ends : Bytes → ℕ → Bool) (told : List ℕ → ℕ → Bool) (t : Telling h ends told) where
+  -- a text from k on, up to where a name ends
+  text-noted : (size k n last run : ℕ) (ns : List ℕ) → k + n ≤ length h → size < n → ends h (k + size) ≡ true → told (noteCuts h k n last run ns) (runFrom last run (take size (drop k h))) ≡ true
   unfolding noteCuts runFrom
   text-noted size k zero last run ns a b c = absurd (omega arith)
   text-noted zero k (suc n) last run ns a b c =
       let i : k + 0 ≡ k = omega arith in
-      run-kept (kept-cuts h (k + 1) n (lastStep last run (getD h k 0)) (runStep run (getD h k 0)) (noteCut h k last ns)) last (cut-own h k last ns (rw i at c))
+      t .stays (kept-cuts h (k + 1) n (lastStep last run (getD h k 0)) (runStep run (getD h k 0)) (noteCut h k last ns)) last (t .own k last ns (rw i at c))
   text-noted (suc size) k (suc n) last run ns a b c =
       let i : k + suc size ≡ k + 1 + size = omega arith in
       rw (here h k (omega arith)) (text-noted size (k + 1) n (lastStep last run (getD h k 0)) (runStep run (getD h k 0)) (noteCut h k last ns) (omega arith) (omega arith) (rw i at c))
 
   -- whatever stands before it
-  own-noted : (size k n last : ℕ) (ns : List ℕ) → k + n ≤ length h → size < n → (isEnd (getD h (k + size) 0) || is EQUALS (getD h (k + size) 0)) ≡ true
-      → runNoted (noteCuts h k n last 0 ns) (runFrom 0 0 (take size (drop k h))) ≡ true
+  own-noted : (size k n last : ℕ) (ns : List ℕ) → k + n ≤ length h → size < n → ends h (k + size) ≡ true → told (noteCuts h k n last 0 ns) (runFrom 0 0 (take size (drop k h))) ≡ true
   own-noted size k n last ns a b c =
       let text = take size (drop k h) in
       elim (test (eqb (runFrom 0 0 text) 0)) [
-        | pass z ↦ sym (run-none (noteCuts h k n last 0 ns) (runFrom 0 0 text) (eqb-true (runFrom 0 0 text) 0 z))
-        | fail z ↦ ap (runNoted (noteCuts h k n last 0 ns)) (sym (run-anywhere last text (eqb-false (runFrom 0 0 text) 0 z))) ∙ text-noted size k n last 0 ns a b c
+        | pass z ↦ sym (t .none (noteCuts h k n last 0 ns) (runFrom 0 0 text) (eqb-true (runFrom 0 0 text) 0 z))
+        | fail z ↦ ap (told (noteCuts h k n last 0 ns)) (sym (run-anywhere last text (eqb-false (runFrom 0 0 text) 0 z))) ∙ text-noted size k n last 0 ns a b c
       ]
 
   -- a name after a cut d bytes on
   name-noted : (d k n last run : ℕ) (ns : List ℕ) (size : ℕ) → k + n ≤ length h → d + 1 + size < n → isCut (getD h (k + d) 0) ≡ true
-      → (isEnd (getD h (k + d + 1 + size) 0) || is EQUALS (getD h (k + d + 1 + size) 0)) ≡ true → runNoted (noteCuts h k n last run ns) (runFrom 0 0 (take size (drop (k + d + 1) h))) ≡ true
+      → ends h (k + d + 1 + size) ≡ true → told (noteCuts h k n last run ns) (runFrom 0 0 (take size (drop (k + d + 1) h))) ≡ true
   unfolding noteCuts
   name-noted d k zero last run ns size a b c e = absurd (omega arith)
   name-noted zero k (suc n) last run ns size a b c e =
@@ -568,6 +865,14 @@ module _ (h : Bytes) where
       let i : k + suc d ≡ k + 1 + d = omega arith in
       rw i (name-noted d (k + 1) n (lastStep last run (getD h k 0)) (runStep run (getD h k 0)) (noteCut h k last ns) size (omega arith) (omega arith) (rw i at c) (rw i at e))
 
+  all-told : (from : ℕ) (ns : List ℕ) → AllTold ends told h from (notesFrom h from ns)
+  all-told from ns at size a b c =
+      let l = t .inside (at + 1 + size) c in
+      let i : from + (at - from) ≡ at = omega arith in
+      let r = name-noted (at - from) from (length h - from) 0 0 ns size (omega arith) (omega arith) (rw i b) (rw i c) in
+      rw i at r
+
+module _ (h : Bytes) where
   tail-noted : (k n last run : ℕ) (ns : List ℕ) (end : ℕ) → k ≤ end → end < k + n → isEnd (getD h end 0) ≡ true → 8 ≤ end → isNoted (noteCuts h k n last run ns) (tailHash h end) ≡ true
   unfolding noteCuts
   tail-noted k zero last run ns end a b e l = absurd (omega arith)
@@ -581,21 +886,30 @@ module _ (h : Bytes) where
         | fail f ↦ let i = eqb-false end k f in tail-noted (k + 1) n last′ run′ (noteCut h k last ns) end (omega (arith, i)) (omega arith) e l
       ]
 
--- nothing closes a name past the header
-closed-inside : (h : Bytes) (n : ℕ) → (isEnd (getD h n 0) || is EQUALS (getD h n 0)) ≡ true → n < length h
+-- no name ends past the header
+closed-inside : (h : Bytes) (n : ℕ) → nameEnds h n ≡ true → n < length h
 unfolding isEnd
-closed-inside h n e = elim (test (ltb n (length h))) [
-  | pass f ↦ ltb-true n (length h) f
-  | fail f ↦ absurd (false≢true (ap (λ (b : ℕ). isEnd b || is EQUALS b) (sym (List·getD-eq-default h 0 {n = n} (ltb-false n (length h) f))) ∙ e))
+closed-inside h n e = elim (test (pieceEnds h n)) [
+  | pass p ↦ piece-inside h n p
+  | fail p ↦ byte-inside (λ (b : ℕ). isEnd b || (is EQUALS b || false)) refl h n (rw p at e)
 ]
+
+run-telling : (h : Bytes) → Telling h nameEnds runNoted
+run-telling h = record { inside = closed-inside h; own = cut-own h; stays = run-kept; none = run-none }
+
+map-telling : (h : Bytes) → Telling h (rivalEnds textKind) mapNoted
+unfolding mapNoted
+map-telling h = record {
+  inside = λ end e. closed-inside h end (rw (and-l (keyEnds h end) _ e) (either-way (idEnds h end)));
+  own = map-own h;
+  stays = λ k run a. elim (test (eqb run 0)) [ pass z ↦ rw z | fail z ↦ rw z (run-kept k (mapRun run) (rw z at a)) ];
+  none = λ ns run z. map-none ns refl z;
+}
 
 pub noted : (h : Bytes) (from : ℕ) (ns : List ℕ) → Noted h from (notesFrom h from ns)
 noted h from ns = record {
-  runs = λ at size a b c.
-      let l = closed-inside h (at + 1 + size) c in
-      let i : from + (at - from) ≡ at = omega arith in
-      let r = name-noted h (at - from) from (length h - from) 0 0 ns size (omega arith) (omega arith) (rw i b) (rw i c) in
-      rw i at r;
+  runs = all-told h nameEnds runNoted (run-telling h) from ns;
+  maps = all-told h (rivalEnds textKind) mapNoted (map-telling h) from ns;
   tails = λ end a b f. tail-noted h from (length h - from) 0 0 ns end (omega arith) (omega arith) f (omega arith);
 }
 
@@ -620,11 +934,11 @@ module _ {h : Bytes} {from : ℕ} {ns₀ ns : List ℕ} {last run k : ℕ} (g : 
     looking-told f d e = record { long = ap length f ∙ kept-cut h k last ns .long ∙ g .long; still = more ∙ rw (f, d, e) }
 
     pub looking-on : q ≡ false → {r : ℕ} → r ≡ runOn run (getD h k 0) → Looking h from ns₀ ns r r (k + 1)
-    unfolding noteCut
+    unfolding noteCut notePiece
     looking-on e f =
         let b = getD h k 0 in
         let n : isCut b ≡ false = or-r (isEnd b) (isCut b) (sym a ∙ e) in
-        let none : noteCut h k last ns ≡ ns = rw (noteCut, uncut-equals b n, or-l (isEnd b) (isCut b) (sym a ∙ e)) in
+        let none : noteCut h k last ns ≡ ns = rw (noteCut, uncut-equals b n, or-l (isEnd b) (isCut b) (sym a ∙ e), notePiece, uncut-piece h k n) in
         record { long = g .long; still = more ∙ rw (none, last-uncut last run b n, step-uncut run b n, f) }
 
   pub looked-notes : length h ≤ k → ns ≡ notesFrom h from ns₀

@@ -5,10 +5,10 @@ use mathlib.Core.Path.{_≡_, refl, sym, ap, subst, _∙_}
 use mathlib.Core.Bool.{Bool, true, false, not, _&&_, _||_, false≢true}
 use mathlib.Core.List.{List, [], _∷_, _++_, append-assoc}
 use lib.Dec.{eqb, leb, ltb}
-use lib.ListN.{length, drop, getD, take, take-append-drop, length-append}
+use lib.ListN.{length, drop, getD, take, take-append-drop, length-append, List·getD-eq-default}
 use lib.Seq.{take-at, drop-drop, take-append-seam, getD-drop, getD-append-seam}
 use borrow.Author.Tests.{eqb-true, eqb-false, ltb-true, ltb-false, leb-true, leb-false, lt-leb, lt-ltb, le-ltb, ne-eqb, eq-eqb}
-use Rattle.values.specs.Bytes.{Bytes, is, any, before, starts, same, EQUALS}
+use Rattle.values.specs.Bytes.{Bytes, is, any, before, starts, same}
 use Rattle.values.specs.Value.{meaning}
 use Rattle.values.specs.Hash.{wideBasis, wideStep, wideFrom}
 use Rattle.values.specs.Marks.{isMet, meet}
@@ -26,10 +26,10 @@ use Rattle.entries.specs.declared.form.Form.{Form}
 use Rattle.entries.specs.Tables.{room, entriesIn, entryIn}
 use Rattle.entries.proofs.Stored.{entries-here, entries-past}
 use Rattle.ids.specs.Clashes.{prefixOf, Prefixes, hasKey, keySeen, isOfKey, isOfId, idSeen, clashBy, clashIn}
-use Rattle.ids.specs.Marks.{keyHash, prefixHash, underHash, idHash, markUnder, markEntry, Marked, MarkedFrom, markId, markKey, markMap, markNames, markNoted, isFar, AheadMarked, keyFound, idFound, clashFound}
-use Rattle.ids.specs.Ahead.{isEnd, isCut, isOpened, isEnded, NewName, runFrom, runNoted, hasEscape, notesFrom, isNear, NextNear}
+use Rattle.ids.specs.Marks.{keyHash, prefixHash, underHash, idHash, markUnder, markEntry, Marked, MarkedFrom, markId, markKey, markMap, markNames, markNoted, isFar, AheadMarked, isSought, keyFound, idFound, clashFound}
+use Rattle.ids.specs.Ahead.{isEnd, isCut, isOpened, isEnded, idEnds, keyEnds, isRival, rivalEnds, NewName, runFrom, runNoted, textNoted, mapNoted, hasEscape, notesFrom, isNear, NextNear}
 use Rattle.ids.proofs.Seen.{met-by}
-use Rattle.ids.proofs.Aheads.{either-way, new-id, Noted, noted, run-away, away-kind, away-from}
+use Rattle.ids.proofs.Aheads.{either-way, nameEnds, new-id, Noted, noted, name-as, rival-key, run-away, text-away, away-kind, away-from}
 use Rattle.rules.specs.Claims.{All, keyIn}
 use Rattle.rules.proofs.Records.{starts-is}
 
@@ -121,6 +121,11 @@ prefix-own h prefix e own = elim (test (ltb (e .kind) 7)) [
       rw (prefixHash, keyHash, l, le-ltb (length prefix) 3 (omega arith), m, own) (ap (wideFrom wideBasis) (take-at k (61 ∷ []) (length k) refl))
 ]
 
+-- where all that is there is marked of what stands as was looked for, nothing is lost by not looking for what is not
+sought-sure : (met sought seen : Bool) → (sought ≡ true → seen ≡ true → met ≡ true) → ((met || not sought) && seen) ≡ seen
+sought-sure met true seen f = sure (met || false) seen (λ s. rw (f refl s))
+sought-sure met false seen f = sure (met || true) seen (λ s. either-way met)
+
 -- e is the new entry, whose line begins with the prefix
 module _ (h : Bytes) (from : ℕ) (ms : List ℕ) (prefix : Bytes) (e : Entry) (own : prefix ≡ prefixOf (keyIn (lineIn h e))) where
   key-is : (x : Entry) → starts prefix (lineIn h x) ≡ true → keyIn (lineIn h x) ≡ keyIn (lineIn h e)
@@ -130,9 +135,9 @@ module _ (h : Bytes) (from : ℕ) (ms : List ℕ) (prefix : Bytes) (e : Entry) (
   same-key l x m s = sym (hash-other h x m) ∙ ap (wideFrom wideBasis) (key-is x s) ∙ hash-other h e l
 
   -- the key of an entry stands ahead where the new one's does
-  key-there : (x : Entry) → x .kind ≡ e .kind → isOfKey h prefix (e .kind) x ≡ true → (7 ≤ e .kind → NewName (is EQUALS) h from (keyIn (lineIn h e))) → 7 ≤ x .kind → NewName (is EQUALS) h from (keyIn (lineIn h x))
+  key-there : (x : Entry) → x .kind ≡ e .kind → isOfKey h prefix (e .kind) x ≡ true → (7 ≤ e .kind → NewName keyEnds h from (keyIn (lineIn h e))) → 7 ≤ x .kind → NewName keyEnds h from (keyIn (lineIn h x))
   unfolding isOfKey
-  key-there x k u w l = subst (NewName (is EQUALS) h from) (sym (key-is x (rw (le-ltb (e .kind) 7 (omega arith)) at u))) (w (omega arith))
+  key-there x k u w l = subst (NewName keyEnds h from) (sym (key-is x (rw (le-ltb (e .kind) 7 (omega arith)) at u))) (w (omega arith))
 
   same-id-key : (x : Entry) → x .kind ≡ e .kind → isOfKey h prefix (e .kind) x ≡ true → keyHash h x ≡ keyHash h e
   unfolding isOfKey
@@ -141,20 +146,21 @@ module _ (h : Bytes) (from : ℕ) (ms : List ℕ) (prefix : Bytes) (e : Entry) (
     | fail l ↦ let t = ltb-false (e .kind) 7 l in same-key t x (omega arith) (rw l at u)
   ]
 
-  key-marked : 7 ≤ e .kind → NewName (is EQUALS) h from (keyIn (lineIn h e)) → (kind : ℕ) → 7 ≤ kind → kind ≤ 8 → (es : List Entry) → All (MarkedFrom h from ms) es
+  key-marked : 7 ≤ e .kind → (kind : ℕ) → NewName (rivalEnds kind) h from (keyIn (lineIn h e)) → 7 ≤ kind → kind ≤ 8 → (es : List Entry) → All (MarkedFrom h from ms) es
       → keySeen h prefix kind es ≡ true → isMet ms (underHash (keyHash h e) kind) ≡ true
   unfolding keySeen hasKey
-  key-marked o w kind l m [] a f = absurd (false≢true f)
-  key-marked o w kind l m (x ∷ es) a f = elim (test (hasKey h prefix kind x)) [
+  key-marked o kind w l m [] a f = absurd (false≢true f)
+  key-marked o kind w l m (x ∷ es) a f = elim (test (hasKey h prefix kind x)) [
     | pass g ↦
         let k = eqb-true (x .kind) kind (and-l (eqb (x .kind) kind) (starts prefix (lineIn h x)) g) in
         let s = and-r (eqb (x .kind) kind) (starts prefix (lineIn h x)) g in
-        let y = a .0 .key (omega arith) (omega arith) (subst (NewName (is EQUALS) h from) (sym (key-is x s)) w) in
-        subst (λ (c : ℕ). isMet ms (underHash c kind) ≡ true) (same-key o x (omega arith) s) (subst (λ (n : ℕ). isMet ms (underHash (keyHash h x) n) ≡ true) k y)
-    | fail g ↦ key-marked o w kind l m es (a .1) (rw g at f)
+        let v = subst (λ (n : ℕ). NewName (rivalEnds n) h from (keyIn (lineIn h x))) (sym k) (subst (NewName (rivalEnds kind) h from) (sym (key-is x s)) w) in
+        subst (λ (c : ℕ). isMet ms (underHash c kind) ≡ true) (same-key o x (omega arith) s)
+        (subst (λ (n : ℕ). isMet ms (underHash (keyHash h x) n) ≡ true) k (a .0 .key (omega arith) (omega arith) v))
+    | fail g ↦ key-marked o kind w l m es (a .1) (rw g at f)
   ]
 
-  id-marked : 2 ≤ e .kind → e .kind ≤ 7 → (7 ≤ e .kind → NewName (is EQUALS) h from (keyIn (lineIn h e))) → NewName isEnd h from (idMeaning h e) → (es : List Entry) → All (MarkedFrom h from ms) es → idSeen h prefix (e .kind) (idMeaning h e) es ≡ true → isMet ms (idHash (keyHash h e) (e .kind) (idMeaning h e)) ≡ true
+  id-marked : 2 ≤ e .kind → e .kind ≤ 7 → (7 ≤ e .kind → NewName keyEnds h from (keyIn (lineIn h e))) → NewName idEnds h from (idMeaning h e) → (es : List Entry) → All (MarkedFrom h from ms) es → idSeen h prefix (e .kind) (idMeaning h e) es ≡ true → isMet ms (idHash (keyHash h e) (e .kind) (idMeaning h e)) ≡ true
   unfolding idSeen isOfId
   id-marked n l v w [] a f = absurd (false≢true f)
   id-marked n l v w (x ∷ es) a f = elim (test (isOfId h prefix (e .kind) (idMeaning h e) x)) [
@@ -166,36 +172,45 @@ module _ (h : Bytes) (from : ℕ) (ms : List ℕ) (prefix : Bytes) (e : Entry) (
         let i = same-sound (idMeaning h x) (idMeaning h e) (and-r (isOfKey h prefix (e .kind) x) (same (idMeaning h x) (idMeaning h e)) r) in
         subst (λ (c : ℕ). isMet ms (idHash c (e .kind) (idMeaning h e)) ≡ true) b
         (subst (λ (n : ℕ). isMet ms (idHash (keyHash h x) n (idMeaning h e)) ≡ true) k
-        (subst (λ (y : Bytes). isMet ms (idHash (keyHash h x) (x .kind) y) ≡ true) i (a .0 .id (omega arith) (omega arith) (key-there x k o v) (subst (NewName isEnd h from) (sym i) w))))
+        (subst (λ (y : Bytes). isMet ms (idHash (keyHash h x) (x .kind) y) ≡ true) i (a .0 .id (omega arith) (omega arith) (key-there x k o v) (subst (NewName idEnds h from) (sym i) w))))
     | fail g ↦ id-marked n l v w es (a .1) (rw g at f)
   ]
 
-  key-sure : 7 ≤ e .kind → NewName (is EQUALS) h from (keyIn (lineIn h e)) → (kind : ℕ) → 7 ≤ kind → kind ≤ 8 → (es : List Entry) → All (MarkedFrom h from ms) es
-      → keyFound h es ms prefix (keyHash h e) kind ≡ keySeen h prefix kind es
+  key-sure : 7 ≤ e .kind → (kind : ℕ) → (isSought h prefix kind e ≡ true → NewName (rivalEnds kind) h from (keyIn (lineIn h e))) → 7 ≤ kind → kind ≤ 8 → (es : List Entry) → All (MarkedFrom h from ms) es
+      → keyFound h es ms prefix (keyHash h e) kind e ≡ keySeen h prefix kind es
   unfolding keyFound
-  key-sure o w kind l m es a = sure (isMet ms (underHash (keyHash h e) kind)) (keySeen h prefix kind es) (key-marked o w kind l m es a)
+  key-sure o kind w l m es a = sought-sure (isMet ms (underHash (keyHash h e) kind)) (isSought h prefix kind e) (keySeen h prefix kind es) (λ d f. key-marked o kind (w d) l m es a f)
 
-  id-sure : 2 ≤ e .kind → e .kind ≤ 7 → (7 ≤ e .kind → NewName (is EQUALS) h from (keyIn (lineIn h e))) → from ≤ e .start → (es : List Entry) → All (MarkedFrom h from ms) es → idFound h es ms prefix (keyHash h e) e ≡ idSeen h prefix (e .kind) (idMeaning h e) es
+  id-sure : 2 ≤ e .kind → e .kind ≤ 7 → (7 ≤ e .kind → NewName keyEnds h from (keyIn (lineIn h e))) → from ≤ e .start → (es : List Entry) → All (MarkedFrom h from ms) es → idFound h es ms prefix (keyHash h e) e ≡ idSeen h prefix (e .kind) (idMeaning h e) es
   unfolding idFound
-  id-sure n l v b es a = sure (isMet ms (idHash (keyHash h e) (e .kind) (idMeaning h e)) || not (isOpened h e && isEnded h e)) (idSeen h prefix (e .kind) (idMeaning h e) es) (λ f. elim (test (isOpened h e && isEnded h e)) [
-    | pass d ↦ rw (d, id-marked n l v (new-id h from e b d) es a f)
-    | fail d ↦ rw d (either-way (isMet ms (idHash (keyHash h e) (e .kind) (idMeaning h e))))
-  ])
+  id-sure n l v b es a =
+      sought-sure (isMet ms (idHash (keyHash h e) (e .kind) (idMeaning h e))) (isOpened h e && isEnded h e) (idSeen h prefix (e .kind) (idMeaning h e) es) (λ d f. id-marked n l v (new-id h from e b d) es a f)
+
+-- a byte that begins a rival's value does so whatever follows
+rival-more : (kind n : ℕ) (s y : Bytes) → isRival kind (getD s n 0) ≡ true → isRival kind (getD (s ++ y) n 0) ≡ true
+rival-more kind n [] y d = elim (test (eqb kind textKind)) [ pass k ↦ absurd (false≢true (rw k at d)) | fail k ↦ rw k ]
+rival-more kind zero (x ∷ s) y d = d
+rival-more kind (suc n) (x ∷ s) y d = rival-more kind n s y d
 
 -- the key of a new line, which begins with its prefix
-new-key : (h : Bytes) (from : ℕ) (e : Entry) → from ≤ e .start → starts (prefixOf (keyIn (lineIn h e))) (lineIn h e) ≡ true → NewName (is EQUALS) h from (keyIn (lineIn h e))
-unfolding lineIn isCut isEnd
-new-key h from e b s =
+new-key : (h : Bytes) (from : ℕ) (e : Entry) → from ≤ e .start → (prefix : Bytes) → Prefixes prefix (lineIn h e) → (kind : ℕ) → isSought h prefix kind e ≡ true → NewName (rivalEnds kind) h from (keyIn (lineIn h e))
+unfolding lineIn isCut isEnd isSought
+new-key h from e b prefix own kind d =
     let l = lineIn h e in
     let k = keyIn l in
     let r = drop (length (prefixOf k)) l in
     let y = drop (e .length) (drop (e .start) h) in
-    let whole : drop (e .start) h ≡ prefixOf k ++ (r ++ y)
-    = sym (take-append-drop (e .length) (drop (e .start) h)) ∙ ap (_++ y) (starts-is (prefixOf k) l s) ∙ append-assoc (prefixOf k) r y in
+    let line : l ++ y ≡ drop (e .start) h = take-append-drop (e .length) (drop (e .start) h) in
+    let first = ap (λ (p : Bytes). starts p l) (sym (own .key)) ∙ own .first in
+    let whole : drop (e .start) h ≡ prefixOf k ++ (r ++ y) = sym line ∙ ap (_++ y) (starts-is (prefixOf k) l first) ∙ append-assoc (prefixOf k) r y in
     let two : e .start + 1 + 1 ≡ e .start + 2 = omega arith in
     let rest : drop (e .start + 1 + 1) h ≡ k ++ 61 ∷ (r ++ y) = rw two (sym (drop-drop 2 (e .start) h)) ∙ ap (drop 2) whole ∙ append-assoc k (61 ∷ []) (r ++ y) in
     let hash : getD h (e .start + 1) 0 ≡ 35 = sym (getD-drop (e .start) h 1 0) ∙ ap (λ (x : Bytes). getD x 1 0) whole in
     let end : getD h (e .start + 1 + 1 + length k) 0 ≡ 61 = sym (getD-drop (e .start + 1 + 1) h (length k) 0) ∙ ap (λ (x : Bytes). getD x (length k) 0) rest ∙ getD-append-seam k 61 (r ++ y) 0 in
+    let past : length prefix ≡ 2 + length k + 1 = ap length (own .key) ∙ rw (length-append k (61 ∷ [])) (omega arith) in
+    let next : e .start + 1 + 1 + length k + 1 ≡ e .start + length prefix = omega arith in
+    let rival : isRival kind (getD h (e .start + length prefix) 0) ≡ true
+    = subst (λ (x : ℕ). isRival kind x ≡ true) (ap (λ (x : Bytes). getD x (length prefix) 0) line ∙ getD-drop (e .start) h (length prefix) 0) (rival-more kind (length prefix) l y d) in
     record {
       at = e .start + 1;
       size = length k;
@@ -203,7 +218,7 @@ new-key h from e b s =
       behind = omega arith;
       opened = ap isCut hash;
       text = sym (ap (take (length k)) rest ∙ take-append-seam k (61 ∷ (r ++ y)));
-      ended = ap (is EQUALS) end;
+      ended = rw (end, next) rival;
     }
 
 -- of a typed kind no key is asked for
@@ -219,16 +234,18 @@ other-clash kind i j m x l = rw (clashBy, le-ltb kind 7 (omega arith), ne-eqb ki
 -- where all entries are marked that it may clash with, what is not marked is not among them
 pub clash-sure : (h : Bytes) (from : ℕ) (es : List Entry) (ms : List ℕ) (prefix : Bytes) (e : Entry) → Prefixes prefix (lineIn h e) → 2 ≤ e .kind
     → from ≤ e .start → All (MarkedFrom h from ms) es → clashFound h es ms prefix e ≡ clashIn h es prefix e
+unfolding isSought
 clash-sure h from es ms prefix e own n b a =
-    let w = new-key h from e b (ap (λ (p : Bytes). starts p (lineIn h e)) (sym (own .key)) ∙ own .first) in
+    let w = new-key h from e b prefix own in
+    let v = rival-key (mapKind other) (w (mapKind other) refl) in
     elim (test (ltb (e .kind) 7)) [
-      | pass l ↦ let t = ltb-true (e .kind) 7 l in rw (id-sure h from ms prefix e (own .key) n (omega arith) (λ m. w) b es a) (typed-only (e .kind) _ _ _ _ _ t)
+      | pass l ↦ let t = ltb-true (e .kind) 7 l in rw (id-sure h from ms prefix e (own .key) n (omega arith) (λ m. v) b es a) (typed-only (e .kind) _ _ _ _ _ t)
       | fail l ↦
           let t = ltb-false (e .kind) 7 l in
-          let u = key-sure h from ms prefix e (own .key) t w textKind (omega arith) (omega arith) es a in
-          let m = key-sure h from ms prefix e (own .key) t w (mapKind other) (omega arith) (omega arith) es a in
+          let u = key-sure h from ms prefix e (own .key) t textKind (w textKind) (omega arith) (omega arith) es a in
+          let m = key-sure h from ms prefix e (own .key) t (mapKind other) (w (mapKind other)) (omega arith) (omega arith) es a in
           elim (test (leb (e .kind) 7)) [
-            | pass q ↦ rw (id-sure h from ms prefix e (own .key) n (leb-true (e .kind) 7 q) (λ m. w) b es a, u, m)
+            | pass q ↦ rw (id-sure h from ms prefix e (own .key) n (leb-true (e .kind) 7 q) (λ m. v) b es a, u, m)
             | fail q ↦ rw (u, m) (other-clash (e .kind) _ _ _ _ (omega (arith, leb-false (e .kind) 7 q)))
           ]
     ]
@@ -272,38 +289,55 @@ not-not : (b : Bool) → b ≡ not (not b)
 not-not true = refl
 not-not false = refl
 
--- q is what the marks answered
-module _ (h : Bytes) (es : List Entry) (ms : List ℕ) (prefix : Bytes) (key kind : ℕ) {hash : ℕ} (eh : hash ≡ underHash key kind) {q : Bool} (e : q ≡ isMet ms hash) where
-  pub key-unmarked : not q ≡ true → false ≡ keyFound h es ms prefix key kind
-  unfolding keyFound
-  key-unmarked n = rw (← eh, ← e, not-true q n)
+-- m is what the marks answered, s whether the new name stands as those that were looked for, q whether that settles it
+told : {m s q b : Bool} → q ≡ not (m || not s) → q ≡ not b → {met sought : Bool} → m ≡ met → s ≡ sought → (met || not sought) ≡ b
+told {m} {s} {b = b} d f e g = rw (← e, ← g) (not-same (m || not s) b (sym d ∙ f))
 
-  pub key-looked : not q ≡ false → {r : Bool} → r ≡ keySeen h prefix kind es → r ≡ keyFound h es ms prefix key kind
+module _ (h : Bytes) (es : List Entry) (ms : List ℕ) (prefix : Bytes) (key kind : ℕ) (x : CodeEntry) {hash : ℕ} (eh : hash ≡ underHash key kind) {m : Bool} (e : m ≡ isMet ms hash)
+    {s : Bool} (en : s ≡ isSought h prefix kind (entryOf x)) {q : Bool} (d : q ≡ not (m || not s)) where
+  pub key-unmarked : q ≡ true → false ≡ keyFound h es ms prefix key kind (entryOf x)
   unfolding keyFound
-  key-looked n f = f ∙ rw (← eh, ← e, not-false q n)
+  key-unmarked f = rw (told {b = false} d f (e ∙ ap (isMet ms) eh) en)
 
--- m is what the marks answered, q whether that settles it
+  pub key-looked : q ≡ false → {r : Bool} → r ≡ keySeen h prefix kind es → r ≡ keyFound h es ms prefix key kind (entryOf x)
+  unfolding keyFound
+  key-looked f g = g ∙ rw (told {b = true} d f (e ∙ ap (isMet ms) eh) en)
+
 module _ (h : Bytes) (es : List Entry) (ms : List ℕ) (prefix : Bytes) (key : ℕ) (x : CodeEntry) {hash : ℕ} (eh : hash ≡ idHash key (x .kind) (idMeaning h (entryOf x))) {m : Bool} (e : m ≡ isMet ms hash)
-    {q : Bool} (d : q ≡ not (m || not (isOpened h (entryOf x) && isEnded h (entryOf x)))) where
-  told : {b : Bool} → q ≡ not b → (isMet ms (idHash key (x .kind) (idMeaning h (entryOf x))) || not (isOpened h (entryOf x) && isEnded h (entryOf x))) ≡ b
-  told {b} f = rw (← eh, ← e) (not-same (m || not (isOpened h (entryOf x) && isEnded h (entryOf x))) b (sym d ∙ f))
-
+    {s : Bool} (en : s ≡ (isOpened h (entryOf x) && isEnded h (entryOf x))) {q : Bool} (d : q ≡ not (m || not s)) where
   pub id-unmarked : q ≡ true → false ≡ idFound h es ms prefix key (entryOf x)
   unfolding idFound
-  id-unmarked f = rw (told {b = false} f)
+  id-unmarked f = rw (told {b = false} d f (e ∙ ap (isMet ms) eh) en)
 
   -- the code holds the new entry's ID in p
   pub id-looked : q ≡ false → {p : Bytes} → p ≡ idIn h (entryOf x) → {r : Bool} → r ≡ idSeen h prefix (x .kind) (meaning (x .quoted) p) es → r ≡ idFound h es ms prefix key (entryOf x)
   unfolding idFound
-  id-looked f ep g = g ∙ rw (ep, told {b = true} f)
+  id-looked f ep g = g ∙ rw (ep, told {b = true} d f (e ∙ ap (isMet ms) eh) en)
 
-pub free-met : (h : Bytes) (x : CodeEntry) {m : Bool} → m ≡ true → false ≡ not (m || not (isOpened h (entryOf x) && isEnded h (entryOf x)))
-free-met h x e = rw e
+module _ (m s : Bool) where
+  pub free-met : m ≡ true → false ≡ not (m || not s)
+  free-met e = rw e
 
-pub free-ended : (h : Bytes) (x : CodeEntry) {m : Bool} → m ≡ false → {r : Bool} → r ≡ (isOpened h (entryOf x) && isEnded h (entryOf x)) → r ≡ not (m || not (isOpened h (entryOf x) && isEnded h (entryOf x)))
-free-ended h x e f = f ∙ rw e (not-not (isOpened h (entryOf x) && isEnded h (entryOf x)))
+  pub free-sought : m ≡ false → s ≡ not (m || not s)
+  free-sought e = rw e (not-not s)
 
-pub ruleset frees = (free-met, free-ended)
+pub ruleset frees = (free-met, free-sought)
+
+-- whether a new line stands as was looked for
+module _ (h prefix : Bytes) (kind : ℕ) (x : CodeEntry) where
+  pub sought-any : (kind ≡ 8 → ⊥) → true ≡ isSought h prefix kind (entryOf x)
+  unfolding isSought
+  sought-any n = rw (ne-eqb kind 8 n)
+
+  module _ (k : kind ≡ 8) {l : Bytes} (el : l ≡ lineIn h (entryOf x)) where
+    pub sought-map : eqb (getD l (length prefix) 0) 60 ≡ isSought h prefix kind (entryOf x)
+    unfolding isSought
+    sought-map = rw (eq-eqb kind 8 k, el)
+
+    pub sought-end : length l ≤ length prefix → false ≡ isSought h prefix kind (entryOf x)
+    sought-end n = ap (λ (b : ℕ). eqb b 60) (sym (List·getD-eq-default l 0 {n = length prefix} n)) ∙ sought-map
+
+pub ruleset soughts = (sought-any, sought-map, sought-end)
 
 -- no new line clashes with the fileformat line
 pub unmarked : (h ms : Bytes) (e : Entry) → e .kind < 2 → Marked h ms e
@@ -318,33 +352,33 @@ unmarked-last h ms e l = record { id = λ a b. absurd (omega arith); key = λ a 
 module _ (h : Bytes) (ns : List ℕ) (e : Entry) (ms : List ℕ) where
   id-length : length (markId h ns e ms) ≡ length ms
   unfolding markId
-  id-length = elim (test (runNoted ns (runFrom 0 0 (idIn h e)))) [ pass f ↦ rw (markId, f) (meet-length ms _) | fail f ↦ rw (markId, f) ]
+  id-length = elim (test (textNoted ns (idIn h e))) [ pass f ↦ rw (markId, f) (meet-length ms _) | fail f ↦ rw (markId, f) ]
 
   key-length : length (markKey h ns e ms) ≡ length ms
   unfolding markKey
-  key-length = elim (test (runNoted ns (runFrom 0 0 (keyIn (lineIn h e))))) [ pass f ↦ rw (markKey, f) (meet-length ms _) | fail f ↦ rw (markKey, f) ]
+  key-length = elim (test (mapNoted ns (runFrom 0 0 (keyIn (lineIn h e))))) [ pass f ↦ rw (markKey, f) (meet-length ms _) | fail f ↦ rw (markKey, f) ]
 
   id-kept : (hash : ℕ) → isMet ms hash ≡ true → isMet (markId h ns e ms) hash ≡ true
   unfolding markId
-  id-kept hash a = elim (test (runNoted ns (runFrom 0 0 (idIn h e)))) [ pass f ↦ rw (markId, f) (meet-kept ms _ hash a) | fail f ↦ rw (markId, f) a ]
+  id-kept hash a = elim (test (textNoted ns (idIn h e))) [ pass f ↦ rw (markId, f) (meet-kept ms _ hash a) | fail f ↦ rw (markId, f) a ]
 
   key-kept : (hash : ℕ) → isMet ms hash ≡ true → isMet (markKey h ns e ms) hash ≡ true
   unfolding markKey
-  key-kept hash a = elim (test (runNoted ns (runFrom 0 0 (keyIn (lineIn h e))))) [ pass f ↦ rw (markKey, f) (meet-kept ms _ hash a) | fail f ↦ rw (markKey, f) a ]
+  key-kept hash a = elim (test (mapNoted ns (runFrom 0 0 (keyIn (lineIn h e))))) [ pass f ↦ rw (markKey, f) (meet-kept ms _ hash a) | fail f ↦ rw (markKey, f) a ]
 
   module _ (from : ℕ) (noted : Noted h from ns) where
-    id-ahead : NewName isEnd h from (idMeaning h e) → isMet (markId h ns e ms) (idHash (keyHash h e) (e .kind) (idMeaning h e)) ≡ true
+    id-ahead : NewName idEnds h from (idMeaning h e) → isMet (markId h ns e ms) (idHash (keyHash h e) (e .kind) (idMeaning h e)) ≡ true
     unfolding markId
-    id-ahead w = elim (test (runNoted ns (runFrom 0 0 (idIn h e)))) [
+    id-ahead w = elim (test (textNoted ns (idIn h e))) [
       | pass f ↦ rw (markId, f) (meet-own ms _)
-      | fail f ↦ absurd (run-away isEnd (λ b i. rw i) h from ns noted (e .quoted) (idIn h e) f w)
+      | fail f ↦ absurd (text-away h from ns noted (e .quoted) (idIn h e) f w)
     ]
 
-    key-ahead : NewName (is EQUALS) h from (keyIn (lineIn h e)) → isMet (markKey h ns e ms) (underHash (keyHash h e) (e .kind)) ≡ true
+    key-ahead : NewName (rivalEnds textKind) h from (keyIn (lineIn h e)) → isMet (markKey h ns e ms) (underHash (keyHash h e) (e .kind)) ≡ true
     unfolding markKey
-    key-ahead w = elim (test (runNoted ns (runFrom 0 0 (keyIn (lineIn h e))))) [
+    key-ahead w = elim (test (mapNoted ns (runFrom 0 0 (keyIn (lineIn h e))))) [
       | pass f ↦ rw (markKey, f) (meet-own ms _)
-      | fail f ↦ absurd (run-away (is EQUALS) (λ b i. rw i (either-way (isEnd b))) h from ns noted false (keyIn (lineIn h e)) f w)
+      | fail f ↦ absurd (run-away (rivalEnds textKind) mapNoted h from ns (noted .maps) false (keyIn (lineIn h e)) f w)
     ]
 
 module _ (h : Bytes) (ns : List ℕ) (e : Entry) (ms : List ℕ) where
@@ -370,8 +404,8 @@ module _ (h : Bytes) (ns : List ℕ) (e : Entry) (ms : List ℕ) where
       key = λ a b w. id-kept h ns e (meet ms under) under (meet-own ms under);
     })
     | fail f ↦
-        let away = run-away (is EQUALS) (λ b i. rw i (either-way (isEnd b))) h from ns noted false (keyIn (lineIn h e)) f in
-        record { id = λ a b k w. absurd (away (k l)); key = λ a b w. absurd (away w) }
+        let away : NewName keyEnds h from (keyIn (lineIn h e)) → ⊥ = λ w. run-away nameEnds runNoted h from ns (noted .runs) false (keyIn (lineIn h e)) f (name-as (λ end i. rw i (either-way (idEnds h end))) w) in
+        record { id = λ a b k w. absurd (away (k l)); key = λ a b w. absurd (away (rival-key (e .kind) w)) }
   ]
 
 module _ (h : Bytes) (ns : List ℕ) (e : Entry) (ms : List ℕ) where
@@ -403,13 +437,14 @@ module _ (h : Bytes) (ns : List ℕ) (e : Entry) (ms : List ℕ) where
       | pass k ↦ rw (markNames, l, k) (map-marked h ns e ms from noted (ltb-false (e .kind) 7 l))
       | fail k ↦
           let ne = eqb-false (e .kind) 7 k in
-          rw (markNames, l, k) (record { id = λ a b k w. absurd (ne (omega (arith, ltb-false (e .kind) 7 l))); key = λ a b w. key-ahead h ns e ms from noted w })
+          let text : 7 ≤ e .kind → e .kind ≤ 8 → e .kind ≡ 8 = λ a b. omega (arith, ne) in
+          rw (markNames, l, k) (record { id = λ a b k w. absurd (ne (omega (arith, ltb-false (e .kind) 7 l))); key = λ a b w. key-ahead h ns e ms from noted (subst (λ (n : ℕ). NewName (rivalEnds n) h from (keyIn (lineIn h e))) (text a b) w) })
     ]
   ]
 
 -- what the code's tests answered
 module _ (h : Bytes) (ns : List ℕ) (x : CodeEntry) (ms : List ℕ) where
-  module _ {p : Bytes} (ep : p ≡ idIn h (entryOf x)) {q : Bool} (a : q ≡ runNoted ns (runFrom 0 0 p)) where
+  module _ {p : Bytes} (ep : p ≡ idIn h (entryOf x)) {q : Bool} (a : q ≡ textNoted ns p) where
     pub id-spared : not q ≡ true → ms ≡ markId h ns (entryOf x) ms
     unfolding markId
     id-spared n = rw (markId, ← ep, ← a, not-true q n)
@@ -418,7 +453,7 @@ module _ (h : Bytes) (ns : List ℕ) (x : CodeEntry) (ms : List ℕ) where
     unfolding markId
     id-noted n ek eh f = f ∙ rw (eh, ek) (sym (rw (markId, ← ep, ← a, not-false q n, ← ep)))
 
-  module _ {p : Bytes} (ep : p ≡ lineIn h (entryOf x)) {q : Bool} (a : q ≡ runNoted ns (runFrom 0 0 (keyIn p))) where
+  module _ {p : Bytes} (ep : p ≡ lineIn h (entryOf x)) {q : Bool} (a : q ≡ mapNoted ns (runFrom 0 0 (keyIn p))) where
     pub key-spared : not q ≡ true → ms ≡ markKey h ns (entryOf x) ms
     unfolding markKey
     key-spared n = rw (markKey, ← ep, ← a, not-true q n)
@@ -427,6 +462,7 @@ module _ (h : Bytes) (ns : List ℕ) (x : CodeEntry) (ms : List ℕ) where
     unfolding markKey
     key-noted n ek eh f = f ∙ rw (eh, ek) (sym (rw (markKey, ← ep, ← a, not-false q n)))
 
+  module _ {p : Bytes} (ep : p ≡ lineIn h (entryOf x)) {q : Bool} (a : q ≡ runNoted ns (runFrom 0 0 (keyIn p))) where
     pub map-spared : not q ≡ true → ms ≡ markMap h ns (entryOf x) ms
     unfolding markMap
     map-spared n = rw (markMap, ← ep, ← a, not-true q n)

@@ -195,15 +195,15 @@ sort-map kind ne = rw (otherSort, ne-eqb kind 7 ne)
 pub ruleset sorts = (sort-text, sort-map)
 
 module _ (h : Bytes) (es : List Entry) (ms : List ℕ) (prefix : Bytes) (key : ℕ) where
-  pub unmixed : (kind : ℕ) → kind < 7 → false ≡ mixedFound h es ms prefix key kind
-  unfolding mixedFound
-  unmixed kind l = rw (mixedFound, lt-ltb kind 7 l)
-
-  pub mixed-by : (kind : ℕ) → 7 ≤ kind → {o : ℕ} → o ≡ otherSort kind → {r : Bool} → r ≡ keyFound h es ms prefix key o → r ≡ mixedFound h es ms prefix key kind
-  unfolding mixedFound
-  mixed-by kind l a b = b ∙ rw (mixedFound, le-ltb kind 7 l, a)
-
   module _ (e : Entry) where
+    pub unmixed : e .kind < 7 → false ≡ mixedFound h es ms prefix key e
+    unfolding mixedFound
+    unmixed l = rw (mixedFound, lt-ltb (e .kind) 7 l)
+
+    pub mixed-by : 7 ≤ e .kind → {o : ℕ} → o ≡ otherSort (e .kind) → {r : Bool} → r ≡ keyFound h es ms prefix key o e → r ≡ mixedFound h es ms prefix key e
+    unfolding mixedFound
+    mixed-by l a b = b ∙ rw (mixedFound, le-ltb (e .kind) 7 l, a)
+
     pub never-twice : 7 < e .kind → false ≡ twiceFound h es ms prefix key e
     unfolding twiceFound
     never-twice l = rw (twiceFound, lt-ltb 7 (e .kind) l)
@@ -294,16 +294,16 @@ both-marked h key e ms = elim (test (ltb (e .kind) 7)) [
 
 -- what answers the needs of `find_clash`; key is the hash that the code computed
 module _ (h prefix : Bytes) (new : CodeEntry) {key : ℕ} (ek : key ≡ prefixHash prefix (new .kind)) (ms : List ℕ) where
-  by-key : (es : List Entry) (kind : ℕ)
-      → keyFound h es ms prefix key (otherSort kind) ≡ elim (eqb kind 7) [ true ↦ keyFound h es ms prefix key textKind | false ↦ keyFound h es ms prefix key (mapKind other) ]
+  by-key : (es : List Entry) (e : Entry) (kind : ℕ)
+      → keyFound h es ms prefix key (otherSort kind) e ≡ elim (eqb kind 7) [ true ↦ keyFound h es ms prefix key textKind e | false ↦ keyFound h es ms prefix key (mapKind other) e ]
   unfolding otherSort
-  by-key es kind = elim (test (eqb kind 7)) [ pass k ↦ rw (otherSort, k) | fail k ↦ rw (otherSort, k) ]
+  by-key es e kind = elim (test (eqb kind 7)) [ pass k ↦ rw (otherSort, k) | fail k ↦ rw (otherSort, k) ]
 
-  pub clash-found : (es : List Entry) {mixed : Bool} → mixed ≡ mixedFound h es ms prefix key (new .kind) → {twice : Bool} → twice ≡ twiceFound h es ms prefix key (entryOf new)
+  pub clash-found : (es : List Entry) {mixed : Bool} → mixed ≡ mixedFound h es ms prefix key (entryOf new) → {twice : Bool} → twice ≡ twiceFound h es ms prefix key (entryOf new)
       → {r : Clash} → r ≡ clashOf (new .kind) twice mixed → r ≡ clashUnder h es ms prefix (prefixHash prefix (new .kind)) (entryOf new)
   unfolding mixedFound twiceFound
   clash-found es a b c =
-      c ∙ rw (a, b, by-key es (new .kind)) (by-sort (new .kind) (idFound h es ms prefix key (entryOf new)) (keyFound h es ms prefix key textKind) (keyFound h es ms prefix key (mapKind other)))
+      c ∙ rw (a, b, by-key es (entryOf new) (new .kind)) (by-sort (new .kind) (idFound h es ms prefix key (entryOf new)) (keyFound h es ms prefix key textKind (entryOf new)) (keyFound h es ms prefix key (mapKind other) (entryOf new)))
       ∙ ap (λ (k : ℕ). clashUnder h es ms prefix k (entryOf new)) ek
 
   pub clash-marked : {a : List ℕ} → a ≡ meetId h key (entryOf new) ms → {b : List ℕ} → b ≡ meetKey key (new .kind) a → b ≡ markUnder h (prefixHash prefix (new .kind)) (entryOf new) ms

@@ -6,11 +6,11 @@ use mathlib.Core.List.{List, [], _∷_}
 use lib.Bits.{bitXor}
 use lib.Dec.{eqb, leb, ltb}
 use lib.ListN.{length, getD, take, drop}
-use Rattle.values.specs.Bytes.{Bytes, is, any, BACKSLASH, COMMA, EQUALS, GREATER, QUOTE}
+use Rattle.values.specs.Bytes.{Bytes, is, any, before, BACKSLASH, COMMA, EQUALS, GREATER, LESS, LF, QUOTE}
 use Rattle.values.specs.Value.{meaning}
 use Rattle.values.specs.Hash.{wideStep}
 use Rattle.values.specs.Marks.{isNoted, note}
-use Rattle.rules.specs.Entry.{Entry}
+use Rattle.rules.specs.Entry.{Entry, textKind}
 use Rattle.entries.specs.declared.form.Form.{Form}
 use Rattle.entries.specs.Tables.{room, entryIn}
 
@@ -32,17 +32,32 @@ isOpened h e = leb 1 (e .offset) && isCut (getD h (e .start + (e .offset - 1)) 0
 unfoldable pub isEnded : Bytes → Entry → Bool
 isEnded h e = isEnd (getD h (idEnd e) 0)
 
--- a name that a line may have which begins at `from` or later, before a byte that closes it
-pub record NewName (closes : ℕ → Bool) (h : Bytes) (from : ℕ) (name : Bytes) : Type 0 where
+-- a place where an ID may end, and one where a key may
+abbrev pub idEnds : Bytes → ℕ → Bool
+idEnds h end = isEnd (getD h end 0)
+
+abbrev pub keyEnds : Bytes → ℕ → Bool
+keyEnds h end = is EQUALS (getD h end 0)
+
+-- what a line's value begins with that clashes with a record of this kind under its key: a text clashes with maps only
+abbrev pub isRival : ℕ → ℕ → Bool
+isRival kind b = not (eqb kind textKind) || is LESS b
+
+-- a place where the key of such a line may end
+abbrev pub rivalEnds : ℕ → Bytes → ℕ → Bool
+rivalEnds kind h end = keyEnds h end && isRival kind (getD h (end + 1) 0)
+
+-- a name that a line may have which begins at `from` or later, before a place where it may end
+pub record NewName (ends : Bytes → ℕ → Bool) (h : Bytes) (from : ℕ) (name : Bytes) : Type 0 where
   pub at : ℕ
   pub size : ℕ
   pub quoted : Bool
   pub behind : from ≤ at
   pub opened : isCut (getD h at 0) ≡ true
   pub text : name ≡ meaning quoted (take size (drop (at + 1) h))
-  pub ended : closes (getD h (at + 1 + size) 0) ≡ true
+  pub ended : ends h (at + 1 + size) ≡ true
 
--- The last bytes between cuts
+-- Bytes between cuts
 
 -- a hash of those after the last cut, and of one byte more: the bits before are turned by seven
 unfoldable pub runOn : ℕ → ℕ → ℕ
@@ -59,6 +74,14 @@ unfoldable pub runFrom : ℕ → ℕ → Bytes → ℕ
 runFrom last run [] = last
 runFrom last run (b ∷ bs) = runFrom (lastStep last run b) (runStep run b) bs
 
+-- a piece of a name may end in this byte: after another cut nothing stands, and after LF a line begins
+unfoldable pub isInner : ℕ → Bool
+isInner b = not (is LF b || isCut b)
+
+-- a place where one may end, before a cut
+unfoldable pub pieceEnds : Bytes → ℕ → Bool
+pieceEnds h end = leb 1 end && (isCut (getD h end 0) && isInner (getD h (end - 1) 0))
+
 -- noted by two bits
 abbrev pub once : ℕ → ℕ
 once run = wideStep run 0
@@ -72,6 +95,22 @@ noteRun ns run = note (note ns (once run)) (twice run)
 -- of a name that has nothing but cuts nothing is known
 unfoldable pub runNoted : List ℕ → ℕ → Bool
 runNoted ns run = eqb run 0 || (isNoted ns (once run) && isNoted ns (twice run))
+
+-- the same of the bytes before a text's first cut; nothing is known where no piece ends there
+unfoldable pub firstNoted : List ℕ → Bytes → Bool
+firstNoted ns text = not (pieceEnds text (length (before isCut text))) || runNoted ns (runFrom 0 0 (before isCut text))
+
+-- whether a name ahead may mean what a text does: many end alike, so that its first bytes are looked at too
+unfoldable pub textNoted : List ℕ → Bytes → Bool
+textNoted ns text = runNoted ns (runFrom 0 0 text) && firstNoted ns text
+
+-- a map's key is noted by another number too, so that it is told from a text's
+unfoldable pub mapRun : ℕ → ℕ
+mapRun run = wideStep run 7
+
+-- whether it was noted so
+unfoldable pub mapNoted : List ℕ → ℕ → Bool
+mapNoted ns run = eqb run 0 || runNoted ns (mapRun run)
 
 -- Last bytes
 
@@ -88,11 +127,19 @@ noteTail h end ns = elim (leb 8 end) [ true ↦ note ns (tailHash h end) | false
 
 -- What stands ahead
 
--- a place where a key may end is noted by the last run before it, one where an ID may by its last bytes too
+-- a key that stands before `=`, and as a map's where `<` follows
+unfoldable pub noteKey : Bytes → ℕ → ℕ → List ℕ → List ℕ
+noteKey h end run ns = elim (is LESS (getD h (end + 1) 0)) [ true ↦ noteRun (noteRun ns run) (mapRun run) | false ↦ noteRun ns run ]
+
+-- a piece that stands before a cut
+unfoldable pub notePiece : Bytes → ℕ → ℕ → List ℕ → List ℕ
+notePiece h end run ns = elim (pieceEnds h end) [ true ↦ noteRun ns run | false ↦ ns ]
+
+-- a place where a key or a piece may end is noted by the last run before it, one where an ID may by its last bytes too
 unfoldable pub noteCut : Bytes → ℕ → ℕ → List ℕ → List ℕ
 noteCut h end run ns = elim (is EQUALS (getD h end 0)) [
-  | true ↦ noteRun ns run
-  | false ↦ elim (isEnd (getD h end 0)) [ true ↦ noteTail h end (noteRun ns run) | false ↦ ns ]
+  | true ↦ noteKey h end run ns
+  | false ↦ elim (isEnd (getD h end 0)) [ true ↦ noteTail h end (noteRun ns run) | false ↦ notePiece h end run ns ]
 ]
 
 -- so many places from k on

@@ -4,15 +4,15 @@ use mathlib.Core.Path.{_≡_}
 use mathlib.Core.Bool.{Bool, true, false, not, _||_, _&&_}
 use mathlib.Core.List.{List, [], _∷_}
 use lib.Dec.{eqb, leb, ltb}
-use lib.ListN.{length, take, drop}
-use Rattle.values.specs.Bytes.{Bytes, is, EQUALS}
+use lib.ListN.{length, getD, take, drop}
+use Rattle.values.specs.Bytes.{Bytes}
 use Rattle.values.specs.Hash.{wideBasis, wideStep, wideFrom}
 use Rattle.values.specs.Marks.{isMet, meet}
 use Rattle.rules.specs.Known.{other}
 use Rattle.rules.specs.Entry.{Entry, mapKind, textKind}
 use Rattle.rules.specs.Shown.{lineIn, idIn, idMeaning}
 use Rattle.rules.specs.Claims.{All, keyIn}
-use Rattle.ids.specs.Ahead.{isEnd, isOpened, isEnded, NewName, runFrom, runNoted, isNear}
+use Rattle.ids.specs.Ahead.{isOpened, isEnded, idEnds, keyEnds, isRival, rivalEnds, NewName, runFrom, runNoted, textNoted, mapNoted, isNear}
 use Rattle.ids.specs.Clashes.{keySeen, idSeen, clashBy}
 use Rattle.ids.specs.declared.scan.Clash.{Clash}
 use Rattle.ids.specs.declared.scan.Clash.the-variants.{Free, TypedId, Mixed, OtherId}
@@ -61,16 +61,17 @@ pub record Marked (h : Bytes) (ms : List ℕ) (e : Entry) : Type 0 where
 
 -- what is marked of an entry that a line from there on may clash with
 pub record MarkedFrom (h : Bytes) (from : ℕ) (ms : List ℕ) (e : Entry) : Type 0 where
-  pub id : 2 ≤ e .kind → e .kind ≤ 7 → (7 ≤ e .kind → NewName (is EQUALS) h from (keyIn (lineIn h e))) → NewName isEnd h from (idMeaning h e) → isMet ms (idHash (keyHash h e) (e .kind) (idMeaning h e)) ≡ true
-  pub key : 7 ≤ e .kind → e .kind ≤ 8 → NewName (is EQUALS) h from (keyIn (lineIn h e)) → isMet ms (underHash (keyHash h e) (e .kind)) ≡ true
+  pub id : 2 ≤ e .kind → e .kind ≤ 7 → (7 ≤ e .kind → NewName keyEnds h from (keyIn (lineIn h e))) → NewName idEnds h from (idMeaning h e) → isMet ms (idHash (keyHash h e) (e .kind) (idMeaning h e)) ≡ true
+  pub key : 7 ≤ e .kind → e .kind ≤ 8 → NewName (rivalEnds (e .kind)) h from (keyIn (lineIn h e)) → isMet ms (underHash (keyHash h e) (e .kind)) ≡ true
 
 -- what of an entry may stand ahead, by the notes of what stands there
 
 unfoldable pub markId : Bytes → List ℕ → Entry → List ℕ → List ℕ
-markId h ns e ms = elim (runNoted ns (runFrom 0 0 (idIn h e))) [ true ↦ meet ms (idHash (keyHash h e) (e .kind) (idMeaning h e)) | false ↦ ms ]
+markId h ns e ms = elim (textNoted ns (idIn h e)) [ true ↦ meet ms (idHash (keyHash h e) (e .kind) (idMeaning h e)) | false ↦ ms ]
 
+-- the key of a text only where a map of it may
 unfoldable pub markKey : Bytes → List ℕ → Entry → List ℕ → List ℕ
-markKey h ns e ms = elim (runNoted ns (runFrom 0 0 (keyIn (lineIn h e)))) [ true ↦ meet ms (underHash (keyHash h e) (e .kind)) | false ↦ ms ]
+markKey h ns e ms = elim (mapNoted ns (runFrom 0 0 (keyIn (lineIn h e)))) [ true ↦ meet ms (underHash (keyHash h e) (e .kind)) | false ↦ ms ]
 
 -- the ID of a map only under a key that may
 unfoldable pub markMap : Bytes → List ℕ → Entry → List ℕ → List ℕ
@@ -96,8 +97,12 @@ pub record AheadMarked (h : Bytes) (from : ℕ) (ms : List ℕ) (es : List Entry
 
 -- What is found of a new line: nothing is looked for where the marks tell that it isn't there
 
-unfoldable pub keyFound : Bytes → List Entry → List ℕ → Bytes → ℕ → ℕ → Bool
-keyFound h es ms prefix key kind = isMet ms (underHash key kind) && keySeen h prefix kind es
+-- whether the new line stands as those do for which records of this kind were marked
+unfoldable pub isSought : Bytes → Bytes → ℕ → Entry → Bool
+isSought h prefix kind e = isRival kind (getD (lineIn h e) (length prefix) 0)
+
+unfoldable pub keyFound : Bytes → List Entry → List ℕ → Bytes → ℕ → ℕ → Entry → Bool
+keyFound h es ms prefix key kind e = (isMet ms (underHash key kind) || not (isSought h prefix kind e)) && keySeen h prefix kind es
 
 unfoldable pub idFound : Bytes → List Entry → List ℕ → Bytes → ℕ → Entry → Bool
 idFound h es ms prefix key e = (isMet ms (idHash key (e .kind) (idMeaning h e)) || not (isOpened h e && isEnded h e)) && idSeen h prefix (e .kind) (idMeaning h e) es
@@ -106,8 +111,8 @@ idFound h es ms prefix key e = (isMet ms (idHash key (e .kind) (idMeaning h e)) 
 unfoldable pub otherSort : ℕ → ℕ
 otherSort kind = elim (eqb kind 7) [ true ↦ textKind | false ↦ mapKind other ]
 
-unfoldable pub mixedFound : Bytes → List Entry → List ℕ → Bytes → ℕ → ℕ → Bool
-mixedFound h es ms prefix key kind = not (ltb kind 7) && keyFound h es ms prefix key (otherSort kind)
+unfoldable pub mixedFound : Bytes → List Entry → List ℕ → Bytes → ℕ → Entry → Bool
+mixedFound h es ms prefix key e = not (ltb (e .kind) 7) && keyFound h es ms prefix key (otherSort (e .kind)) e
 
 unfoldable pub twiceFound : Bytes → List Entry → List ℕ → Bytes → ℕ → Entry → Bool
 twiceFound h es ms prefix key e = not (ltb 7 (e .kind)) && idFound h es ms prefix key e
@@ -117,7 +122,7 @@ unfoldable pub clashOf : ℕ → Bool → Bool → Clash
 clashOf kind twice mixed = elim mixed [ true ↦ Mixed | false ↦ elim twice [ true ↦ elim (ltb kind 7) [ true ↦ TypedId | false ↦ OtherId ] | false ↦ Free ] ]
 
 abbrev pub clashUnder : Bytes → List Entry → List ℕ → Bytes → ℕ → Entry → Clash
-clashUnder h es ms prefix key e = clashBy (e .kind) (idFound h es ms prefix key e) (keyFound h es ms prefix key textKind) (keyFound h es ms prefix key (mapKind other))
+clashUnder h es ms prefix key e = clashBy (e .kind) (idFound h es ms prefix key e) (keyFound h es ms prefix key textKind e) (keyFound h es ms prefix key (mapKind other) e)
 
 abbrev pub clashFound : Bytes → List Entry → List ℕ → Bytes → Entry → Clash
 clashFound h es ms prefix e = clashUnder h es ms prefix (keyHash h e) e

@@ -13,7 +13,7 @@ ghost use lib.Dec.{leb};
 ghost use lib.ListN.{length, getD};
 ghost use Rattle.entries.specs.Values.{entryOf};
 ghost use Rattle.rules.specs.Claims.{keyIn};
-ghost use Rattle.ids.specs.Ahead.{isEnd, isCut, idEnd, isOpened, isEnded, runOn, runStep, lastStep, runFrom, noteRun, runNoted, fourAt, tailHash, noteTail, noteCut, hasEscape, notesFrom, tailNoted, isAhead, NextNear};
+ghost use Rattle.ids.specs.Ahead.{isEnd, isCut, idEnd, isOpened, isEnded, runOn, runStep, lastStep, runFrom, isInner, pieceEnds, noteRun, runNoted, firstNoted, textNoted, mapRun, mapNoted, fourAt, tailHash, noteTail, noteKey, notePiece, noteCut, hasEscape, notesFrom, tailNoted, isAhead, NextNear};
 
 // A bare ID ends before `,` or `>`, one between quotes before `"`.
 fn is_end(b: u8) -> bool
@@ -28,7 +28,8 @@ fn is_end(b: u8) -> bool
     b == b'"'
 }
 
-// Where a name is cut: its last bytes between two of these are looked at. It stands after one, and may have or mean others.
+// Where a name is cut: what it has before the first of these, and what between the last two, is looked at. It stands after one,
+// and may have or mean others.
 fn is_cut(b: u8) -> bool
     ensures { λ r. ⌜ r ≡ isCut b ⌝ }
 {
@@ -154,6 +155,31 @@ fn key_run(line: &[u8]) -> u64
     last
 }
 
+// Whether a piece of a name may end in this byte: after another cut nothing stands, and after LF a line begins.
+fn is_inner(b: u8) -> bool
+    ensures { λ r. ⌜ r ≡ isInner b ⌝ }
+{
+    if b == b'\n' {
+        return false;
+    }
+    !is_cut(b)
+}
+
+// Whether one may end at a place, before a cut.
+fn ends_piece(h: &[u8], end: usize) -> bool
+    requires { ⌜ end < length (now h) ⌝ }
+    ensures { λ r. ⌜ r ≡ pieceEnds (now (h .entry)) end ⌝ }
+{
+    if end == 0 {
+        return false;
+    }
+    if !is_cut(h[end]) {
+        return false;
+    }
+    let before = end - 1;
+    is_inner(h[before])
+}
+
 // By two bits, which few of very many other names have.
 fn note_run(notes: &mut [u64], run: u64)
     ensures { λ _. ⌜ now (notes .exit) ≡ noteRun (now (notes .entry)) run ⌝ }
@@ -177,11 +203,34 @@ fn is_run_noted(notes: &[u64], run: u64) -> bool
     marks::is_noted(notes, hash::wide_step(once, 0))
 }
 
-// Whether a name ahead may mean what this text does.
-pub fn is_text_ahead(notes: &[u64], text: &[u8]) -> bool
-    ensures { λ r. ⌜ r ≡ runNoted (now (notes .entry)) (runFrom 0 0 (now (text .entry))) ⌝ }
+// Whether the bytes before a text's first cut were noted; of a text without such a piece nothing is known.
+fn is_first_noted(notes: &[u64], s: &[u8]) -> bool
+    ensures { λ r. ⌜ r ≡ firstNoted (now (notes .entry)) (now (s .entry)) ⌝ }
 {
-    is_run_noted(notes, run_of(text))
+    let mut run: u64 = 0;
+    let mut k: usize = 0;
+    while k < s.len() {
+        let b = s[k];
+        if is_cut(b) {
+            if !ends_piece(s, k) {
+                return true;
+            }
+            return is_run_noted(notes, run);
+        }
+        k += 1;
+        run = run_on(run, b);
+    }
+    true
+}
+
+// Whether a name ahead may mean what this text does: by its last bytes, and by its first, since many names end alike.
+pub fn is_text_ahead(notes: &[u64], text: &[u8]) -> bool
+    ensures { λ r. ⌜ r ≡ textNoted (now (notes .entry)) (now (text .entry)) ⌝ }
+{
+    if !is_run_noted(notes, run_of(text)) {
+        return false;
+    }
+    is_first_noted(notes, text)
 }
 
 // Whether one may be the key of this line.
@@ -189,6 +238,24 @@ pub fn is_key_ahead(notes: &[u64], line: &[u8]) -> bool
     ensures { λ r. ⌜ r ≡ runNoted (now (notes .entry)) (runFrom 0 0 (keyIn (now (line .entry)))) ⌝ }
 {
     is_run_noted(notes, key_run(line))
+}
+
+// The number by which a map's key is noted too, so that it is told from a text's.
+fn map_run(run: u64) -> u64
+    ensures { λ r. ⌜ r ≡ mapRun run ⌝ }
+{
+    hash::wide_step(run, 7)
+}
+
+// Whether one may be the key of this line, and that of a map.
+pub fn is_map_ahead(notes: &[u64], line: &[u8]) -> bool
+    ensures { λ r. ⌜ r ≡ mapNoted (now (notes .entry)) (runFrom 0 0 (keyIn (now (line .entry)))) ⌝ }
+{
+    let run = key_run(line);
+    if run == 0 {
+        return true;
+    }
+    is_run_noted(notes, map_run(run))
 }
 
 fn byte_at(h: &[u8], at: usize) -> u8
@@ -232,17 +299,45 @@ fn note_tail(h: &[u8], end: usize, notes: &mut [u64])
     marks::note(notes, tail_hash(h, end));
 }
 
-// Notes what stands before a place: a key may end there, or an ID.
+// Notes a key that ends at a place, and where it is that of a map that too.
+fn note_key(h: &[u8], end: usize, run: u64, notes: &mut [u64])
+    requires { ⌜ end < length (now h) ⌝ }
+    ensures { λ _. ⌜ now (notes .exit) ≡ noteKey (now (h .entry)) end run (now (notes .entry)) ⌝ }
+{
+    note_run(notes, run);
+    let next = end + 1;
+    if h.len() <= next {
+        return;
+    }
+    if h[next] != b'<' {
+        return;
+    }
+    note_run(notes, map_run(run));
+}
+
+// Notes the piece of a name that ends at a place, if one does.
+fn note_piece(h: &[u8], end: usize, run: u64, notes: &mut [u64])
+    requires { ⌜ end < length (now h) ⌝ }
+    ensures { λ _. ⌜ now (notes .exit) ≡ notePiece (now (h .entry)) end run (now (notes .entry)) ⌝ }
+{
+    if !ends_piece(h, end) {
+        return;
+    }
+    note_run(notes, run);
+}
+
+// Notes what stands before a place: a key may end there, or an ID, or a piece of one.
 fn note_cut(h: &[u8], end: usize, run: u64, notes: &mut [u64])
     requires { ⌜ end < length (now h) ⌝ }
     ensures { λ _. ⌜ now (notes .exit) ≡ noteCut (now (h .entry)) end run (now (notes .entry)) ⌝ }
 {
     let b = h[end];
     if b == b'=' {
-        note_run(notes, run);
+        note_key(h, end, run, notes);
         return;
     }
     if !is_end(b) {
+        note_piece(h, end, run, notes);
         return;
     }
     note_run(notes, run);

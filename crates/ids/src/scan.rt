@@ -10,15 +10,14 @@ use values::hash;
 use values::marks;
 use values::string;
 ghost use mathlib.Core.Path.{_≡_};
-ghost use mathlib.Core.Bool.{not, _||_, _&&_};
+ghost use mathlib.Core.Bool.{not, _||_};
 ghost use Rattle.values.specs.Value.{meaning};
 ghost use Rattle.values.specs.Marks.{meet};
 ghost use Rattle.rules.specs.Shown.{idMeaning};
 ghost use Rattle.entries.specs.Values.{entryOf};
 ghost use Rattle.entries.specs.Tables.{entriesIn};
 ghost use Rattle.ids.specs.Clashes.{lastOf, isOfKey, MayEqual, Candidate, keySeen, idSeen};
-ghost use Rattle.ids.specs.Ahead.{isOpened, isEnded};
-ghost use Rattle.ids.specs.Marks.{keyHash, prefixHash, underHash, idHash, markUnder, markId, markKey, markMap, markNames, markNoted, isFar, AheadMarked, keyFound, idFound, otherSort, mixedFound, twiceFound, meetId, meetKey, clashOf, clashUnder};
+ghost use Rattle.ids.specs.Marks.{keyHash, prefixHash, underHash, idHash, markUnder, markId, markKey, markMap, markNames, markNoted, isFar, AheadMarked, isSought, keyFound, idFound, otherSort, mixedFound, twiceFound, meetId, meetKey, clashOf, clashUnder};
 
 pub enum Clash {
     Free,
@@ -162,6 +161,31 @@ fn id_hash(h: &[u8], key: u64, e: Entry) -> u64
     hash::wide_from(under_hash(key, e.kind), part::id_part(h, e), e.quoted)
 }
 
+// Whether no entry has the new one's name, by the marks: of a name that stands otherwise than those that were looked for ahead they tell nothing.
+fn is_free(met: bool, sought: bool) -> bool
+    ensures { λ r. ⌜ r ≡ not (met || not sought) ⌝ }
+{
+    if met {
+        return false;
+    }
+    sought
+}
+
+// Whether the new line stands as those do for which entries of this kind were marked: texts were for maps only.
+fn is_sought(h: &[u8], prefix: &[u8], kind: u8, new: Entry) -> bool
+    ensures { λ r. ⌜ r ≡ isSought (now (h .entry)) (now (prefix .entry)) kind (entryOf new) ⌝ }
+{
+    if kind != kind::OTHER_TEXT {
+        return true;
+    }
+    let line = part::line_part(h, new);
+    let at = prefix.len();
+    if line.len() <= at {
+        return false;
+    }
+    line[at] == b'<'
+}
+
 // As `key_seen`, where the marks don't tell it already; `key` is the new entry's key hash.
 fn has_key(
     h: &[u8],
@@ -171,23 +195,15 @@ fn has_key(
     prefix: &[u8],
     key: u64,
     kind: u8,
+    new: Entry,
 ) -> bool
-    ensures { λ r. ⌜ r ≡ keyFound (now (h .entry)) (entriesIn form (now (kept .entry))) (now (marks .entry)) (now (prefix .entry)) key kind ⌝ }
+    ensures { λ r. ⌜ r ≡ keyFound (now (h .entry)) (entriesIn form (now (kept .entry))) (now (marks .entry)) (now (prefix .entry)) key kind (entryOf new) ⌝ }
 {
-    if !marks::is_met(marks, under_hash(key, kind)) {
+    let met = marks::is_met(marks, under_hash(key, kind));
+    if is_free(met, is_sought(h, prefix, kind, new)) {
         return false;
     }
     key_seen(h, kept, form, prefix, kind)
-}
-
-// Whether no entry has the new one's ID, by the marks: of an ID that stands otherwise than those that were looked for ahead they tell nothing.
-fn is_free(h: &[u8], met: bool, new: Entry) -> bool
-    ensures { λ r. ⌜ r ≡ not (met || not (isOpened (now (h .entry)) (entryOf new) && isEnded (now (h .entry)) (entryOf new))) ⌝ }
-{
-    if met {
-        return false;
-    }
-    ahead::is_set(h, new)
 }
 
 // The new entry's ID is marked by that.
@@ -204,7 +220,7 @@ fn has_id(
     ensures marks { λ _. ⌜ now (marks .exit) ≡ meet (now (marks .entry)) (idHash key (new .kind) (idMeaning (now (h .entry)) (entryOf new))) ⌝ }
 {
     let met = marks::meet_hash(marks, id_hash(h, key, new));
-    if is_free(h, met, new) {
+    if is_free(met, ahead::is_set(h, new)) {
         return false;
     }
     id_seen(
@@ -226,14 +242,14 @@ fn is_mixed(
     marks: &[u64],
     prefix: &[u8],
     key: u64,
-    kind: u8,
+    new: Entry,
 ) -> bool
-    ensures { λ r. ⌜ r ≡ mixedFound (now (h .entry)) (entriesIn form (now (kept .entry))) (now (marks .entry)) (now (prefix .entry)) key kind ⌝ }
+    ensures { λ r. ⌜ r ≡ mixedFound (now (h .entry)) (entriesIn form (now (kept .entry))) (now (marks .entry)) (now (prefix .entry)) key (entryOf new) ⌝ }
 {
-    if kind < kind::OTHER_MAP {
+    if new.kind < kind::OTHER_MAP {
         return false;
     }
-    has_key(h, kept, form, marks, prefix, key, other_sort(kind))
+    has_key(h, kept, form, marks, prefix, key, other_sort(new.kind), new)
 }
 
 fn other_sort(kind: u8) -> u8
@@ -316,7 +332,7 @@ pub fn find_clash(
     ensures marks { λ _. ⌜ now (marks .exit) ≡ markUnder (now (h .entry)) (prefixHash (now (prefix .entry)) (new .kind)) (entryOf new) (now (marks .entry)) ⌝ }
 {
     let key = prefix_hash(prefix, new.kind);
-    let mixed = is_mixed(h, kept, form, marks, prefix, key, new.kind);
+    let mixed = is_mixed(h, kept, form, marks, prefix, key, new);
     let twice = is_twice(h, kept, form, marks, prefix, key, new);
     meet_key(marks, key, new.kind);
     clash_of(new.kind, twice, mixed)
@@ -332,11 +348,11 @@ fn mark_id(h: &[u8], e: Entry, notes: &[u64], marks: &mut [u64])
     marks::meet_hash(marks, id_hash(h, key_hash(h, e), e));
 }
 
-// That there is a text under a key, where that may stand ahead.
+// That there is a text under a key, where a map of it may stand ahead.
 fn mark_key(h: &[u8], e: Entry, notes: &[u64], marks: &mut [u64])
     ensures { λ _. ⌜ now (marks .exit) ≡ markKey (now (h .entry)) (now (notes .entry)) (entryOf e) (now (marks .entry)) ⌝ }
 {
-    if !ahead::is_key_ahead(notes, part::line_part(h, e)) {
+    if !ahead::is_map_ahead(notes, part::line_part(h, e)) {
         return;
     }
     marks::meet_hash(marks, under_hash(key_hash(h, e), e.kind));

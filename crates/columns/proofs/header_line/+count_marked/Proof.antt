@@ -1,6 +1,5 @@
 use lib.ListN.{length}
 use borrow.Author.Needs.{needs}
-use Rattle.columns.proofs.Classes.{count-one}
 use Prim.Native.Nat.{ℕ, _-_, _<_}
 use borrow.Fn.Kinds.{In}
 use borrow.Fn.PlainCycle.{Measures, is, falls, and}
@@ -9,7 +8,7 @@ use Rattle.columns.proofs.header_line.count_marked.Kinds as count-marke
 use Rattle.columns.proofs.header_line.+count_marked.Lts-count_marked as count-marked-lts
 use Rattle.columns.proofs.header_line.count_long.Reads as count-long-reads
 use Rattle.columns.proofs.header_line.count_longer.Reads as count-longer-reads
-use Rattle.columns.proofs.header_line.count_samples.Reads as count-samples-reads
+use Rattle.columns.proofs.header_line.count_all.Reads as count-all-reads
 use Rattle.columns.proofs.header_line.+count_marked.{statement}
 use Rattle.columns.proofs.header_line.+count_marked.Tie.{close}
 
@@ -28,9 +27,9 @@ count-marked-below t =
     (falls 2 count-marked-kinds.ps _<_ μ-count-marked t)
     count-marked.Pre
 
-count-marked-count-samples-requires : (t : ℕ) → count-marked-lts.Need-count-samples-requires (
-  count-samples-reads.Asked,
-  count-samples-reads.Learnt,
+count-marked-count-all-requires : (t : ℕ) → count-marked-lts.Need-count-all-requires (
+  count-all-reads.Asked,
+  count-all-reads.Learnt,
   count-marked-below t,
   count-marked.Post,
   count-long-reads.Asked,
@@ -38,11 +37,11 @@ count-marked-count-samples-requires : (t : ℕ) → count-marked-lts.Need-count-
   count-longer-reads.Asked,
   count-longer-reads.Learnt,
 ) (count-marked-at t) count-marked.Post
-count-marked-count-samples-requires t c κs = search needs
+count-marked-count-all-requires t c κs = search needs
 
 count-marked-same-length : (t : ℕ) → count-marked-lts.Need-same-length (
-  count-samples-reads.Asked,
-  count-samples-reads.Learnt,
+  count-all-reads.Asked,
+  count-all-reads.Learnt,
   count-marked-below t,
   count-marked.Post,
   count-long-reads.Asked,
@@ -53,8 +52,8 @@ count-marked-same-length : (t : ℕ) → count-marked-lts.Need-same-length (
 count-marked-same-length t c = search needs
 
 count-marked-returns : (t : ℕ) → count-marked-lts.Need-returns (
-  count-samples-reads.Asked,
-  count-samples-reads.Learnt,
+  count-all-reads.Asked,
+  count-all-reads.Learnt,
   count-marked-below t,
   count-marked.Post,
   count-long-reads.Asked,
@@ -62,12 +61,12 @@ count-marked-returns : (t : ℕ) → count-marked-lts.Need-returns (
   count-longer-reads.Asked,
   count-longer-reads.Learnt,
 ) (count-marked-at t) count-marked.Post
-count-marked-returns t c = search (count-one, needs)
+count-marked-returns t c = search needs
 
 count-marked-slice-aggregate-count-marked :
     (t : ℕ) → count-marked-lts.Need-slice-aggregate-count-marked (
-      count-samples-reads.Asked,
-      count-samples-reads.Learnt,
+      count-all-reads.Asked,
+      count-all-reads.Learnt,
       count-marked-below t,
       count-marked.Post,
       count-long-reads.Asked,
@@ -78,8 +77,8 @@ count-marked-slice-aggregate-count-marked :
 count-marked-slice-aggregate-count-marked t c = search needs
 
 count-marked-count-marked-requires : (t : ℕ) → count-marked-lts.Need-count-marked-requires (
-  count-samples-reads.Asked,
-  count-samples-reads.Learnt,
+  count-all-reads.Asked,
+  count-all-reads.Learnt,
   count-marked-below t,
   count-marked.Post,
   count-long-reads.Asked,
@@ -90,8 +89,8 @@ count-marked-count-marked-requires : (t : ℕ) → count-marked-lts.Need-count-m
 count-marked-count-marked-requires t c κs = search needs
 
 count-marked-returns-2 : (t : ℕ) → count-marked-lts.Need-returns-2 (
-  count-samples-reads.Asked,
-  count-samples-reads.Learnt,
+  count-all-reads.Asked,
+  count-all-reads.Learnt,
   count-marked-below t,
   count-marked.Post,
   count-long-reads.Asked,
@@ -102,8 +101,8 @@ count-marked-returns-2 : (t : ℕ) → count-marked-lts.Need-returns-2 (
 count-marked-returns-2 t c = search needs
 
 count-marked-count-long-requires : (t : ℕ) → count-marked-lts.Need-count-long-requires (
-  count-samples-reads.Asked,
-  count-samples-reads.Learnt,
+  count-all-reads.Asked,
+  count-all-reads.Learnt,
   count-marked-below t,
   count-marked.Post,
   count-long-reads.Asked,
@@ -114,8 +113,8 @@ count-marked-count-long-requires : (t : ℕ) → count-marked-lts.Need-count-lon
 count-marked-count-long-requires t c κs = search needs
 
 count-marked-returns-3 : (t : ℕ) → count-marked-lts.Need-returns-3 (
-  count-samples-reads.Asked,
-  count-samples-reads.Learnt,
+  count-all-reads.Asked,
+  count-all-reads.Learnt,
   count-marked-below t,
   count-marked.Post,
   count-long-reads.Asked,
@@ -126,8 +125,8 @@ count-marked-returns-3 : (t : ℕ) → count-marked-lts.Need-returns-3 (
 count-marked-returns-3 t c = search needs
 
 count-marked-count-longer-requires : (t : ℕ) → count-marked-lts.Need-count-longer-requires (
-  count-samples-reads.Asked,
-  count-samples-reads.Learnt,
+  count-all-reads.Asked,
+  count-all-reads.Learnt,
   count-marked-below t,
   count-marked.Post,
   count-long-reads.Asked,
@@ -138,8 +137,8 @@ count-marked-count-longer-requires : (t : ℕ) → count-marked-lts.Need-count-l
 count-marked-count-longer-requires t c κs = search needs
 
 count-marked-returns-4 : (t : ℕ) → count-marked-lts.Need-returns-4 (
-  count-samples-reads.Asked,
-  count-samples-reads.Learnt,
+  count-all-reads.Asked,
+  count-all-reads.Learnt,
   count-marked-below t,
   count-marked.Post,
   count-long-reads.Asked,
@@ -151,8 +150,8 @@ count-marked-returns-4 t c = search needs
 
 pub +count-marked-spec : {M : Type 1} → statement M
 +count-marked-spec = close μ-count-marked λ t. count-marked-lts.spec (
-  count-samples-reads.Asked,
-  count-samples-reads.Learnt,
+  count-all-reads.Asked,
+  count-all-reads.Learnt,
   count-marked-below t,
   count-marked.Post,
   count-long-reads.Asked,
@@ -162,7 +161,7 @@ pub +count-marked-spec : {M : Type 1} → statement M
 )
     (count-marked-at t)
     count-marked.Post
-    (count-marked-count-samples-requires t)
+    (count-marked-count-all-requires t)
     (count-marked-same-length t)
     (count-marked-returns t)
     (count-marked-slice-aggregate-count-marked t)

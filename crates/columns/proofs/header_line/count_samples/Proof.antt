@@ -6,10 +6,10 @@ use Rattle.columns.proofs.header_line.count_samples.Statement.{statemen
 use Rattle.columns.proofs.header_line.count_samples.Tie as tie
 
 abbrev Inv-loop : tie.InvT-loop
-Inv-loop s classes class marks₀ at₀ n₀ marks at n = Counting classes class s marks₀ at n marks
+Inv-loop s doubts marks₀ at₀ n₀ marks at n = Counting doubts s marks₀ at n marks
 
 abbrev μ-loop : tie.MeasureT-loop
-μ-loop s classes class marks₀ at₀ n₀ marks at n = length s - at
+μ-loop s doubts marks₀ at₀ n₀ marks at n = length s - at
 
 loop-holds : tie.Need-loop-holds Inv-loop μ-loop
 loop-holds c = search (counts, needs)

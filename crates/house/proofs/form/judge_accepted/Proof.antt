@@ -4,17 +4,20 @@ use Rattle.house.proofs.form.judge_accepted.Statement.{statement}
 use Rattle.house.proofs.form.judge_accepted.Tie as tie
 
 compare-form-requires : tie.Need-compare-form-requires
-compare-form-requires c κs = search (comparison-answered, needs)
+compare-form-requires c κs = search needs
 
 answer-requires : tie.Need-answer-requires
-answer-requires c κs = search (comparison-answered, needs)
+answer-requires c κs = search needs
 
 judge-requires : tie.Need-judge-requires
-judge-requires c κs = search (comparison-answered, needs)
+judge-requires c κs = search needs
+
+same-length : tie.Need-same-length
+same-length c = search needs
 
 returns : tie.Need-returns
-returns c = search (comparison-answered, needs)
+returns c = search (comparison-answered, c .before .before .before .before .before .before .before .before .good .1 .1 .1 .1 .0, needs)
 
 pub judge-accepted-spec : {M : Type 1} → statement M
 judge-accepted-spec =
-    tie.close (tie.spec compare-form-requires answer-requires judge-requires returns)
+    tie.close (tie.spec compare-form-requires answer-requires judge-requires same-length returns)

@@ -1,25 +1,28 @@
-use Rattle.house.proofs.Forms.{form-put}
+use Rattle.house.proofs.Forms.{form-puts}
 use borrow.Author.Needs.{needs}
 use Rattle.house.proofs.form.put_form.Statement.{statement}
 use Rattle.house.proofs.form.put_form.Tie as tie
 
 put-version-requires : tie.Need-put-version-requires
-put-version-requires c κs = search (form-put, needs)
+put-version-requires c κs = search needs
 
 put-records-requires : tie.Need-put-records-requires
-put-records-requires c κs = search (form-put, needs)
+put-records-requires c κs = search needs
 
 column-line-requires : tie.Need-column-line-requires
-column-line-requires c κs = search (form-put, needs)
+column-line-requires c κs = search needs
 
 put-plain-requires : tie.Need-put-plain-requires
-put-plain-requires c κs = search (form-put, needs)
+put-plain-requires c κs = search needs
 
 same-length : tie.Need-same-length
-same-length c = search (form-put, needs)
+same-length c = search needs
+
+same-length-2 : tie.Need-same-length-2
+same-length-2 c = search needs
 
 returns : tie.Need-returns
-returns c = search (form-put, needs)
+returns c = search (form-puts, needs)
 
 pub put-form-spec : {M : Type 1} → statement M
 put-form-spec =
@@ -30,4 +33,5 @@ put-form-spec =
     column-line-requires
     put-plain-requires
     same-length
+    same-length-2
     returns)

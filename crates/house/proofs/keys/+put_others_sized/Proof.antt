@@ -7,12 +7,10 @@ use Rattle.house.proofs.keys.+put_others_sized.Lts-put_others_sized as 
 use Rattle.entries.proofs.table.count.Reads as count-reads
 use Rattle.house.proofs.keys.put_others_linked.Reads as put-others-linked-reads
 use Rattle.house.proofs.keys.put_others_many.Reads as put-others-many-reads
-use Rattle.house.proofs.keys.put_others_marked.Reads as put-others-marked-reads
 use Rattle.house.proofs.keys.put_others_most.Reads as put-others-most-reads
+use Rattle.house.proofs.keys.put_others_noted.Reads as put-others-noted-reads
 use Rattle.house.proofs.keys.+put_others_sized.{statement}
 use Rattle.house.proofs.keys.+put_others_sized.Tie.{close}
-use Rattle.house.proofs.Others.{markeds}
-use mathlib.Core.Path.{refl}
 use lib.ListN.{length}
 use borrow.Author.Needs.{needs}
 
@@ -35,23 +33,6 @@ put-others-sized-below t =
     (falls 6 put-others-sized-kinds.ps _<_ μ-put-others-sized t)
     put-others-sized.Pre
 
-put-others-sized-slice-aggregate-put-others-linked :
-    (t : ℕ) → put-others-sized-lts.Need-slice-aggregate-put-others-linked (
-      put-others-linked-reads.Asked,
-      put-others-linked-reads.Learnt,
-      put-others-sized-below t,
-      put-others-sized.Post,
-      put-others-many-reads.Asked,
-      put-others-many-reads.Learnt,
-      count-reads.Asked,
-      count-reads.Learnt,
-      put-others-most-reads.Asked,
-      put-others-most-reads.Learnt,
-      put-others-marked-reads.Asked,
-      put-others-marked-reads.Learnt,
-    ) (put-others-sized-at t) put-others-sized.Post
-put-others-sized-slice-aggregate-put-others-linked t c = search needs
-
 put-others-sized-put-others-linked-requires :
     (t : ℕ) → put-others-sized-lts.Need-put-others-linked-requires (
       put-others-linked-reads.Asked,
@@ -64,8 +45,8 @@ put-others-sized-put-others-linked-requires :
       count-reads.Learnt,
       put-others-most-reads.Asked,
       put-others-most-reads.Learnt,
-      put-others-marked-reads.Asked,
-      put-others-marked-reads.Learnt,
+      put-others-noted-reads.Asked,
+      put-others-noted-reads.Learnt,
     ) (put-others-sized-at t) put-others-sized.Post
 put-others-sized-put-others-linked-requires t c κs = search needs
 
@@ -80,8 +61,8 @@ put-others-sized-same-length : (t : ℕ) → put-others-sized-lts.Need-same-leng
   count-reads.Learnt,
   put-others-most-reads.Asked,
   put-others-most-reads.Learnt,
-  put-others-marked-reads.Asked,
-  put-others-marked-reads.Learnt,
+  put-others-noted-reads.Asked,
+  put-others-noted-reads.Learnt,
 ) (put-others-sized-at t) put-others-sized.Post
 put-others-sized-same-length t c = search needs
 
@@ -96,8 +77,8 @@ put-others-sized-same-length-2 : (t : ℕ) → put-others-sized-lts.Need-same-le
   count-reads.Learnt,
   put-others-most-reads.Asked,
   put-others-most-reads.Learnt,
-  put-others-marked-reads.Asked,
-  put-others-marked-reads.Learnt,
+  put-others-noted-reads.Asked,
+  put-others-noted-reads.Learnt,
 ) (put-others-sized-at t) put-others-sized.Post
 put-others-sized-same-length-2 t c = search needs
 
@@ -112,10 +93,26 @@ put-others-sized-same-length-3 : (t : ℕ) → put-others-sized-lts.Need-same-le
   count-reads.Learnt,
   put-others-most-reads.Asked,
   put-others-most-reads.Learnt,
-  put-others-marked-reads.Asked,
-  put-others-marked-reads.Learnt,
+  put-others-noted-reads.Asked,
+  put-others-noted-reads.Learnt,
 ) (put-others-sized-at t) put-others-sized.Post
 put-others-sized-same-length-3 t c = search needs
+
+put-others-sized-same-length-4 : (t : ℕ) → put-others-sized-lts.Need-same-length-4 (
+  put-others-linked-reads.Asked,
+  put-others-linked-reads.Learnt,
+  put-others-sized-below t,
+  put-others-sized.Post,
+  put-others-many-reads.Asked,
+  put-others-many-reads.Learnt,
+  count-reads.Asked,
+  count-reads.Learnt,
+  put-others-most-reads.Asked,
+  put-others-most-reads.Learnt,
+  put-others-noted-reads.Asked,
+  put-others-noted-reads.Learnt,
+) (put-others-sized-at t) put-others-sized.Post
+put-others-sized-same-length-4 t c = search needs
 
 put-others-sized-returns : (t : ℕ) → put-others-sized-lts.Need-returns (
   put-others-linked-reads.Asked,
@@ -128,10 +125,10 @@ put-others-sized-returns : (t : ℕ) → put-others-sized-lts.Need-returns (
   count-reads.Learnt,
   put-others-most-reads.Asked,
   put-others-most-reads.Learnt,
-  put-others-marked-reads.Asked,
-  put-others-marked-reads.Learnt,
+  put-others-noted-reads.Asked,
+  put-others-noted-reads.Learnt,
 ) (put-others-sized-at t) put-others-sized.Post
-put-others-sized-returns t c = search (markeds, refl, needs)
+put-others-sized-returns t c = search needs
 
 put-others-sized-slice-aggregate-put-others-sized :
     (t : ℕ) → put-others-sized-lts.Need-slice-aggregate-put-others-sized (
@@ -145,8 +142,8 @@ put-others-sized-slice-aggregate-put-others-sized :
       count-reads.Learnt,
       put-others-most-reads.Asked,
       put-others-most-reads.Learnt,
-      put-others-marked-reads.Asked,
-      put-others-marked-reads.Learnt,
+      put-others-noted-reads.Asked,
+      put-others-noted-reads.Learnt,
     ) (put-others-sized-at t) put-others-sized.Post
 put-others-sized-slice-aggregate-put-others-sized t c = search needs
 
@@ -162,8 +159,8 @@ put-others-sized-slice-aggregate-put-others-sized-2 :
       count-reads.Learnt,
       put-others-most-reads.Asked,
       put-others-most-reads.Learnt,
-      put-others-marked-reads.Asked,
-      put-others-marked-reads.Learnt,
+      put-others-noted-reads.Asked,
+      put-others-noted-reads.Learnt,
     ) (put-others-sized-at t) put-others-sized.Post
 put-others-sized-slice-aggregate-put-others-sized-2 t c = search needs
 
@@ -179,12 +176,12 @@ put-others-sized-put-others-sized-requires :
       count-reads.Learnt,
       put-others-most-reads.Asked,
       put-others-most-reads.Learnt,
-      put-others-marked-reads.Asked,
-      put-others-marked-reads.Learnt,
+      put-others-noted-reads.Asked,
+      put-others-noted-reads.Learnt,
     ) (put-others-sized-at t) put-others-sized.Post
 put-others-sized-put-others-sized-requires t c κs = search needs
 
-put-others-sized-same-length-4 : (t : ℕ) → put-others-sized-lts.Need-same-length-4 (
+put-others-sized-same-length-5 : (t : ℕ) → put-others-sized-lts.Need-same-length-5 (
   put-others-linked-reads.Asked,
   put-others-linked-reads.Learnt,
   put-others-sized-below t,
@@ -195,10 +192,26 @@ put-others-sized-same-length-4 : (t : ℕ) → put-others-sized-lts.Need-same-le
   count-reads.Learnt,
   put-others-most-reads.Asked,
   put-others-most-reads.Learnt,
-  put-others-marked-reads.Asked,
-  put-others-marked-reads.Learnt,
+  put-others-noted-reads.Asked,
+  put-others-noted-reads.Learnt,
 ) (put-others-sized-at t) put-others-sized.Post
-put-others-sized-same-length-4 t c = search needs
+put-others-sized-same-length-5 t c = search needs
+
+put-others-sized-same-length-6 : (t : ℕ) → put-others-sized-lts.Need-same-length-6 (
+  put-others-linked-reads.Asked,
+  put-others-linked-reads.Learnt,
+  put-others-sized-below t,
+  put-others-sized.Post,
+  put-others-many-reads.Asked,
+  put-others-many-reads.Learnt,
+  count-reads.Asked,
+  count-reads.Learnt,
+  put-others-most-reads.Asked,
+  put-others-most-reads.Learnt,
+  put-others-noted-reads.Asked,
+  put-others-noted-reads.Learnt,
+) (put-others-sized-at t) put-others-sized.Post
+put-others-sized-same-length-6 t c = search needs
 
 put-others-sized-returns-2 : (t : ℕ) → put-others-sized-lts.Need-returns-2 (
   put-others-linked-reads.Asked,
@@ -211,8 +224,8 @@ put-others-sized-returns-2 : (t : ℕ) → put-others-sized-lts.Need-returns-2 (
   count-reads.Learnt,
   put-others-most-reads.Asked,
   put-others-most-reads.Learnt,
-  put-others-marked-reads.Asked,
-  put-others-marked-reads.Learnt,
+  put-others-noted-reads.Asked,
+  put-others-noted-reads.Learnt,
 ) (put-others-sized-at t) put-others-sized.Post
 put-others-sized-returns-2 t c = search needs
 
@@ -228,12 +241,12 @@ put-others-sized-put-others-many-requires :
       count-reads.Learnt,
       put-others-most-reads.Asked,
       put-others-most-reads.Learnt,
-      put-others-marked-reads.Asked,
-      put-others-marked-reads.Learnt,
+      put-others-noted-reads.Asked,
+      put-others-noted-reads.Learnt,
     ) (put-others-sized-at t) put-others-sized.Post
 put-others-sized-put-others-many-requires t c κs = search needs
 
-put-others-sized-same-length-5 : (t : ℕ) → put-others-sized-lts.Need-same-length-5 (
+put-others-sized-same-length-7 : (t : ℕ) → put-others-sized-lts.Need-same-length-7 (
   put-others-linked-reads.Asked,
   put-others-linked-reads.Learnt,
   put-others-sized-below t,
@@ -244,10 +257,26 @@ put-others-sized-same-length-5 : (t : ℕ) → put-others-sized-lts.Need-same-le
   count-reads.Learnt,
   put-others-most-reads.Asked,
   put-others-most-reads.Learnt,
-  put-others-marked-reads.Asked,
-  put-others-marked-reads.Learnt,
+  put-others-noted-reads.Asked,
+  put-others-noted-reads.Learnt,
 ) (put-others-sized-at t) put-others-sized.Post
-put-others-sized-same-length-5 t c = search needs
+put-others-sized-same-length-7 t c = search needs
+
+put-others-sized-same-length-8 : (t : ℕ) → put-others-sized-lts.Need-same-length-8 (
+  put-others-linked-reads.Asked,
+  put-others-linked-reads.Learnt,
+  put-others-sized-below t,
+  put-others-sized.Post,
+  put-others-many-reads.Asked,
+  put-others-many-reads.Learnt,
+  count-reads.Asked,
+  count-reads.Learnt,
+  put-others-most-reads.Asked,
+  put-others-most-reads.Learnt,
+  put-others-noted-reads.Asked,
+  put-others-noted-reads.Learnt,
+) (put-others-sized-at t) put-others-sized.Post
+put-others-sized-same-length-8 t c = search needs
 
 put-others-sized-returns-3 : (t : ℕ) → put-others-sized-lts.Need-returns-3 (
   put-others-linked-reads.Asked,
@@ -260,8 +289,8 @@ put-others-sized-returns-3 : (t : ℕ) → put-others-sized-lts.Need-returns-3 (
   count-reads.Learnt,
   put-others-most-reads.Asked,
   put-others-most-reads.Learnt,
-  put-others-marked-reads.Asked,
-  put-others-marked-reads.Learnt,
+  put-others-noted-reads.Asked,
+  put-others-noted-reads.Learnt,
 ) (put-others-sized-at t) put-others-sized.Post
 put-others-sized-returns-3 t c = search needs
 
@@ -276,8 +305,8 @@ put-others-sized-count-requires : (t : ℕ) → put-others-sized-lts.Need-count-
   count-reads.Learnt,
   put-others-most-reads.Asked,
   put-others-most-reads.Learnt,
-  put-others-marked-reads.Asked,
-  put-others-marked-reads.Learnt,
+  put-others-noted-reads.Asked,
+  put-others-noted-reads.Learnt,
 ) (put-others-sized-at t) put-others-sized.Post
 put-others-sized-count-requires t c κs = search needs
 
@@ -293,12 +322,12 @@ put-others-sized-put-others-most-requires :
       count-reads.Learnt,
       put-others-most-reads.Asked,
       put-others-most-reads.Learnt,
-      put-others-marked-reads.Asked,
-      put-others-marked-reads.Learnt,
+      put-others-noted-reads.Asked,
+      put-others-noted-reads.Learnt,
     ) (put-others-sized-at t) put-others-sized.Post
 put-others-sized-put-others-most-requires t c κs = search needs
 
-put-others-sized-same-length-6 : (t : ℕ) → put-others-sized-lts.Need-same-length-6 (
+put-others-sized-same-length-9 : (t : ℕ) → put-others-sized-lts.Need-same-length-9 (
   put-others-linked-reads.Asked,
   put-others-linked-reads.Learnt,
   put-others-sized-below t,
@@ -309,10 +338,26 @@ put-others-sized-same-length-6 : (t : ℕ) → put-others-sized-lts.Need-same-le
   count-reads.Learnt,
   put-others-most-reads.Asked,
   put-others-most-reads.Learnt,
-  put-others-marked-reads.Asked,
-  put-others-marked-reads.Learnt,
+  put-others-noted-reads.Asked,
+  put-others-noted-reads.Learnt,
 ) (put-others-sized-at t) put-others-sized.Post
-put-others-sized-same-length-6 t c = search needs
+put-others-sized-same-length-9 t c = search needs
+
+put-others-sized-same-length-10 : (t : ℕ) → put-others-sized-lts.Need-same-length-10 (
+  put-others-linked-reads.Asked,
+  put-others-linked-reads.Learnt,
+  put-others-sized-below t,
+  put-others-sized.Post,
+  put-others-many-reads.Asked,
+  put-others-many-reads.Learnt,
+  count-reads.Asked,
+  count-reads.Learnt,
+  put-others-most-reads.Asked,
+  put-others-most-reads.Learnt,
+  put-others-noted-reads.Asked,
+  put-others-noted-reads.Learnt,
+) (put-others-sized-at t) put-others-sized.Post
+put-others-sized-same-length-10 t c = search needs
 
 put-others-sized-returns-4 : (t : ℕ) → put-others-sized-lts.Need-returns-4 (
   put-others-linked-reads.Asked,
@@ -325,13 +370,13 @@ put-others-sized-returns-4 : (t : ℕ) → put-others-sized-lts.Need-returns-4 (
   count-reads.Learnt,
   put-others-most-reads.Asked,
   put-others-most-reads.Learnt,
-  put-others-marked-reads.Asked,
-  put-others-marked-reads.Learnt,
+  put-others-noted-reads.Asked,
+  put-others-noted-reads.Learnt,
 ) (put-others-sized-at t) put-others-sized.Post
 put-others-sized-returns-4 t c = search needs
 
-put-others-sized-put-others-marked-requires :
-    (t : ℕ) → put-others-sized-lts.Need-put-others-marked-requires (
+put-others-sized-put-others-noted-requires :
+    (t : ℕ) → put-others-sized-lts.Need-put-others-noted-requires (
       put-others-linked-reads.Asked,
       put-others-linked-reads.Learnt,
       put-others-sized-below t,
@@ -342,12 +387,12 @@ put-others-sized-put-others-marked-requires :
       count-reads.Learnt,
       put-others-most-reads.Asked,
       put-others-most-reads.Learnt,
-      put-others-marked-reads.Asked,
-      put-others-marked-reads.Learnt,
+      put-others-noted-reads.Asked,
+      put-others-noted-reads.Learnt,
     ) (put-others-sized-at t) put-others-sized.Post
-put-others-sized-put-others-marked-requires t c κs = search needs
+put-others-sized-put-others-noted-requires t c κs = search needs
 
-put-others-sized-same-length-7 : (t : ℕ) → put-others-sized-lts.Need-same-length-7 (
+put-others-sized-same-length-11 : (t : ℕ) → put-others-sized-lts.Need-same-length-11 (
   put-others-linked-reads.Asked,
   put-others-linked-reads.Learnt,
   put-others-sized-below t,
@@ -358,10 +403,26 @@ put-others-sized-same-length-7 : (t : ℕ) → put-others-sized-lts.Need-same-le
   count-reads.Learnt,
   put-others-most-reads.Asked,
   put-others-most-reads.Learnt,
-  put-others-marked-reads.Asked,
-  put-others-marked-reads.Learnt,
+  put-others-noted-reads.Asked,
+  put-others-noted-reads.Learnt,
 ) (put-others-sized-at t) put-others-sized.Post
-put-others-sized-same-length-7 t c = search needs
+put-others-sized-same-length-11 t c = search needs
+
+put-others-sized-same-length-12 : (t : ℕ) → put-others-sized-lts.Need-same-length-12 (
+  put-others-linked-reads.Asked,
+  put-others-linked-reads.Learnt,
+  put-others-sized-below t,
+  put-others-sized.Post,
+  put-others-many-reads.Asked,
+  put-others-many-reads.Learnt,
+  count-reads.Asked,
+  count-reads.Learnt,
+  put-others-most-reads.Asked,
+  put-others-most-reads.Learnt,
+  put-others-noted-reads.Asked,
+  put-others-noted-reads.Learnt,
+) (put-others-sized-at t) put-others-sized.Post
+put-others-sized-same-length-12 t c = search needs
 
 put-others-sized-returns-5 : (t : ℕ) → put-others-sized-lts.Need-returns-5 (
   put-others-linked-reads.Asked,
@@ -374,8 +435,8 @@ put-others-sized-returns-5 : (t : ℕ) → put-others-sized-lts.Need-returns-5 (
   count-reads.Learnt,
   put-others-most-reads.Asked,
   put-others-most-reads.Learnt,
-  put-others-marked-reads.Asked,
-  put-others-marked-reads.Learnt,
+  put-others-noted-reads.Asked,
+  put-others-noted-reads.Learnt,
 ) (put-others-sized-at t) put-others-sized.Post
 put-others-sized-returns-5 t c = search needs
 
@@ -391,29 +452,33 @@ pub +put-others-sized-spec : {M : Type 1} → statement M
   count-reads.Learnt,
   put-others-most-reads.Asked,
   put-others-most-reads.Learnt,
-  put-others-marked-reads.Asked,
-  put-others-marked-reads.Learnt,
+  put-others-noted-reads.Asked,
+  put-others-noted-reads.Learnt,
 )
     (put-others-sized-at t)
     put-others-sized.Post
-    (put-others-sized-slice-aggregate-put-others-linked t)
     (put-others-sized-put-others-linked-requires t)
     (put-others-sized-same-length t)
     (put-others-sized-same-length-2 t)
     (put-others-sized-same-length-3 t)
+    (put-others-sized-same-length-4 t)
     (put-others-sized-returns t)
     (put-others-sized-slice-aggregate-put-others-sized t)
     (put-others-sized-slice-aggregate-put-others-sized-2 t)
     (put-others-sized-put-others-sized-requires t)
-    (put-others-sized-same-length-4 t)
+    (put-others-sized-same-length-5 t)
+    (put-others-sized-same-length-6 t)
     (put-others-sized-returns-2 t)
     (put-others-sized-put-others-many-requires t)
-    (put-others-sized-same-length-5 t)
+    (put-others-sized-same-length-7 t)
+    (put-others-sized-same-length-8 t)
     (put-others-sized-returns-3 t)
     (put-others-sized-count-requires t)
     (put-others-sized-put-others-most-requires t)
-    (put-others-sized-same-length-6 t)
+    (put-others-sized-same-length-9 t)
+    (put-others-sized-same-length-10 t)
     (put-others-sized-returns-4 t)
-    (put-others-sized-put-others-marked-requires t)
-    (put-others-sized-same-length-7 t)
+    (put-others-sized-put-others-noted-requires t)
+    (put-others-sized-same-length-11 t)
+    (put-others-sized-same-length-12 t)
     (put-others-sized-returns-5 t)

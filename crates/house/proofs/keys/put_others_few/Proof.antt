@@ -1,26 +1,25 @@
-use mathlib.Core.Path.{refl}
 use Rattle.house.proofs.Others.{others-unlinked}
 use borrow.Author.Needs.{needs}
 use Rattle.house.proofs.keys.put_others_few.Statement.{statement}
 use Rattle.house.proofs.keys.put_others_few.Tie as tie
 
 slice-aggregate-put-others-by : tie.Need-slice-aggregate-put-others-by
-slice-aggregate-put-others-by c = search (others-unlinked, needs)
+slice-aggregate-put-others-by c = search needs
 
 slice-aggregate-put-others-by-2 : tie.Need-slice-aggregate-put-others-by-2
-slice-aggregate-put-others-by-2 c = search (others-unlinked, needs)
+slice-aggregate-put-others-by-2 c = search needs
 
 slice-aggregate-put-others-by-3 : tie.Need-slice-aggregate-put-others-by-3
-slice-aggregate-put-others-by-3 c = search (others-unlinked, needs)
+slice-aggregate-put-others-by-3 c = search needs
 
 put-others-by-requires : tie.Need-put-others-by-requires
-put-others-by-requires c κs = search (others-unlinked, needs)
+put-others-by-requires c κs = search needs
 
 same-length : tie.Need-same-length
-same-length c = search (others-unlinked, needs)
+same-length c = search needs
 
 returns : tie.Need-returns
-returns c = search (others-unlinked, refl, needs)
+returns c = search (others-unlinked, needs)
 
 pub put-others-few-spec : {M : Type 1} → statement M
 put-others-few-spec =

@@ -9,6 +9,9 @@ id-hash-requires c κs = search needs
 meet-hash-requires : tie.Need-meet-hash-requires
 meet-hash-requires c κs = search needs
 
+is-set-requires : tie.Need-is-set-requires
+is-set-requires c κs = search needs
+
 is-free-requires : tie.Need-is-free-requires
 is-free-requires c κs = search needs
 
@@ -36,6 +39,7 @@ has-id-spec =
     (tie.spec
     id-hash-requires
     meet-hash-requires
+    is-set-requires
     is-free-requires
     same-length
     returns

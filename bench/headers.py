@@ -114,6 +114,15 @@ HEADERS = {
     # IDs of which many have the same last part, as contigs of many haplotypes have
     "haplotypes_400000": header([f"##contig=<ID=HG{i // 25:05}#1#chr{i % 25}>" for i in range(400000)]),
     "suffixed_400000": header([f'##x=<ID="a{i}=x">' for i in range(400000)]),
+    # IDs that differ in the middle, in nothing but `#` and `=`, and in the pairs of their parts
+    "middles_700000": header([f'##x=<ID="a#{short(i)}#c">' for i in range(700000)]),
+    "signs_500000": header([f"""##x=<ID="{f'{i:020b}'.translate({48: '#', 49: '='})}">""" for i in range(500000)]),
+    "grid_800000": header([f'##x=<ID="g{n // 900}#y{n % 900}">' for n in random.Random(900).sample(range(810000), 800000)]),
+    # texts and maps of very many keys, one after the other and in turn; and keys of which few have most of the lines
+    "texts_then_maps": header([*(f"##{short(i)}=x" for i in range(900000)), *(f"##{short(i)}=<ID=z>" for i in range(900000, 1400000))]),
+    "in_turn_700000": header([f"##{short(i)}=<ID=z>" if i % 2 else f"##{short(i)}=x" for i in range(1400000)]),
+    "uneven_600000": header([f"##{short(i)}=" for i in random.Random(6).sample([*range(600000), *range(10)], k=2400010, counts=[1] * 600000 + [180001] * 10)]),
+    "unformed_37": header(["##odd=<K=1,ID=a>", *(f"##{short(i)}=" for i in random.Random(38).choices(range(37), k=3200000))]),
     "indexed_98000": header([f"##contig=<ID=c{i},IDX={i}>" for i in range(98000)]),
     "indexed_400000": header([f"##contig=<ID=c{i},IDX={i * 65536}>" for i in range(400000)]),
     "kinds_100000": header(kinds(100000)),

@@ -533,12 +533,55 @@ class LongTest(unittest.TestCase):
             with self.subTest(again=again, first=first):
                 self.refused_at(19, lines[:again] + [lines[first]] + lines[again + 1 :], again)
 
+    def test_an_id_that_differs_in_the_middle_is_found_again(self):
+        lines = [rb'##contig=<ID="a#%06d\"c">' % n for n in range(150000)]
+        self.assertEqual(len(vcfh.Header(self.header(lines), form=vcfh.SECOND)), 150002)
+        for again, first in ((149999, 0), (120000, 30001)):
+            with self.subTest(again=again, first=first):
+                self.refused_at(19, lines[:again] + [lines[first][:-1] + b",length=7>"] + lines[again + 1 :], again)
+
+    def test_names_of_all_sorts_are_found_again_in_small_pieces(self):
+        """Each piece is far shorter than what stands before it, of which only a few names are marked for it."""
+        lines = [line % n for n in range(1000) for line in (b"##contig=<ID=scaffold_%d>", b"##cell=<ID=W%d>", b"##map%d=<ID=a>", b"##text%d=x", b'##ALT=<ID="d_%d",Description="">')]
+        data = self.header(lines)
+        for form in (vcfh.FIRST, vcfh.SECOND):
+            feed = vcfh.Feed(form=form)
+            for k in range(0, len(data), 1500):
+                feed.feed(data[k : k + 1500])
+            self.assertEqual(shown(feed.close()), shown(vcfh.Header(data, form=form)))
+            for number, line in (
+                (19, b"##contig=<ID=scaffold_0,length=7>"), (19, b'##contig=<length=7,ID="scaffold_999">'), (19, b'##ALT=<ID=d_500,Description="">'),
+                (21, b'##cell=<ID="W500",K=1.00>'), (21, b"##map0=<ID=a,K=1.00>"), (20, b"##map999=1.00"), (20, b"##text0=<ID=a>"), (20, b"##text999=<ID=b>"), (20, b"##cell=1.00"),
+            ):
+                with self.subTest(form=form, line=line):
+                    more = self.header([*lines, line])
+                    feed = vcfh.Feed(form=form)
+                    refusal = refused(lambda: [feed.feed(more[k : k + 1500]) for k in range(0, len(more), 1500)])
+                    self.assertEqual((refusal.number, refusal.line, refusal.start), (number, len(lines) + 2, more.rindex(line)))
+
+    def test_the_house_form_of_lines_of_which_few_are_not_in_form(self):
+        """Its size is that of the form's lines, which may be shorter or longer than those of the header."""
+        lines = [b"##k%d=%s" % (n * 7919 % 301, b"" if n % 3 else b"x") for n in range(120000)]
+        odd = {5: (b"##m=<K=1,ID=a>", b"##m=<ID=a,K=1>"), 60000: (b'##m=<ID="b">', b"##m=<ID=b>"), 119999: (b'##INFO=<ID=c,Number=01,Type=Flag,Description=d>', b'##INFO=<ID=c,Number=1,Type=Flag,Description="d">')}
+        for odds in ({}, {5: odd[5]}, {60000: odd[60000]}, odd):
+            given = [odds[n][0] if n in odds else line for n, line in enumerate(lines)]
+            by_key = {}
+            for n, line in enumerate(lines):
+                line = odds[n][1] if n in odds else line
+                by_key.setdefault(line.split(b"=")[0], []).append(line)
+            typed = by_key.pop(b"##INFO", [])
+            formed = self.header([*typed, *(line for key in by_key for line in by_key[key])])
+            with self.subTest(odds=sorted(odds)):
+                self.assertEqual(vcfh.house_form(self.header(given), form=vcfh.SECOND), formed)
+                self.assertTrue(vcfh.is_house(formed, form=vcfh.SECOND))
+
     def test_the_dictionary_of_ids_in_several_kinds(self):
         filters = [b'##FILTER=<ID=q%d,Description="d">' % n for n in range(5000)]
         infos = [b'##INFO=<ID=q%d,Number=1,Type=Integer,Description="d">' % n for n in range(2500, 7500)]
         strings, contigs = vcfh.dictionaries(self.header(filters + infos), form=vcfh.SECOND)
         self.assertEqual(strings, [(n + 1, n + 1) for n in range(5000)] + [(n + 2501, n + 1) for n in range(5000, 7500)])
         self.assertEqual(contigs, [])
+
 
 if __name__ == "__main__":
     unittest.main()

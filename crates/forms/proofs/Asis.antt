@@ -1,10 +1,10 @@
 -- A line that is its own line of the form. Assumes nothing.
-use Prim.Native.Nat.{ℕ, _+_, _-_}
+use Prim.Native.Nat.{ℕ, _+_, _-_, _≤_}
 use native.Mathlib.Omega.{arith}
 use mathlib.Core.Path.{_≡_, refl, sym, ap, ap₂, subst, _∙_}
 use mathlib.Core.Bool.{Bool, true, false}
 use mathlib.Core.List.{List, [], _∷_, _++_, append-assoc}
-use lib.ListN.{length, getD, take, drop, length-append}
+use lib.ListN.{length, getD, take, drop, length-append, List·getD-eq-default}
 use lib.Seq.{getD-at}
 use Rattle.values.specs.Bytes.{Bytes, ascii, is, same}
 use Rattle.values.specs.Value.{meaningOf}
@@ -69,6 +69,10 @@ module _ (version : FileFormat) (s : Bytes) {end : ℕ} (f : end ≡ 2 + length 
           let z : 2 + length k + 1 ≡ end + 1 = rw (key-is k fs e) (omega arith) in
           absurd (n (ap (λ (j : ℕ). getD s j 0) (sym z) ∙ q))
 
+  -- nothing stands after the `=`
+  pub formed-empty : length s ≤ end + 1 → FormedLine (versionOf version) s true
+  formed-empty l = formed-text (λ e. let z = List·getD-eq-default s 0 l in absurd (omega (arith, z, e)))
+
   module _ {p : Bytes} (b : p ≡ take (end - 2) (drop 2 s)) {q : Bool} (t : q ≡ same p (ascii "fileformat")) (u : q ≡ false) {j : MapKey} (d : j ≡ keyNamed p) {x : MapContext} (c : x ≡ contextOf j version (end + 1 + 1)) where
     map-named : (k : Bytes) → k ≡ keyIn s → Named k j
     map-named k e =
@@ -100,4 +104,4 @@ module _ (version : FileFormat) (s : Bytes) {end : ℕ} (f : end ≡ 2 + length 
             let a = ap (λ (y : MapContext). fieldsAt (y .brackets) s (y .start)) c ∙ fields-are version k fs j s (end + 1 + 1) n e l in
             map-is k fs e m (subst (IdFirst x) (ap (λ (z : Bool). fieldsAt z s (x .start)) (sym m) ∙ a) h)
 
-pub ruleset formeds = (formed-not, formed-text, formed-map)
+pub ruleset formeds = (formed-not, formed-text, formed-empty, formed-map)

@@ -270,7 +270,7 @@ pub fn is_formed(s: &[u8], version: FileFormat) -> bool
     }
     let value = end + 1;
     if s.len() <= value {
-        return false;
+        return true;
     }
     if s[value] != b'<' {
         return true;

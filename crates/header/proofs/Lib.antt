@@ -1,5 +1,6 @@
 pub mod Steps
 pub mod Whole
+pub mod Aheads
 pub mod Verdicts
 pub mod Parsers
 pub mod Extends

@@ -44,10 +44,12 @@ use Rattle.lines.proofs.Lines.{pieces-past, pieces-there}
 use Rattle.columns.specs.HeaderLines.{columnsPut}
 use Rattle.columns.proofs.Answers.{columns-room}
 use Rattle.columns.proofs.Stores.{columns-put}
-use Rattle.ids.specs.Marks.{Marked, MarkedFrom, AheadMarked}
-use Rattle.ids.proofs.Markings.{unmarked, unmarked-last, unmarked-all, marked-from}
+use Rattle.ids.specs.Marks.{Marked, MarkedFor}
+use Rattle.ids.proofs.Markings.{unmarked, unmarked-last, marked-for}
 use Rattle.header.specs.Steps.{Stage, stepOn, Point, Went, passed, goOn, startPoint, Spot, Told, startSpot, fits, pointOf, wentOn, toldBy, readOn, tableOn}
-use Rattle.header.specs.Verdicts.{stageOf, formatEntry, Ended, Says, MarkedBefore, LineJudged}
+use Rattle.header.specs.Verdicts.{stageOf, formatEntry, Ended, Says, IsInBody, MarkedBefore, LineJudged}
+use Rattle.header.specs.Ahead.{LinesNamed, AheadMarked}
+use Rattle.header.proofs.Aheads.{body-kept, stage-named, ahead-none}
 use Rattle.header.specs.Parsers.{answerMeans, readInto, refusedAs, ReadCall, spotIn, advanceMeans, endedAt, refusedAt, closedAt, ReadsOn, Begins, BeginsMarked, Bounds, spotAfter, tableAfter, partialMeans, Stepped, KeepsLine, Parses}
 use Rattle.header.specs.declared.phase.Phase.{Phase}
 use Rattle.header.specs.declared.phase.Phase.the-variants as phase
@@ -200,12 +202,13 @@ module _ (form : Form) (imposed : Option Version) (plain : Bool) (p : Parser) (h
   pub line-parsed : Parses form imposed plain p h ms t r ms′ t′
   line-parsed = record {
     marks = d .marks;
-    is = λ all piece ps f u.
+    is = λ piece ps f all u.
         let q = a .first piece ps f in
         let es = entriesIn form (firstEntries form t (p .count)) in
         let here = part h (p .at) (line .end) in
         let j = subst (λ (x : List ℕ). LineJudged (limitsBy form) h (entriesIn form x) ms plain (p .at) (line .end) (p .phase) imposed v ms′) ek d in
-        let s = j .is all here refl (λ i. ascii-utf8 here (ascii-part (line .end - p .at) 0 (drop (p .at) h) (u i))) in
+        let before = subst (λ (y : Bytes). MarkedBefore (limitsBy form) (stageOf (p .phase)) h (p .at) y ms es) (sym (q .here)) all in
+        let s = j .is here refl before (λ i. ascii-utf8 here (ascii-part (line .end - p .at) 0 (drop (p .at) h) (u i))) in
         let k = e .is ms′ (stepOn (limitsBy form) imposed h es (p .at) (stageOf (p .phase)) here) s in
         subst (λ (n : ℕ). Stepped form h ms′ p n (stepOn (limitsBy form) imposed h es (p .at) (stageOf (p .phase)) (lineOf piece)) t r t′) (q .stepped)
         (subst (λ (y : Bytes). Stepped form h ms′ p (line .next) (stepOn (limitsBy form) imposed h es (p .at) (stageOf (p .phase)) y) t r t′) (q .here) k);
@@ -294,7 +297,7 @@ module _ (form : Form) (imposed : Option Version) (plain : Bool) (h : Bytes) (en
     pub counted : p .count ≡ s₀ .count + length new
     pub began : Fit form (length h) t₀ s₀
     pub fit-here : Fit form (length h) t (spotIn p)
-    pub marked : MarkedBefore h (p .at) ms (pointOf form t (spotIn p) .entries)
+    pub marked : AheadMarked (limitsBy form) (stageOf (p .phase)) h (p .at) ms (pointOf form t (spotIn p) .entries)
     pub ascii : plain ≡ true → isAscii (drop (p .at) h) ≡ true
     pub long : length ms ≡ length ms₀
     pub rest : wentOn form imposed h end t₀ s₀ ≡ goOn (limitsBy form) imposed (room form t₀) h end (pointOf form t (spotIn p)) (pieces (drop (p .at) h))
@@ -366,8 +369,11 @@ module _ (form : Form) (imposed : Option Version) (plain : Bool) (h : Bytes) (en
       abbrev answer : Answer (Stage × List Entry)
       answer = stepOn (limitsBy form) imposed h (here .entries) (p .at) (stageOf (p .phase)) (lineOf piece)
 
+      named : LinesNamed (limitsBy form) (stageOf (p .phase)) h (g .marked .notes) (p .at) (piece ∷ after)
+      named = subst (LinesNamed (limitsBy form) (stageOf (p .phase)) h (g .marked .notes) (p .at)) there (g .marked .named)
+
       step : Stepped form h ms′ p (p .at + length piece) answer t r t′
-      step = f .is (g .marked) piece after there (g .ascii)
+      step = f .is piece after there (record { notes = g .marked .notes; named = named .0; all = g .marked .all }) (g .ascii)
 
       unrolled : wentOn form imposed h end t₀ s₀ ≡ goOn (limitsBy form) imposed (room form t₀) h end here (piece ∷ after)
       unrolled = g .rest ∙ ap (goOn (limitsBy form) imposed (room form t₀) h end here) there
@@ -450,6 +456,10 @@ module _ (form : Form) (imposed : Option Version) (plain : Bool) (h : Bytes) (en
             = ap (λ (x : List ℕ). entriesIn form (firstEntries form x (q .count))) (k .table) ∙ entries-more form t (p .count) (k .x .1) c (rw c (leb-true _ (room form t) (k .roomy))) stand in
             ap₂ (λ (s : Spot) (fs : List Entry). record { stage = s .stage; line = s .line; at = s .at; entries = fs }) (k .spot) es ∙ rw i
 
+        -- records are read by the same version
+        in-body : (v : Version) → IsInBody (stageOf (q .phase)) v → IsInBody (stageOf (p .phase)) v
+        in-body v i = body-kept (limitsBy form) imposed h (here .entries) (p .at) (stageOf (p .phase)) (lineOf piece) (k .taken) v (subst (λ (y : Spot). IsInBody (y .stage) v) (k .spot) i)
+
         pub going-next : length ms′ ≡ length ms → Going ms₀ ms′ t′ q
         going-next n =
             let line = first-line h (p .at) piece after (g .fit-here .at) there in
@@ -470,11 +480,11 @@ module _ (form : Form) (imposed : Option Version) (plain : Bool) (h : Bytes) (en
                 line = omega (arith, ln, moved, some, g .fit-here .line);
               };
               marked = record {
-                from = g .marked .from;
-                behind = omega (arith, moved, g .marked .behind);
+                notes = g .marked .notes;
+                named = rw (moved, line .left) (stage-named (limitsBy form) h (g .marked .notes) (stageOf (p .phase)) (stageOf (q .phase)) in-body (p .at + length piece) after (named .1));
                 all = rw es
-                    (all-append (MarkedFrom h (g .marked .from) ms′) (here .entries) (k .x .1) (f .marks .all (g .marked .from) (here .entries) (g .marked .all))
-                    (all-map (Marked h ms′) (MarkedFrom h (g .marked .from) ms′) (k .x .1) (λ (y : Entry) m. marked-from h (g .marked .from) ms′ y m)
+                    (all-append (MarkedFor h (g .marked .notes) ms′) (here .entries) (k .x .1) (f .marks .all (g .marked .notes) (here .entries) (g .marked .all))
+                    (all-map (Marked h ms′) (MarkedFor h (g .marked .notes) ms′) (k .x .1) (λ (y : Entry) m. marked-for h (g .marked .notes) ms′ y m)
                     (on-ok (λ (y : Stage × List Entry). All (Marked h ms′) (y .1)) (step .marked) (k .taken))));
               };
               ascii = λ j. rw moved (ascii-rest h (p .at) (length piece) (g .ascii j));
@@ -495,15 +505,15 @@ pub ruleset goings = (going-start, kept-length, marks-length, kept-bounds, going
 
 module _ (form : Form) (plain : Bool) (h t : List ℕ) (s : Spot) (b : Begins form plain h t s) where
   -- what lines from there on may clash with is marked
-  pub begin-marked : {kept : List ℕ} → kept ≡ firstEntries form t (s .count) → {ms : Bytes} → AheadMarked h (s .at) ms (entriesIn form kept) → BeginsMarked form plain h ms t s
-  begin-marked e f = record {
-    begins = b;
-    marked = record { from = s .at; behind = omega arith; all = rw e at (f .all) };
-  }
+  pub begin-marked : {kept : List ℕ} → kept ≡ firstEntries form t (s .count) → {ms : Bytes} → AheadMarked (limitsBy form) (s .stage) h (s .at) ms (entriesIn form kept) → BeginsMarked form plain h ms t s
+  begin-marked e f = record { begins = b; marked = rw e at f }
 
   -- or there are no marks
   pub begin-unmarked : {ms : Bytes} → length ms ≡ 0 → BeginsMarked form plain h ms t s
-  begin-unmarked {ms} e = record { begins = b; marked = record { from = s .at; behind = omega arith; all = unmarked-all h (s .at) (pointOf form t s .entries) ms e } }
+  begin-unmarked {ms} e = record { begins = b; marked = ahead-none (limitsBy form) (s .stage) h (s .at) ms (pointOf form t s .entries) e }
+
+  pub begin-inside : s .at ≤ length h
+  begin-inside = fit form (length h) t s (b .fit) .at
 
 module _ (form : Form) (h : Bytes) (t : List ℕ) (p : Parser) where
   module _ {q : Bool} (a : q ≡ fits form (length h) t (spotIn p)) where
@@ -574,7 +584,7 @@ on-lines {form} {imposed} {h} {end} {t} {s} {r} c {p} {x} i = elim (test (fits f
       none-not (sym (ap (λ (y : Told). y .stop) (sym (ap advanceMeans i) ∙ c .told ∙ q)))
 ]
 
-pub ruleset ons = (begin-marked, begin-unmarked, on-out, on-unfit, on-fit, on-inside, on-begins, on-length)
+pub ruleset ons = (begin-marked, begin-unmarked, begin-inside, on-out, on-unfit, on-fit, on-inside, on-begins, on-length)
 
 -- A whole header
 

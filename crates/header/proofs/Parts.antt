@@ -288,7 +288,7 @@ module _ (form : Form) (imposed : Option Version) (h : Bytes) (end : ℕ) (t₀ 
           }
 
 -- a part of so many bytes, cut after its last LF
-module _ {form : Form} {imposed : Option Version} {h : Bytes} {end : ℕ} {t₀ t : List ℕ} {s₀ s : Spot} {reach : ℕ} (g : Parting form imposed h end t₀ s₀ t s reach) (l : 1572864 ≤ end - reach) where
+module _ {form : Form} {imposed : Option Version} {h : Bytes} {end : ℕ} {t₀ t : List ℕ} {s₀ s : Spot} {reach : ℕ} (g : Parting form imposed h end t₀ s₀ t s reach) (l : 1179648 ≤ end - reach) where
   pub far-inside : reach + 1048576 ≤ length h
   far-inside = omega (arith, g .ahead, g .inside)
 

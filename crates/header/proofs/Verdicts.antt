@@ -30,10 +30,10 @@ use Rattle.rules.proofs.Texts.{LineOf, record-in}
 use Rattle.rules.proofs.Shows.{Both, AnyAt, named-text, line-fields}
 use Rattle.records.specs.Formats.{versionOf}
 use Rattle.records.specs.Refusals.{number}
-use Rattle.records.specs.Keys.{kindBy, Named}
+use Rattle.records.specs.Keys.{kindBy}
 use Rattle.records.specs.Fields.{textIn}
 use Rattle.records.specs.Maps.{slotted}
-use Rattle.records.specs.Records.{valueStart, RecordIs, ParsesRecord}
+use Rattle.records.specs.Records.{RecordIs, ParsesRecord}
 use Rattle.records.specs.declared.file_format.FileFormat.{FileFormat}
 use Rattle.records.specs.declared.refusal.Refusal.{Refusal}
 use Rattle.records.specs.declared.refusal.Refusal.the-variants.{ExpectedEof, LineTooLong, InvalidUtf8, MissingFileFormat, UnexpectedFileFormat, DuplicateId, MixedValues, DuplicateOtherId, InvalidHeader, DuplicateSampleName}
@@ -52,13 +52,15 @@ use Rattle.entries.specs.declared.entry.Entry.{Entry as CodeEntry}
 use Rattle.entries.specs.Values.{entryOf, limitsOf}
 use Rattle.entries.specs.declared.limits.Limits.{Limits as CodeLimits}
 use Rattle.ids.specs.Clashes.{clashNumber, clashIn, prefixOf, Prefixes}
-use Rattle.ids.specs.Marks.{prefixHash, markUnder, Marked, clashUnder}
+use Rattle.ids.specs.Names.{prefixHash}
+use Rattle.ids.specs.Ahead.{Named}
+use Rattle.ids.specs.Marks.{markUnder, Marked, MarkedFor, clashUnder}
 use Rattle.ids.specs.declared.scan.Clash.{Clash}
 use Rattle.ids.specs.declared.scan.Clash.the-variants as clashes
 use Rattle.ids.proofs.KeyKinds.{number-small}
 use Rattle.ids.proofs.Markings.{under-length, entry-own, under-kept, prefix-own, clash-sure}
 use Rattle.header.specs.Steps.{Stage, opening, body, ending, freshState, heldAgainst, stepOn}
-use Rattle.header.specs.Verdicts.{imposedOf, stageOf, isDonePhase, formatEntry, Says, MarksKept, MarkedBefore, FirstSays, FirstJudged, besideEntries, IdJudged, recordBeside, madeOf, MetSays, MeetsRecord, RecordJudged, ColumnsSay, ColumnsJudged, textBeside, TextJudged, Utf8Told, LineJudged}
+use Rattle.header.specs.Verdicts.{imposedOf, stageOf, isDonePhase, formatEntry, Says, MarksKept, MarkedBefore, FirstSays, FirstJudged, besideEntries, IdJudged, recordBeside, madeOf, MetSays, MeetsRead, RecordJudged, ColumnsSay, ColumnsJudged, textBeside, TextJudged, Utf8Told, LineJudged}
 use Rattle.header.specs.declared.file_format_option.FileFormatOption.{FileFormatOption}
 use Rattle.header.specs.declared.file_format_option.FileFormatOption.the-variants as option
 use Rattle.header.specs.declared.phase.Phase.{Phase}
@@ -67,7 +69,8 @@ use Rattle.header.specs.declared.verdict.Met.{Met}
 use Rattle.header.specs.declared.verdict.Met.the-variants as met
 use Rattle.header.specs.declared.verdict.Verdict.{Verdict}
 use Rattle.header.specs.declared.verdict.Verdict.the-variants as verdict
-use Rattle.rules.specs.Claims.{Sized, SizedOption, keyIn}
+use Rattle.header.proofs.Aheads.{alone}
+use Rattle.rules.specs.Claims.{All, Sized, SizedOption, keyIn}
 
 -- The version in force
 
@@ -123,10 +126,10 @@ pub ruleset firsts = (first-format, first-map, first-text, first-refused)
 -- A record beside those before it
 
 marks-same : (h ms : Bytes) → MarksKept h ms ms
-marks-same h ms = record { long = refl; all = λ from es a. a }
+marks-same h ms = record { long = refl; all = λ ns es a. a }
 
 marks-more : (h ms : Bytes) (key : ℕ) (e : Entry) {ms′ : Bytes} → ms′ ≡ markUnder h key e ms → MarksKept h ms ms′
-marks-more h ms key e a = rw a (record { long = under-length h key e ms; all = λ from es b. under-kept h from key e ms es b })
+marks-more h ms key e a = rw a (record { long = under-length h key e ms; all = λ ns es b. under-kept h ns key e ms es b })
 
 judged-by : {A : Type 0} {n m : ℕ} (x : A) → m ≡ n → {k : ℕ} → m ≡ suc k → judged n x ≡ refuse (suc k)
 judged-by x e f = rw (← e, f)
@@ -136,10 +139,9 @@ module _ (lim : Limits) (h : Bytes) (es : List Entry) (ms prefix : Bytes) (e : C
   abbrev OwnPrefix : Type 0
   OwnPrefix = Prefixes prefix (lineIn h (entryOf e))
 
-  found : 2 ≤ entryOf e .kind → OwnPrefix → MarkedBefore h (entryOf e .start) ms es → clashNumber a ≡ clashNumber (clashIn h es prefix (entryOf e))
-  found two own m =
-      ap clashNumber (ea ∙ ap (λ (k : ℕ). clashUnder h es ms prefix k (entryOf e)) (prefix-own h prefix (entryOf e) (own .key))
-      ∙ clash-sure h (m .from) es ms prefix (entryOf e) own two (m .behind) (m .all))
+  found : 2 ≤ entryOf e .kind → OwnPrefix → (ns : List ℕ) → Named h ns (entryOf e) → All (MarkedFor h ns ms) es → clashNumber a ≡ clashNumber (clashIn h es prefix (entryOf e))
+  found two own ns n m =
+      ap clashNumber (ea ∙ ap (λ (k : ℕ). clashUnder h es ms prefix k (entryOf e)) (prefix-own h prefix (entryOf e) (own .key)) ∙ clash-sure h ns es ms prefix (entryOf e) own two n m)
 
   marked : OwnPrefix → Marked h ms′ (entryOf e)
   marked own = subst (λ (y : Bytes). Marked h y (entryOf e)) (sym (em ∙ ap (λ (k : ℕ). markUnder h k (entryOf e) ms) (prefix-own h prefix (entryOf e) (own .key)))) (entry-own h (entryOf e) ms)
@@ -147,13 +149,13 @@ module _ (lim : Limits) (h : Bytes) (es : List Entry) (ms prefix : Bytes) (e : C
   pub id-free : a ≡ clashes.Free → IdJudged lim h es ms prefix (entryOf e) (verdict.Entry e) ms′
   id-free f = record {
     marks = marks-more h ms (prefixHash prefix (e .kind)) (entryOf e) em;
-    is = λ two own m start g l. (judged-zero (g, entryOf e ∷ []) (sym (found two own m) ∙ ap clashNumber f), marked own);
+    is = λ two own ns n m start g l. (judged-zero (g, entryOf e ∷ []) (sym (found two own ns n m) ∙ ap clashNumber f), marked own);
   }
 
   id-clash : (y : Refusal) {b : Clash} → a ≡ b → {n : ℕ} → clashNumber b ≡ suc n → number y ≡ suc n → IdJudged lim h es ms prefix (entryOf e) (verdict.Refused y) ms′
   id-clash y f c i = record {
     marks = marks-more h ms (prefixHash prefix (e .kind)) (entryOf e) em;
-    is = λ two own m start g l. judged-by (g, entryOf e ∷ []) (found two own m) (ap clashNumber f ∙ c) ∙ ap refuse (sym i);
+    is = λ two own ns n m start g l. judged-by (g, entryOf e ∷ []) (found two own ns n m) (ap clashNumber f ∙ c) ∙ ap refuse (sym i);
   }
 
   pub id-twice : a ≡ clashes.TypedId → IdJudged lim h es ms prefix (entryOf e) (verdict.Refused DuplicateId) ms′
@@ -253,30 +255,28 @@ module _ (lim : Limits) (v : Version) (start : ℕ) (l : Bytes) (x : RecordRead)
   read-as : {y : Answer Record} → readRecord v l ≡ y → (h : Bytes) (es : List Entry) → recordBeside lim h es v start l ≡ (y >>= enter (lim .counted) v [] start l >>= heldAgainst h es)
   read-as e h es = ap (λ (z : Answer Record). z >>= enter (lim .counted) v [] start l >>= heldAgainst h es) e
 
-  pub met-format : {w : FileFormat} → x ≡ read.FileFormat w → MeetsRecord lim v start l (met.Refused UnexpectedFileFormat)
-  met-format e = record { is = read-as (subst (RecordIs v l) e (a .is)) }
+  met-format : {w : FileFormat} → x ≡ read.FileFormat w → MetSays lim v start l (met.Refused UnexpectedFileFormat)
+  met-format e = read-as (subst (RecordIs v l) e (a .is))
 
-  pub met-refused : {y : Refusal} → x ≡ read.Refused y → MeetsRecord lim v start l (met.Refused y)
-  met-refused e = record { is = read-as (subst (RecordIs v l) e (a .is)) }
+  met-refused : {y : Refusal} → x ≡ read.Refused y → MetSays lim v start l (met.Refused y)
+  met-refused e = read-as (subst (RecordIs v l) e (a .is))
 
-  pub met-map : {y : MapRecord} → x ≡ read.Map y → {e : CodeEntry} → entryOf e ≡ madeOf lim start l y → MeetsRecord lim v start l (met.New e (y .value))
+  met-map : {y : MapRecord} → x ≡ read.Map y → {e : CodeEntry} → entryOf e ≡ madeOf lim start l y → MetSays lim v start l (met.New e (y .value))
   met-map {y} w {e} q =
       let m = subst (RecordIs v l) w (a .is) in
       let k = keyIn l in
       let i : y .value ≡ 2 + length k + 1 = m .2 in
       let made = made-is v l k (m .0) (on-ok (LineOf l) (record-in v l) (m .3)) (y .id) (y .tag) (m .4) lim start y refl refl (ap mapKind (sym (m .1 .kind ∙ kind-by-case (y .key)))) (omega (arith, i)) (ap (λ (t : Tally). t .fields) (m .5)) in
-      record {
-        is = rw q (record {
-          prefix = ap (λ (n : ℕ). take n l) i ∙ prefix-map v l k (m .0) (m .3);
-          kind = number-small (kindBy (y .key)) .0;
-          stands = refl;
-          size = refl;
-          beside = λ h es. ap (besideEntries h es (prefixOf k) (body v)) made ∙ map-beside lim h es v start l k (m .0) (m .3);
-        });
-      }
+      rw q (record {
+        prefix = ap (λ (n : ℕ). take n l) i ∙ prefix-map v l k (m .0) (m .3);
+        kind = number-small (kindBy (y .key)) .0;
+        stands = refl;
+        size = refl;
+        beside = λ h es. ap (besideEntries h es (prefixOf k) (body v)) made ∙ map-beside lim h es v start l k (m .0) (m .3);
+      })
 
-  pub met-text : {at : ℕ} → x ≡ read.Text at → {n key : ℕ} → n ≡ at - 3 → key ≡ ifCounted (lim .counted) n
-      → {e : CodeEntry} → entryOf e ≡ withCounts (record { keyLength = key; fieldCount = 0 }) (plainEntry textKind start (length l)) → MeetsRecord lim v start l (met.New e at)
+  met-text : {at : ℕ} → x ≡ read.Text at → {n key : ℕ} → n ≡ at - 3 → key ≡ ifCounted (lim .counted) n
+      → {e : CodeEntry} → entryOf e ≡ withCounts (record { keyLength = key; fieldCount = 0 }) (plainEntry textKind start (length l)) → MetSays lim v start l (met.New e at)
   unfolding recordEntry lineEntry countsOf
   met-text {at} w {n} {key} en ek {e} q =
       let m = subst (RecordIs v l) w (a .is) in
@@ -285,15 +285,28 @@ module _ (lim : Limits) (v : Version) (start : ℕ) (l : Bytes) (x : RecordRead)
       let c : n ≡ length k = omega (arith, en, m .0) in
       let made : withCounts (record { keyLength = key; fieldCount = 0 }) (plainEntry textKind start (length l)) ≡ recordEntry (lim .counted) v start l (text k (drop at l))
       = ap₂ (λ (k f : ℕ). withCounts (record { keyLength = k; fieldCount = f }) (plainEntry textKind start (length l))) (ek ∙ ap (ifCounted (lim .counted)) c) (sym (none-counted (lim .counted))) in
-      record {
-        is = rw q (record {
-          prefix = ap (λ (n : ℕ). take n l) i ∙ prefix-text v l k (drop at l) (m .1);
-          kind = omega arith;
-          stands = refl;
-          size = refl;
-          beside = λ h es. ap (besideEntries h es (prefixOf k) (body v)) made ∙ text-beside lim h es v start l k (drop at l) (m .1);
-        });
-      }
+      rw q (record {
+        prefix = ap (λ (n : ℕ). take n l) i ∙ prefix-text v l k (drop at l) (m .1);
+        kind = omega arith;
+        stands = refl;
+        size = refl;
+        beside = λ h es. ap (besideEntries h es (prefixOf k) (body v)) made ∙ text-beside lim h es v start l k (drop at l) (m .1);
+      })
+
+-- whatever the version
+module _ (lim : Limits) (start : ℕ) (l : Bytes) (x : RecordRead) where
+  pub read-format : {w : FileFormat} → x ≡ read.FileFormat w → MeetsRead lim start l x (met.Refused UnexpectedFileFormat)
+  read-format e = record { is = λ v a. met-format lim v start l x a e }
+
+  pub read-refused : {y : Refusal} → x ≡ read.Refused y → MeetsRead lim start l x (met.Refused y)
+  read-refused e = record { is = λ v a. met-refused lim v start l x a e }
+
+  pub read-map : {y : MapRecord} → x ≡ read.Map y → {e : CodeEntry} → entryOf e ≡ madeOf lim start l y → MeetsRead lim start l x (met.New e (y .value))
+  read-map w q = record { is = λ v a. met-map lim v start l x a w q }
+
+  pub read-text : {at : ℕ} → x ≡ read.Text at → {n key : ℕ} → n ≡ at - 3 → key ≡ ifCounted (lim .counted) n
+      → {e : CodeEntry} → entryOf e ≡ withCounts (record { keyLength = key; fieldCount = 0 }) (plainEntry textKind start (length l)) → MeetsRead lim start l x (met.New e at)
+  read-text w en ek q = record { is = λ v a. met-text lim v start l x a w en ek q }
 
 -- what answers the need of `map_entry`
 pub made-entry : (lim : Limits) (start : ℕ) (l : Bytes) (m : MapRecord) {name : Bytes} → name ≡ textIn l (m .id) → {kind : ℕ} → kind ≡ mapKind (kindBy (m .key)) → {at : ℕ} → at ≡ m .value - 3
@@ -302,25 +315,30 @@ pub made-entry : (lim : Limits) (start : ℕ) (l : Bytes) (m : MapRecord) {name 
     (madeOf lim start l m)
 made-entry lim start l m en ek ea ey ec = rw (en, ek, ey, ea, ec)
 
-pub ruleset mets = (met-format, met-refused, met-map, met-text)
+pub ruleset mets = (read-format, read-refused, read-map, read-text)
 
-module _ (lim : Limits) (h : Bytes) (es : List Entry) (ms : Bytes) (start end : ℕ) {l : Bytes} (el : l ≡ part h start end) (v : Version) (x : Met) (a : MeetsRecord lim v start l x) where
+module _ (lim : Limits) (h : Bytes) (es : List Entry) (ms : Bytes) (start end : ℕ) {l : Bytes} (el : l ≡ part h start end) (v : Version) {y : RecordRead} (b : ParsesRecord v l y) (x : Met) (a : MeetsRead lim start l y x) where
   -- the line is the one that the code read
-  placed : (r : Verdict) {ms′ : Bytes} → (MarkedBefore h start ms es → Says lim h ms′ (recordBeside lim h es v start l) start (body v) l r) → MarksKept h ms ms′ → RecordJudged lim h es ms v start end r ms′
-  placed r {ms′} f m = record { marks = m; is = λ all l′ el′. subst (λ (y : Bytes). Says lim h ms′ (recordBeside lim h es v start y) start (body v) y r) (el ∙ sym el′) (f all) }
+  placed : (r : Verdict) {ms′ : Bytes} → (MarkedBefore lim (body v) h start l ms es → Says lim h ms′ (recordBeside lim h es v start l) start (body v) l r) → MarksKept h ms ms′ → RecordJudged lim h es ms v start end r ms′
+  placed r {ms′} f m = record {
+    marks = m;
+    is = λ l′ el′ all.
+        subst (λ (y : Bytes). Says lim h ms′ (recordBeside lim h es v start y) start (body v) y r) (el ∙ sym el′)
+        (f (subst (λ (y : Bytes). MarkedBefore lim (body v) h start y ms es) (el′ ∙ sym el) all));
+  }
 
   pub record-refused : {y : Refusal} → x ≡ met.Refused y → RecordJudged lim h es ms v start end (verdict.Refused y) ms
-  record-refused {y} e = placed (verdict.Refused y) (λ all. subst (MetSays lim v start l) e (a .is) h es) (marks-same h ms)
+  record-refused {y} e = placed (verdict.Refused y) (λ all. subst (MetSays lim v start l) e (a .is v b) h es) (marks-same h ms)
 
   pub record-new : {e : CodeEntry} {at : ℕ} → x ≡ met.New e at → {prefix : Bytes} → prefix ≡ take (at - 0) (drop 0 l) → (r : Verdict) {ms′ : Bytes}
       → IdJudged lim h es ms prefix (entryOf e) r ms′ → RecordJudged lim h es ms v start end r ms′
   record-new {e} {at} w {prefix} p r {ms′} j = placed r (λ all.
-      let n = subst (MetSays lim v start l) w (a .is) in
+      let n = subst (MetSays lim v start l) w (a .is v b) in
       let z : at - 0 ≡ at = omega arith in
       let q : prefix ≡ prefixOf (keyIn l) = p ∙ ap (λ (i : ℕ). take i l) z ∙ n .prefix in
       let own = prefixed (at - 0) p q (line-here h (entryOf e) start end el (n .stands) (n .size)) in
-      let before = subst (λ (i : ℕ). MarkedBefore h i ms es) (sym (n .stands)) all in
-      subst (λ (y : Answer (Stage × List Entry)). Says lim h ms′ y start (body v) l r) (ap (λ (y : Bytes). besideEntries h es y (body v) (entryOf e)) q ∙ n .beside h es) (j .is (n .kind) own before start (body v) l))
+      let named = all .named .is v refl (entryOf e) (sym (n .beside h []) ∙ alone h _ (body v) (entryOf e)) in
+      subst (λ (y : Answer (Stage × List Entry)). Says lim h ms′ y start (body v) l r) (ap (λ (y : Bytes). besideEntries h es y (body v) (entryOf e)) q ∙ n .beside h es) (j .is (n .kind) own (all .notes) named (all .all) start (body v) l))
       (j .marks)
 
 pub ruleset records = (record-refused, record-new)
@@ -368,13 +386,14 @@ module _ (lim : Limits) (imposed : Option Version) (h ms : Bytes) (es : List Ent
 
 module _ (lim : Limits) (h : Bytes) (es : List Entry) (ms : Bytes) (start end : ℕ) {l : Bytes} (el : l ≡ part h start end) (imposed : Option Version) (p : Phase) where
   -- the line is the one that the code read, and the phase is x
-  here : {x : Phase} → p ≡ x → (r : Verdict) {ms′ : Bytes} → (MarkedBefore h start ms es → Says lim h ms′ (textBeside lim imposed h es start (stageOf x) l) start (stageOf x) l r)
+  here : {x : Phase} → p ≡ x → (r : Verdict) {ms′ : Bytes} → (MarkedBefore lim (stageOf x) h start l ms es → Says lim h ms′ (textBeside lim imposed h es start (stageOf x) l) start (stageOf x) l r)
       → MarksKept h ms ms′ → TextJudged lim h es ms start end p imposed r ms′
   here {x} e r {ms′} f m = record {
     marks = m;
-    is = λ all l′ el′.
+    is = λ l′ el′ all.
+        let there = subst (λ (y : Phase). MarkedBefore lim (stageOf y) h start l ms es) e (subst (λ (y : Bytes). MarkedBefore lim (stageOf p) h start y ms es) (el′ ∙ sym el) all) in
         subst (λ (y : Phase). Says lim h ms′ (textBeside lim imposed h es start (stageOf y) l′) start (stageOf y) l′ r) (sym e)
-        (subst (λ (y : Bytes). Says lim h ms′ (textBeside lim imposed h es start (stageOf x) y) start (stageOf x) y r) (el ∙ sym el′) (f all));
+        (subst (λ (y : Bytes). Says lim h ms′ (textBeside lim imposed h es start (stageOf x) y) start (stageOf x) y r) (el ∙ sym el′) (f there));
   }
 
   pub text-first : p ≡ phase.Empty → (r : Verdict) → FirstJudged imposed l r → TextJudged lim h es ms start end p imposed r ms
@@ -398,7 +417,7 @@ module _ (lim : Limits) (h : Bytes) (es : List Entry) (ms : Bytes) (start end : 
         here e r (λ all. subst (λ (y : Answer (Stage × List Entry)). Says lim h ms y start (body (versionOf f)) l r) (body-columns b) (columns-say lim imposed h ms es start l f r (j .is))) (marks-same h ms)
 
     pub text-record : q ≡ false → (r : Verdict) {ms′ : Bytes} → RecordJudged lim h es ms (versionOf f) start end r ms′ → TextJudged lim h es ms start end p imposed r ms′
-    text-record b r {ms′} j = here e r (λ all. subst (λ (y : Answer (Stage × List Entry)). Says lim h ms′ y start (body (versionOf f)) l r) (body-record b) (j .is all l el)) (j .marks)
+    text-record b r {ms′} j = here e r (λ all. subst (λ (y : Answer (Stage × List Entry)). Says lim h ms′ y start (body (versionOf f)) l r) (body-record b) (j .is l el all)) (j .marks)
 
 pub ruleset texts = (text-first, text-done, text-columns, text-record)
 
@@ -422,20 +441,20 @@ module _ (lim : Limits) (h : Bytes) (es : List Entry) (ms : Bytes) (plain : Bool
 
   pub line-done : d ≡ true → Judged (verdict.Refused ExpectedEof) ms
   unfolding stepOn step
-  line-done e = record { marks = marks-same h ms; is = λ all l el u. rw (stepOn, step, phase-done p ∙ sym a ∙ e) }
+  line-done e = record { marks = marks-same h ms; is = λ l el all u. rw (stepOn, step, phase-done p ∙ sym a ∙ e) }
 
   module _ (e : d ≡ false) {given : CodeLimits} (g : limitsOf given ≡ lim) {l : Bytes} (el : l ≡ part h start end) where
     most : given .line ≡ lim .line
     most = ap (λ (x : Limits). x .line) g
 
     -- the line is the one that the code looked at
-    of-line : (r : Verdict) {ms′ : Bytes} → (MarkedBefore h start ms es → (plain ≡ true → isUtf8 l ≡ true) → Says lim h ms′ (stepOn lim imposed h es start (stageOf p) l) start (stageOf p) l r)
+    of-line : (r : Verdict) {ms′ : Bytes} → (MarkedBefore lim (stageOf p) h start l ms es → (plain ≡ true → isUtf8 l ≡ true) → Says lim h ms′ (stepOn lim imposed h es start (stageOf p) l) start (stageOf p) l r)
         → MarksKept h ms ms′ → Judged r ms′
     of-line r {ms′} f m = record {
       marks = m;
-      is = λ all l′ el′ u.
+      is = λ l′ el′ all u.
           subst (λ (y : Bytes). Says lim h ms′ (stepOn lim imposed h es start (stageOf p) y) start (stageOf p) y r) (el ∙ sym el′)
-          (f all (λ i. subst (λ (y : Bytes). isUtf8 y ≡ true) (el′ ∙ sym el) (u i)));
+          (f (subst (λ (y : Bytes). MarkedBefore lim (stageOf p) h start y ms es) (el′ ∙ sym el) all) (λ i. subst (λ (y : Bytes). isUtf8 y ≡ true) (el′ ∙ sym el) (u i)));
     }
 
     pub line-long : given .line < length l → Judged (verdict.Refused LineTooLong) ms
@@ -455,6 +474,6 @@ module _ (lim : Limits) (h : Bytes) (es : List Entry) (ms : Bytes) (plain : Bool
 
       pub line-text : not q ≡ false → (r : Verdict) {ms′ : Bytes} → TextJudged lim h es ms start end p imposed r ms′ → Judged r ms′
       line-text f r {ms′} j = of-line r (λ all u.
-          subst (λ (y : Answer (Stage × List Entry)). Says lim h ms′ y start (stageOf p) l r) (line-steps (sym (b .is u) ∙ not-false q f)) (j .is all l el)) (j .marks)
+          subst (λ (y : Answer (Stage × List Entry)). Says lim h ms′ y start (stageOf p) l r) (line-steps (sym (b .is u) ∙ not-false q f)) (j .is l el all)) (j .marks)
 
 pub ruleset all-lines = (line-done, line-long, line-bytes, line-text)

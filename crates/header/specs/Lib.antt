@@ -1,5 +1,6 @@
 pub mod Steps
 pub mod Verdicts
+pub mod Ahead
 pub mod Parsers
 pub mod Parts
 pub mod Fields

@@ -22,6 +22,7 @@ use Rattle.entries.specs.Tables.{room, stored}
 use Rattle.ids.specs.Marks.{Marked}
 use Rattle.header.specs.Steps.{Stage, opening, body, ending, stepOn, Spot, Told, fits, pointOf, readOn, tableOn}
 use Rattle.header.specs.Verdicts.{stageOf, Says, MarksKept, MarkedBefore}
+use Rattle.header.specs.Ahead.{AheadMarked}
 use Rattle.header.specs.declared.verdict.Verdict.{Verdict}
 use Rattle.header.specs.declared.parser.Outcome.{Outcome}
 use Rattle.header.specs.declared.parser.Outcome.the-variants as outcome
@@ -118,7 +119,7 @@ pub record Begins (form : Form) (plain : Bool) (h t : List ℕ) (s : Spot) : Typ
 -- the same, with the entries marked
 pub record BeginsMarked (form : Form) (plain : Bool) (h ms t : List ℕ) (s : Spot) : Type 0 where
   pub begins : Begins form plain h t s
-  pub marked : MarkedBefore h (s .at) ms (pointOf form t s .entries)
+  pub marked : AheadMarked (limitsBy form) (s .stage) h (s .at) ms (pointOf form t s .entries)
 
 -- One line
 
@@ -154,6 +155,6 @@ pub record KeepsLine (form : Form) (p : Parser) (h : Bytes) (end next : ℕ) (v 
 -- plain: the rest of the header is known to be ASCII
 pub record Parses (form : Form) (imposed : Option Version) (plain : Bool) (p : Parser) (h ms t : List ℕ) (r : Partial) (ms′ t′ : List ℕ) : Type 0 where
   pub marks : MarksKept h ms ms′
-  pub is : MarkedBefore h (p .at) ms (pointOf form t (spotIn p) .entries) → (piece : Bytes) (ps : List Bytes) → pieces (drop (p .at) h) ≡ piece ∷ ps
+  pub is : (piece : Bytes) (ps : List Bytes) → pieces (drop (p .at) h) ≡ piece ∷ ps → MarkedBefore (limitsBy form) (stageOf (p .phase)) h (p .at) (lineOf piece) ms (pointOf form t (spotIn p) .entries)
       → (plain ≡ true → isAscii (drop (p .at) h) ≡ true)
       → Stepped form h ms′ p (p .at + length piece) (stepOn (limitsBy form) imposed h (pointOf form t (spotIn p) .entries) (p .at) (stageOf (p .phase)) (lineOf piece)) t r t′

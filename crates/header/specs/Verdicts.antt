@@ -22,9 +22,12 @@ use Rattle.records.specs.Keys.{kindBy}
 use Rattle.records.specs.Fields.{textIn}
 use Rattle.records.specs.declared.file_format.FileFormat.{FileFormat}
 use Rattle.records.specs.declared.record.MapRecord.{MapRecord}
+use Rattle.records.specs.declared.record.RecordRead.{RecordRead}
+use Rattle.records.specs.Records.{ParsesRecord}
 use Rattle.entries.specs.Values.{entryOf}
 use Rattle.ids.specs.Clashes.{clashNumber, clashIn, prefixOf, Prefixes}
-use Rattle.ids.specs.Marks.{Marked, MarkedFrom}
+use Rattle.ids.specs.Ahead.{Named}
+use Rattle.ids.specs.Marks.{Marked, MarkedFor}
 use Rattle.header.specs.Steps.{Stage, opening, body, ending, freshState, heldAgainst, stepOn}
 use Rattle.header.specs.declared.file_format_option.FileFormatOption.{FileFormatOption}
 use Rattle.header.specs.declared.file_format_option.FileFormatOption.the-variants as option
@@ -68,16 +71,32 @@ Says lim h ms a start g l (verdict.Entry e) = (a ≡ ok (g, entryOf e ∷ [])) �
 Says lim h ms a start g l (verdict.Columns f n) = Ended a start l f n
 Says lim h ms a start g l (verdict.Refused x) = a ≡ refuse (number x)
 
+-- What is marked
+
+-- a line that is no column line, in the body
+abbrev pub recordBeside : Limits → Bytes → List Entry → Version → ℕ → Bytes → Answer (Stage × List Entry)
+recordBeside lim h es v start l = readRecord v l >>= enter (lim .counted) v [] start l >>= heldAgainst h es
+
+-- the version by which records from this stage on are read
+abbrev pub IsInBody : Stage → Version → Type 0
+IsInBody opening v = Unit {0}
+IsInBody (body w) v = w ≡ v
+IsInBody (ending w n) v = ⊥
+
+-- the names of the record that stands on the line l, at start, were noted
+pub record LineNamed (lim : Limits) (g : Stage) (h : Bytes) (ns : List ℕ) (start : ℕ) (l : Bytes) : Type 0 where
+  pub is : (v : Version) → IsInBody g v → (e : Entry) → recordBeside lim h [] v start l ≡ ok (body v, e ∷ []) → Named h ns e
+
+-- the entries are marked that it may clash with
+pub record MarkedBefore (lim : Limits) (g : Stage) (h : Bytes) (start : ℕ) (l ms : Bytes) (es : List Entry) : Type 0 where
+  pub notes : List ℕ
+  pub named : LineNamed lim g h notes start l
+  pub all : All (MarkedFor h notes ms) es
+
 -- what was marked stays so
 pub record MarksKept (h ms ms′ : Bytes) : Type 0 where
   pub long : length ms′ ≡ length ms
-  pub all : (from : ℕ) (es : List Entry) → All (MarkedFrom h from ms) es → All (MarkedFrom h from ms′) es
-
--- the entries are marked that a line which begins at `start` may clash with
-pub record MarkedBefore (h : Bytes) (start : ℕ) (ms : Bytes) (es : List Entry) : Type 0 where
-  pub from : ℕ
-  pub behind : from ≤ start
-  pub all : All (MarkedFrom h from ms) es
+  pub all : (ns : List ℕ) (es : List Entry) → All (MarkedFor h ns ms) es → All (MarkedFor h ns ms′) es
 
 -- The parts of a verdict
 
@@ -97,11 +116,7 @@ besideEntries h es prefix g e = judged (clashNumber (clashIn h es prefix e)) (g,
 
 pub record IdJudged (lim : Limits) (h : Bytes) (es : List Entry) (ms prefix : Bytes) (e : Entry) (r : Verdict) (ms′ : Bytes) : Type 0 where
   pub marks : MarksKept h ms ms′
-  pub is : 2 ≤ e .kind → Prefixes prefix (lineIn h e) → MarkedBefore h (e .start) ms es → (start : ℕ) (g : Stage) (l : Bytes) → Says lim h ms′ (besideEntries h es prefix g e) start g l r
-
--- a line that is no column line, in the body
-abbrev pub recordBeside : Limits → Bytes → List Entry → Version → ℕ → Bytes → Answer (Stage × List Entry)
-recordBeside lim h es v start l = readRecord v l >>= enter (lim .counted) v [] start l >>= heldAgainst h es
+  pub is : 2 ≤ e .kind → Prefixes prefix (lineIn h e) → (ns : List ℕ) → Named h ns e → All (MarkedFor h ns ms) es → (start : ℕ) (g : Stage) (l : Bytes) → Says lim h ms′ (besideEntries h es prefix g e) start g l r
 
 -- the entry of a map that was read
 abbrev pub madeOf : Limits → ℕ → Bytes → MapRecord → Entry
@@ -129,12 +144,13 @@ abbrev pub MetSays : Limits → Version → ℕ → Bytes → Met → Type 0
 MetSays lim v start l (met.New e at) = NewRecord lim v start l (entryOf e) at
 MetSays lim v start l (met.Refused x) = (h : Bytes) (es : List Entry) → recordBeside lim h es v start l ≡ refuse (number x)
 
-pub record MeetsRecord (lim : Limits) (v : Version) (start : ℕ) (l : Bytes) (r : Met) : Type 0 where
-  pub is : MetSays lim v start l r
+-- x is what was read of the line
+pub record MeetsRead (lim : Limits) (start : ℕ) (l : Bytes) (x : RecordRead) (r : Met) : Type 0 where
+  pub is : (v : Version) → ParsesRecord v l x → MetSays lim v start l r
 
 pub record RecordJudged (lim : Limits) (h : Bytes) (es : List Entry) (ms : Bytes) (v : Version) (start end : ℕ) (r : Verdict) (ms′ : Bytes) : Type 0 where
   pub marks : MarksKept h ms ms′
-  pub is : MarkedBefore h start ms es → (l : Bytes) → l ≡ part h start end → Says lim h ms′ (recordBeside lim h es v start l) start (body v) l r
+  pub is : (l : Bytes) → l ≡ part h start end → MarkedBefore lim (body v) h start l ms es → Says lim h ms′ (recordBeside lim h es v start l) start (body v) l r
 
 -- the column line
 abbrev pub ColumnsSay : Bytes → FileFormat → Verdict → Type 0
@@ -153,7 +169,7 @@ textBeside lim imposed h es start g l = stepText (lim .counted) imposed start (f
 pub record TextJudged (lim : Limits) (h : Bytes) (es : List Entry) (ms : Bytes) (start end : ℕ) (p : Phase) (imposed : Option Version) (r : Verdict) (ms′ : Bytes) :
     Type 0 where
   pub marks : MarksKept h ms ms′
-  pub is : MarkedBefore h start ms es → (l : Bytes) → l ≡ part h start end → Says lim h ms′ (textBeside lim imposed h es start (stageOf p) l) start (stageOf p) l r
+  pub is : (l : Bytes) → l ≡ part h start end → MarkedBefore lim (stageOf p) h start l ms es → Says lim h ms′ (textBeside lim imposed h es start (stageOf p) l) start (stageOf p) l r
 
 -- whether the line is UTF-8, where it is so in an ASCII header
 pub record Utf8Told (plain : Bool) (l : Bytes) (r : Bool) : Type 0 where
@@ -163,5 +179,5 @@ pub record Utf8Told (plain : Bool) (l : Bytes) (r : Bool) : Type 0 where
 pub record LineJudged (lim : Limits) (h : Bytes) (es : List Entry) (ms : Bytes) (plain : Bool) (start end : ℕ) (p : Phase) (imposed : Option Version)
     (r : Verdict) (ms′ : Bytes) : Type 0 where
   pub marks : MarksKept h ms ms′
-  pub is : MarkedBefore h start ms es → (l : Bytes) → l ≡ part h start end → (plain ≡ true → isUtf8 l ≡ true)
+  pub is : (l : Bytes) → l ≡ part h start end → MarkedBefore lim (stageOf p) h start l ms es → (plain ≡ true → isUtf8 l ≡ true)
       → Says lim h ms′ (stepOn lim imposed h es start (stageOf p) l) start (stageOf p) l r

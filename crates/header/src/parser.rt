@@ -1,4 +1,5 @@
 // The line machine, and the reading of a whole header.
+use crate::ahead;
 use crate::file_format_option::FileFormatOption;
 use crate::phase::Phase;
 use crate::verdict;
@@ -11,7 +12,6 @@ use entries::form::Form;
 use entries::formed;
 use entries::kind;
 use entries::table;
-use ids::scan;
 use lines::line;
 use records::file_format::FileFormat;
 use records::refusal::Refusal;
@@ -306,7 +306,8 @@ fn read_marked(
 {
     let form = options.form;
     let kept = table::kept(table, form, from.count);
-    scan::mark_ahead(header, from.at, kept, form, marks);
+    let phase = from.phase;
+    ahead::mark_ahead(header, from.at, phase, kept, form, marks);
     read_lines(header, end, from, options, table, marks)
 }
 
@@ -435,7 +436,7 @@ fn read_parts(
 {
     let mut parser = from;
     let mut reach = from.at;
-    while 0x18_0000 <= end - reach {
+    while 0x12_0000 <= end - reach {
         let ahead = reach + 0x10_0000;
         let cut = line::last_end(&header[..ahead], reach);
         if cut == reach {
@@ -464,7 +465,7 @@ fn is_parted(header: &[u8], end: usize, from: Parser, form: Form, table: &[u64])
     if end < at {
         return false;
     }
-    if end - at < 0x18_0000 {
+    if end - at < 0x12_0000 {
         return false;
     }
     formed::all_formed(&header[..at], table, form, from.count)

@@ -20,7 +20,7 @@ ghost use Rattle.rules.specs.Version.{inForce};
 ghost use Rattle.records.specs.Formats.{versionOf};
 ghost use Rattle.entries.specs.Values.{entryOf, limitsBy};
 ghost use Rattle.entries.specs.Tables.{entriesIn};
-ghost use Rattle.header.specs.Verdicts.{imposedOf, IdJudged, FirstJudged, madeOf, MeetsRecord, RecordJudged, ColumnsJudged, TextJudged, Utf8Told, LineJudged};
+ghost use Rattle.header.specs.Verdicts.{imposedOf, IdJudged, FirstJudged, madeOf, MeetsRead, RecordJudged, ColumnsJudged, TextJudged, Utf8Told, LineJudged};
 
 // Where a line stands, and where it ends, without its ending.
 pub struct Place {
@@ -102,7 +102,7 @@ fn judge_id(
 }
 
 // What a line is by itself: a record, with its entry and where its value stands; or a refusal.
-enum Met {
+pub enum Met {
     New(Entry, usize),
     Refused(Refusal),
 }
@@ -128,10 +128,11 @@ fn map_entry(l: &[u8], form: Form, start: usize, map: MapRecord) -> Entry
     }
 }
 
-fn meet_record(l: &[u8], form: Form, start: usize, version: FileFormat) -> Met
-    ensures { λ r. ⌜ MeetsRecord (limitsBy form) (versionOf version) start (now (l .entry)) r ⌝ }
+// What was read of the line l, which stands at `start`, as an entry.
+pub fn meet_read(l: &[u8], form: Form, start: usize, read: RecordRead) -> Met
+    ensures { λ r. ⌜ MeetsRead (limitsBy form) start (now (l .entry)) read r ⌝ }
 {
-    match record::read_record(l, version) {
+    match read {
         RecordRead::FileFormat(_) => Met::Refused(Refusal::UnexpectedFileFormat),
         RecordRead::Map(map) => Met::New(map_entry(l, form, start, map), map.value),
         RecordRead::Text(value) => {
@@ -156,7 +157,7 @@ fn judge_record(
         (now (marks .exit)) ⌝ }
 {
     let l = bytes::part(h, at.start, at.end);
-    match meet_record(l, form, at.start, version) {
+    match meet_read(l, form, at.start, record::read_record(l, version)) {
         Met::New(new, value) => judge_id(h, kept, form, marks, bytes::part(l, 0, value), new),
         Met::Refused(x) => Verdict::Refused(x),
     }

@@ -2,15 +2,14 @@
 use Prim.Native.Nat.{ℕ, _+_, _-_, _*_, _%_, _^_, _≤_, _<_}
 use native.Mathlib.Omega.{arith}
 use mathlib.Core.Path.{_≡_, refl, sym, ap, subst, _∙_}
-use mathlib.Core.Bool.{Bool, true, false, not}
-use mathlib.Core.List.{List, []}
+use mathlib.Core.Bool.{Bool, false, not}
+use mathlib.Core.List.{List}
 use lib.Dec.{eqb, leb, ltb}
 use lib.ListN.{length, getD, set, replicate, length-set, length-replicate, getD-replicate}
 use lib.Seq.{getD-set-same, getD-set-other}
 use borrow.Author.Tests.{eqb-true, eqb-false, ltb-true, ltb-false, lt-ltb, le-ltb, lt-leb}
 use Rattle.values.specs.Bytes.{Bytes}
 use Rattle.values.specs.Hash.{wideBasis, wideStep, wideFrom}
-use Rattle.values.specs.Marks.{isSet, isFew, isMet}
 use Rattle.values.proofs.Tests.{pass, fail, test}
 use Rattle.rules.specs.Entry.{Entry}
 use Rattle.entries.specs.declared.entry.Entry.{Entry as CodeEntry}
@@ -24,15 +23,11 @@ use Rattle.house.specs.Links.{slotIn}
 use Rattle.house.specs.Chains.{linkAt, isWritten, writtenAt, nextAt, slotAt, FirstFrom, Nexts, LinkedFrom, Headless, Relinks, LinksEntry, LinksRange, LinksBelow, LinksAll}
 use Rattle.house.proofs.Linkings.{slot-some, slot-typed, slot-other}
 
--- what answers the needs of `slot_in`: without marks any key is met
-
-any-met : (x : ℕ) → isMet [] x ≡ true
-unfolding isMet isSet isFew
-any-met x = refl
+-- what answers the needs of `slot_in`
 
 pub slot-any : (h : Bytes) (n : ℕ) (e : Entry) {q : Bool} → q ≡ isOtherRecord e → not q ≡ false → 0 < n → {p : Bytes} → p ≡ prefixIn h e → {x : ℕ} → x ≡ wideFrom wideBasis p → {y : ℕ} → y ≡ wideStep x 0
-    → y % n ≡ slotIn h [] n e
-slot-any h n e o c l {p} i {x} a d = slot-other h [] n e o c i (slot-some [] n p (λ z. omega arith) a (sym (any-met x)) refl d)
+    → y % n ≡ slotIn h n e
+slot-any h n e o c l {p} i a d = slot-other h n e o c i (slot-some n p (λ z. omega arith) a d)
 
 pub ruleset keyed = (slot-typed, slot-any)
 
@@ -168,9 +163,9 @@ module _ (form : Form) (h : Bytes) (slots from k : ℕ) (heads t : List ℕ) whe
     );
   }
 
-  module _ {e : CodeEntry} (ee : entryOf e ≡ entryIn form t k) {slot : ℕ} (z : slot ≡ slotIn h [] slots (entryOf e)) where
+  module _ {e : CodeEntry} (ee : entryOf e ≡ entryIn form t k) {slot : ℕ} (z : slot ≡ slotIn h slots (entryOf e)) where
     slot-here : (t₀ : List ℕ) → bare t ≡ bare t₀ → slot ≡ slotAt form h t₀ slots k
-    slot-here t₀ b = z ∙ ap (slotIn h [] slots) (ee ∙ same-entry form t t₀ b k)
+    slot-here t₀ b = z ∙ ap (slotIn h slots) (ee ∙ same-entry form t t₀ b k)
 
     pub entry-before : slot < from → LinksEntry form h slots from k heads t heads t
     entry-before l = entry-skipped (λ t₀ b c d. omega (arith, slot-here t₀ b))
@@ -325,7 +320,7 @@ module _ (form : Form) (h : Bytes) where
       let b = sym (r .keeps .same) in
       record {
         same = r .keeps .same ∙ g .same;
-        links = nexts-as (λ m. ap (slotIn h [] slots) (same-entry form t t′ b m)) (same-room form t t′ b) (nexts-join (g .links) (r .keeps .kept) (r .links));
+        links = nexts-as (λ m. ap (slotIn h slots) (same-entry form t t′ b m)) (same-room form t t′ b) (nexts-join (g .links) (r .keeps .kept) (r .links));
         fresh = λ m f. r .keeps .fresh m (g .fresh m f);
       }
 

@@ -1,19 +1,16 @@
 -- The whole form, and what becomes of it. Assumes nothing.
-use Prim.Native.Nat.{ℕ, zero, suc, _+_, _≤_, _<_, _^_, min}
+use Prim.Native.Nat.{ℕ, zero, suc, _+_, _≤_, _<_, _^_}
 use native.Mathlib.Omega.{arith}
 use mathlib.Core.Path.{_≡_, refl, sym, ap, _∙_, subst}
-use mathlib.Core.Bool.{Bool, true, false, not, true≢false, false≢true}
+use mathlib.Core.Bool.{Bool, true, false, false≢true}
 use mathlib.Core.List.{List, [], _∷_}
 use mathlib.Core.Option.{none, orElse}
-use lib.Dec.{eqb, ltb, leb}
-use lib.ListN.{length, getD, take, drop}
-use lib.Seq.{sets}
-use borrow.Author.Tests.{eq-eqb, ne-eqb, eqb-true, ltb-true, le-leb, lt-leb, leb-true, leb-false}
+use lib.Dec.{leb}
+use lib.ListN.{length, take, drop}
+use borrow.Author.Tests.{eq-eqb, ne-eqb, le-leb, lt-leb, leb-true, leb-false}
 use Rattle.values.specs.Bytes.{Bytes}
-use Rattle.values.specs.declared.sink.Sink.{Sink}
-use Rattle.values.specs.Written.{last, onward, isAt, differing, sooner}
-use Rattle.values.proofs.Lists.{here as byte-here, drop-past}
-use Rattle.values.proofs.Tests.{pass, fail, test, and-l, and-r, not-true, not-false, never}
+use Rattle.values.specs.Written.{onward}
+use Rattle.values.proofs.Tests.{pass, fail, test}
 use Rattle.rules.specs.Sizes.{Limits}
 use Rattle.rules.specs.Lines.{writeLines}
 use Rattle.rules.specs.Version.{Version}
@@ -25,7 +22,6 @@ use Rattle.rules.specs.House.{writeRecord, tooLong}
 use Rattle.entries.specs.declared.entry.Entry.{Entry as CodeEntry}
 use Rattle.entries.specs.Values.{entryOf}
 use Rattle.entries.specs.Tables.{room, entriesIn, entryIn}
-use Rattle.entries.specs.Notes.{bare}
 use Rattle.entries.proofs.Stored.{entries-here, entries-past}
 use Rattle.house.specs.declared.progress.Progress.{Progress}
 use Rattle.house.specs.declared.form.FormOutcome.{FormOutcome}
@@ -33,7 +29,7 @@ use Rattle.house.specs.declared.form.FormOutcome.the-variants.{Whole, To
 use Rattle.house.specs.Writes.{longIn, WroteLines}
 use Rattle.house.specs.Keys.{AllListed, AreFormed, PutsKeys, PutsOthers}
 use Rattle.house.proofs.Picks.{listed-on}
-use Rattle.house.specs.Forms.{columnLine, recordLines, formLines, begun, PutsRecords, PutsForm, isWhole, measuredAs, IsOwn, outcomeOf, fittedAs, linedAs, writtenOf, WritesForm, ComparesForm}
+use Rattle.house.specs.Forms.{columnLine, recordLines, formLines, begun, PutsRecords, PutsForm, measuredAs, outcomeOf, fittedAs, linedAs, writtenOf, ComparesForm}
 use Rattle.house.proofs.Writes.{lines-count, then-lines}
 use Rattle.entries.specs.Values.{limitsOf, limitsBy}
 use Rattle.entries.specs.declared.limits.Limits.{Limits as CodeLimits}
@@ -69,14 +65,8 @@ pub ruleset columns = (column-start, column-end, column-here, column-later)
 
 -- A table that came back from a call as it was
 
-pub still-bare : {t t′ : List ℕ} → t′ ≡ t → bare t ≡ t → bare t′ ≡ t′
-still-bare e b = ap bare e ∙ b ∙ sym e
-
 pub still-entries : (form : Form) {t t′ : List ℕ} → t′ ≡ t → entriesIn form t′ ≡ entriesIn form t
 still-entries form e = ap (entriesIn form) e
-
-pub still-same : {t t′ t″ : List ℕ} → t′ ≡ t → t″ ≡ t′ → t″ ≡ t
-still-same a b = b ∙ a
 
 -- what answers the needs of `put_records` and `put_form`
 module _ {v : Version} {h : Bytes} {es : List Entry} {given old : Bytes} where
@@ -124,12 +114,11 @@ module _ (lim : Limits) (small : lim .header < 2 ^ 24) {v : Version} {h : Bytes}
     | fail q ↦ rw (measuredAs, q, outcomeOf, lt-leb size (lim .header) (omega (arith, at-size, leb-false (m .next .at) (lim .header) q)))
   ]
 
--- what is written of a form that does not come whole
-not-whole : (o : FormOutcome) → isWhole o ≡ false → (ls : List Bytes) → writtenOf o ls ≡ []
-not-whole (Whole n) e ls = absurd (true≢false e)
-not-whole TooLong e ls = refl
-not-whole (LineTooLong l s) e ls = refl
-not-whole NoRoom e ls = refl
+abbrev pub isWhole : FormOutcome → Bool
+isWhole (Whole n) = true
+isWhole TooLong = false
+isWhole (LineTooLong l s) = false
+isWhole NoRoom = false
 
 pub is-whole : (o : FormOutcome) → isWhole o ≡ true → (ls : List Bytes) → writtenOf o ls ≡ writeLines ls
 is-whole (Whole n) e ls = refl
@@ -145,65 +134,6 @@ module _ (form : Form) {limits : CodeLimits} (g : limitsOf limits ≡ limitsBy f
 
   outcome-is : (room : ℕ) {o : FormOutcome} → o ≡ measuredAs (limitsOf limits) room m → AllListed false v h es → o ≡ outcomeOf (limitsBy form) room (formLines v h es)
   outcome-is room e a = e ∙ measured-is (limitsOf limits) small p (k .is a) room ∙ ap (λ (x : Limits). outcomeOf x room (formLines v h es)) g
-
-  module _ {out : Bytes} {o : FormOutcome} (e : o ≡ measuredAs (limitsOf limits) (length out) m) {q : Bool} (w : q ≡ isWhole o) where
-    pub form-refused : not q ≡ true → WritesForm (limitsBy form) v h es out o out
-    form-refused n = record { is = outcome-is (length out) e; output = λ a. rw (not-whole o (sym w ∙ not-true q n) (formLines v h es)) }
-
-    pub form-whole : not q ≡ false → {es′ : List Entry} {given′ : Bytes} {m′ : Progress} {new : Bytes} → PutsForm (limits .line) f v h es′ given′ out m′ new → es′ ≡ es → WritesForm (limitsBy form) v h es out o new
-    form-whole n p′ i = record { is = outcome-is (length out) e; output = λ a. (rw i at p′) .is (k .is a) .text .output ∙ rw (is-whole o (sym w ∙ not-false q n) (formLines v h es)) }
-
--- what answers the needs of `is_own`
-module _ (end : Sink) (size room : ℕ) where
-  pub own-not : IsOwn end size room false
-  own-not = record { is = λ e. never cc }
-
-  pub own-is : end .at ≡ size → size ≤ end .differs → IsOwn end size room (leb size room)
-  own-is a b = record { is = λ e. (a, b, leb-true size room e) }
-
-pub ruleset owns = (own-not, own-is)
-
--- a text that does not differ from the rest of the header, and is as long, is this rest
-own-text : (h : Bytes) (at : ℕ) (text : Bytes) → at + length text ≡ length h → length h ≤ last → length h ≤ sooner last (differing h at text) → text ≡ drop at h
-unfolding differing onward
-own-text h at [] e l d = sym (drop-past h at (omega arith))
-own-text h at (b ∷ text) e l d = elim (test (isAt h at b)) [
-  | pass q ↦
-      let i = ltb-true at (length h) (and-l (ltb at (length h)) (eqb (getD h at 0) b) q) in
-      let f = eqb-true (getD h at 0) b (and-r (ltb at (length h)) (eqb (getD h at 0) b) q) in
-      let n : min (at + 1) last ≡ at + 1 = omega arith in
-      let c : length h ≤ sooner last (differing h (at + 1) text) = rw (differing, q, n) at d in
-      rw (byte-here h at i, f) (ap (b ∷_) (own-text h (at + 1) text (omega arith) l c))
-  | fail q ↦ let c : length h ≤ min last at = rw (differing, q) at d in absurd (omega arith)
-]
-
-whole-fits : (lim : Limits) (room : ℕ) (m : Progress) → isWhole (measuredAs lim room m) ≡ true → m .next .at ≤ lim .header
-unfolding measuredAs
-whole-fits lim room m w = elim (test (leb (m .next .at) (lim .header))) [
-  | pass q ↦ leb-true (m .next .at) (lim .header) q
-  | fail q ↦ let z : false ≡ true = rw (measuredAs, q) at w in never cc
-]
-
--- a header that is its own form was copied
-pub form-own : (form : Form) {limits : CodeLimits} (g : limitsOf limits ≡ limitsBy form) {v : Version} {h : Bytes} {es : List Entry} {none-out none-left : Bytes} {m : Progress} {f : Bool}
-    (p : PutsForm (limits .line) f v h es h none-out m none-left) (k : AreFormed v h es f) {out : Bytes} {o : FormOutcome} (e : o ≡ measuredAs (limitsOf limits) (length out) m) {q : Bool} (w : q ≡ isWhole o) (n : not q ≡ false)
-    {own : Bool} (x : IsOwn (m .next) (length h) (length out) own) (c : own ≡ true) {new : Bytes} → new ≡ sets out 0 h → WritesForm (limitsBy form) v h es out o new
-form-own form {limits} g {v} {h} {es} {m = m} p k {out} {o} e {q} w n x c d = record {
-  is = outcome-is form g p k (length out) e;
-  output = λ a.
-      let y = x .is c in
-      let t = p .is (k .is a) .text in
-      let l = whole-fits (limitsOf limits) (length out) m (sym (ap isWhole e) ∙ sym w ∙ not-false q n) in
-      let b : limits .header < 2 ^ 24 = subst (λ (z : Limits). z .header < 2 ^ 24) (sym g) (limits-small form) in
-      let z = whole-size (limitsOf limits) b p (k .is a) l in
-      let r : writeLines (formLines v h es) ≡ h = own-text h 0 (writeLines (formLines v h es)) (omega (arith, z, y .0)) (omega (arith, y .0)) (rw (← t .differs) (y .1)) in
-      d ∙ ap (sets out 0) (sym (is-whole o (sym w ∙ not-false q n) (formLines v h es) ∙ r));
-}
-
-pub own-fits : {end : Sink} {size room : ℕ} {own : Bool} → IsOwn end size room own → own ≡ true → 0 + size ≤ room
-own-fits x c = let y = x .is c .2 in omega arith
-
-pub ruleset writes = (form-refused, form-own, still-bare)
 
 -- what answers the needs of `compare_form`
 pub form-compared : (form : Form) {limits : CodeLimits} → limitsOf limits ≡ limitsBy form → {v : Version} {h : Bytes} {es : List Entry} {none-out none-left : Bytes} {m : Progress}

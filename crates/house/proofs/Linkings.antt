@@ -11,7 +11,6 @@ use lib.Seq.{take-add, getD-set-same, getD-set-other}
 use borrow.Author.Tests.{eqb-true, eqb-false, ltb-true, ltb-false}
 use Rattle.values.specs.Bytes.{Bytes}
 use Rattle.values.specs.Hash.{wideBasis, wideStep, wideFrom}
-use Rattle.values.specs.Marks.{isMet}
 use Rattle.values.proofs.Tests.{pass, fail, test, or-l, or-r, not-true, not-false}
 use Rattle.rules.specs.Version.{Version}
 use Rattle.rules.specs.Entry.{Entry}
@@ -26,51 +25,46 @@ use Rattle.house.proofs.Picks.{picked-no}
 use Rattle.house.proofs.Looks.{listed-nth, own-key}
 
 -- what answers the needs of `slot_of`, `slot_in` and `number_at`
-pub slot-none : (twice : List ℕ) (n : ℕ) (p : Bytes) → n ≡ 0 → 0 ≡ slotOf twice n p
+pub slot-none : (n : ℕ) (p : Bytes) → n ≡ 0 → 0 ≡ slotOf n p
 unfolding slotOf
-slot-none twice zero p e = refl
-slot-none twice (suc n) p e = absurd (omega arith)
+slot-none zero p e = refl
+slot-none (suc n) p e = absurd (omega arith)
 
-pub slot-unmet : (twice : List ℕ) (n : ℕ) (p : Bytes) → (n ≡ 0 → ⊥) → {x : ℕ} → x ≡ wideFrom wideBasis p → {q : Bool} → q ≡ isMet twice x → not q ≡ true → n ≡ slotOf twice n p
+pub slot-some : (n : ℕ) (p : Bytes) → (n ≡ 0 → ⊥) → {x : ℕ} → x ≡ wideFrom wideBasis p → {y : ℕ} → y ≡ wideStep x 0 → y % n ≡ slotOf n p
 unfolding slotOf
-slot-unmet twice zero p f a b c = absurd (f refl)
-slot-unmet twice (suc n) p f a {q} b c = rw (slotOf, ← a, ← b, not-true q c)
+slot-some zero p f a d = absurd (f refl)
+slot-some (suc n) p f a d = rw (d, a)
 
-pub slot-some : (twice : List ℕ) (n : ℕ) (p : Bytes) → (n ≡ 0 → ⊥) → {x : ℕ} → x ≡ wideFrom wideBasis p → {q : Bool} → q ≡ isMet twice x → not q ≡ false → {y : ℕ} → y ≡ wideStep x 0 → y % n ≡ slotOf twice n p
-unfolding slotOf
-slot-some twice zero p f a b c d = absurd (f refl)
-slot-some twice (suc n) p f a {q} b c d = rw (slotOf, ← a, ← b, not-false q c, d) (rw a)
-
-module _ (h : Bytes) (twice : List ℕ) (n : ℕ) (e : Entry) {q : Bool} (o : q ≡ isOtherRecord e) where
-  pub slot-typed : not q ≡ true → n ≡ slotIn h twice n e
+module _ (h : Bytes) (n : ℕ) (e : Entry) {q : Bool} (o : q ≡ isOtherRecord e) where
+  pub slot-typed : not q ≡ true → n ≡ slotIn h n e
   unfolding slotIn
   slot-typed c = rw (slotIn, ← o, not-true q c)
 
-  pub slot-other : not q ≡ false → {p : Bytes} → p ≡ prefixIn h e → {s : ℕ} → s ≡ slotOf twice n p → s ≡ slotIn h twice n e
+  pub slot-other : not q ≡ false → {p : Bytes} → p ≡ prefixIn h e → {s : ℕ} → s ≡ slotOf n p → s ≡ slotIn h n e
   unfolding slotIn
   slot-other c i z = rw (slotIn, ← o, not-false q c, ← i, z)
 
 pub number-past : (ns : List ℕ) (at : ℕ) → length ns ≤ at → 0 ≡ getD ns at 0
 number-past ns at l = sym (List·getD-eq-default ns 0 l)
 
-pub ruleset slots = (slot-none, slot-unmet, slot-some, slot-typed, slot-other, number-past)
+pub ruleset slots = (slot-none, slot-some, slot-typed, slot-other, number-past)
 
 -- what answers the needs of `take_place`
-module _ (h : Bytes) (twice : List ℕ) (e : Entry) (k : ℕ) (heads : List ℕ) where
-  place-none : {slot : ℕ} → slot ≡ slotIn h twice (length heads) e → length heads ≤ slot → {r : ℕ} → TakesPlace h twice e k heads r heads
+module _ (h : Bytes) (e : Entry) (k : ℕ) (heads : List ℕ) where
+  place-none : {slot : ℕ} → slot ≡ slotIn h (length heads) e → length heads ≤ slot → {r : ℕ} → TakesPlace h e k heads r heads
   place-none z l = record { size = refl; link = λ f. absurd (omega (arith, z)); kept = λ s m a b. a; own = λ f. absurd (omega (arith, z)) }
 
   module _ {q : Bool} (o : q ≡ isOtherRecord e) where
-    pub place-typed : not q ≡ true → {r : ℕ} → TakesPlace h twice e k heads r heads
-    place-typed n = place-none (slot-typed h twice (length heads) e o n) (omega arith)
+    pub place-typed : not q ≡ true → {r : ℕ} → TakesPlace h e k heads r heads
+    place-typed n = place-none (slot-typed h (length heads) e o n) (omega arith)
 
-    module _ (n : not q ≡ false) {p : Bytes} (i : p ≡ prefixIn h e) {slot : ℕ} (z : slot ≡ slotOf twice (length heads) p) where
-      pub place-past : length heads ≤ slot → {r : ℕ} → TakesPlace h twice e k heads r heads
-      place-past l = place-none (slot-other h twice (length heads) e o n i z) l
+    module _ (n : not q ≡ false) {p : Bytes} (i : p ≡ prefixIn h e) {slot : ℕ} (z : slot ≡ slotOf (length heads) p) where
+      pub place-past : length heads ≤ slot → {r : ℕ} → TakesPlace h e k heads r heads
+      place-past l = place-none (slot-other h (length heads) e o n i z) l
 
-      pub place-taken : slot < length heads → {x : ℕ} → x ≤ k → TakesPlace h twice e k heads (getD heads slot 0) (set heads slot x)
+      pub place-taken : slot < length heads → {x : ℕ} → x ≤ k → TakesPlace h e k heads (getD heads slot 0) (set heads slot x)
       place-taken l {x} c =
-          let y = slot-other h twice (length heads) e o n i z in
+          let y = slot-other h (length heads) e o n i z in
           record {
             size = length-set heads slot x;
             link = λ f. rw (← y) (omega arith);
@@ -120,28 +114,28 @@ pub ruleset cells = (cell-own, cell-none, cell-shared, lower-none, lower-small, 
 
 -- The loop that links: the entries from number k on
 
-pub record Linking (form : Form) (h : Bytes) (t twice heads₀ links₀ heads links : List ℕ) (k : ℕ) : Type 0 where
+pub record Linking (form : Form) (h : Bytes) (t heads₀ links₀ heads links : List ℕ) (k : ℕ) : Type 0 where
   pub heads-size : length heads ≡ length heads₀
   pub links-size : length links ≡ length links₀
-  pub is : Links form h t twice heads links k
+  pub is : Links form h t heads links k
 
-pub link-start : (form : Form) (h : Bytes) (t twice heads links : List ℕ) {k : ℕ} → k ≡ room form t → Linking form h t twice heads links heads links k
-link-start form h t twice heads links e = record {
+pub link-start : (form : Form) (h : Bytes) (t heads links : List ℕ) {k : ℕ} → k ≡ room form t → Linking form h t heads links heads links k
+link-start form h t heads links e = record {
   heads-size = refl;
   links-size = refl;
   is = record { first = λ m a b o. absurd (omega arith); next = λ j m a b c o s. absurd (omega arith) };
 }
 
-module _ {form : Form} {h : Bytes} {t twice heads₀ links₀ heads links : List ℕ} {k : ℕ} (g : Linking form h t twice heads₀ links₀ heads links k) where
-  pub link-end : k ≤ 0 → Links form h t twice heads links 0
-  link-end l = let z : k ≡ 0 = omega arith in subst (Links form h t twice heads links) z (g .is)
+module _ {form : Form} {h : Bytes} {t heads₀ links₀ heads links : List ℕ} {k : ℕ} (g : Linking form h t heads₀ links₀ heads links k) where
+  pub link-end : k ≤ 0 → Links form h t heads links 0
+  link-end l = let z : k ≡ 0 = omega arith in subst (Links form h t heads links) z (g .is)
 
-  module _ (l : 0 < k) {e : CodeEntry} (ee : entryOf e ≡ entryIn form t (k - 1)) {r : ℕ} {heads′ : List ℕ} (p : TakesPlace h twice (entryOf e) (k - 1) heads r heads′)
+  module _ (l : 0 < k) {e : CodeEntry} (ee : entryOf e ≡ entryIn form t (k - 1)) {r : ℕ} {heads′ : List ℕ} (p : TakesPlace h (entryOf e) (k - 1) heads r heads′)
       {links′ : List ℕ} (w : Lowers links k r links′) where
     abbrev slot : ℕ → ℕ
-    slot m = slotIn h twice (length heads) (entryIn form t m)
+    slot m = slotIn h (length heads) (entryIn form t m)
 
-    own-slot : (m : ℕ) → m ≡ k - 1 → slotIn h twice (length heads) (entryOf e) ≡ slot m
+    own-slot : (m : ℕ) → m ≡ k - 1 → slotIn h (length heads) (entryOf e) ≡ slot m
     own-slot m f = rw (ee, f)
 
     first-one : (m : ℕ) → k - 1 ≤ m → m < room form t → slot m < length heads → getD heads′ (slot m) 0 ≤ m
@@ -165,7 +159,7 @@ module _ {form : Form} {h : Bytes} {t twice heads₀ links₀ heads links : List
           let y : k ≤ j = omega (arith, eqb-false j (k - 1) f) in omega (arith, w .kept (j + 1), g .is .next j m y b c o s)
     ]
 
-    pub link-more : Linking form h t twice heads₀ links₀ heads′ links′ (k - 1)
+    pub link-more : Linking form h t heads₀ links₀ heads′ links′ (k - 1)
     link-more = record {
       heads-size = p .size ∙ g .heads-size;
       links-size = w .size ∙ g .links-size;
@@ -184,18 +178,18 @@ module _ {slot : ℕ} {heads links : List ℕ} {k : ℕ} where
 
 pub ruleset nexts = (next-here, next-on)
 
-module _ {h : Bytes} {twice : List ℕ} {e : Entry} {slot : ℕ} {heads links : List ℕ} {k : ℕ} where
-  pub pass-here : PassesOther h twice e slot heads links k k
+module _ {h : Bytes} {e : Entry} {slot : ℕ} {heads links : List ℕ} {k : ℕ} where
+  pub pass-here : PassesOther h e slot heads links k k
   pass-here = record { back = omega arith; is = λ m a b. a }
 
-  pub pass-on : {s : ℕ} → s ≡ slotIn h twice (length heads) e → s ≡ slot → {r : ℕ} → NextIs slot heads links k r → PassesOther h twice e slot heads links k r
+  pub pass-on : {s : ℕ} → s ≡ slotIn h (length heads) e → s ≡ slot → {r : ℕ} → NextIs slot heads links k r → PassesOther h e slot heads links k r
   pass-on a b n = record { back = n .back; is = λ m c d. n .is m c (d (sym a ∙ b)) }
 
 pub ruleset passings = (pass-here, pass-on)
 
 -- Where the walk goes on, no entry of the key was passed over
 
-module _ {form : Form} {v : Version} {f : Bool} {h t prefix : Bytes} {slot : ℕ} {twice heads links : List ℕ} (g : Linked form v f h t prefix slot twice heads links) where
+module _ {form : Form} {v : Version} {f : Bool} {h t prefix : Bytes} {slot : ℕ} {heads links : List ℕ} (g : Linked form v f h t prefix slot heads links) where
   pub listed-in : (m : ℕ) → m < room form t → isRecord (entryIn form t m) ≡ true → Listed f v h (entryIn form t m)
   listed-in m l = listed-nth form f v h t (g .listed) m l
 
@@ -207,7 +201,7 @@ module _ {form : Form} {v : Version} {f : Bool} {h t prefix : Bytes} {slot : ℕ
       (o .0, o .1 ∙ sym (k .is))
 
   -- and so its slot
-  pub slot-is : (m : ℕ) → m < room form t → isUnder h prefix (entryIn form t m) ≡ true → slotIn h twice (length heads) (entryIn form t m) ≡ slot
+  pub slot-is : (m : ℕ) → m < room form t → isUnder h prefix (entryIn form t m) ≡ true → slotIn h (length heads) (entryIn form t m) ≡ slot
   unfolding slotIn
   slot-is m l u = let o = own-is m l u in rw (slotIn, o .0, o .1) (sym (g .place))
 
@@ -222,7 +216,7 @@ module _ {form : Form} {v : Version} {f : Bool} {h t prefix : Bytes} {slot : ℕ
     ]
   ]
 
-  pub passed-over : (j r : ℕ) → ((m : ℕ) → j + 1 ≤ m → (slotIn h twice (length heads) (entryIn form t j) ≡ slot → slot < length heads → linkOf links (j + 1) ≤ m) → r ≤ m)
+  pub passed-over : (j r : ℕ) → ((m : ℕ) → j + 1 ≤ m → (slotIn h (length heads) (entryIn form t j) ≡ slot → slot < length heads → linkOf links (j + 1) ≤ m) → r ≤ m)
       → (m : ℕ) → j < m → m < r → m < room form t → isUnder h prefix (entryIn form t m) ≡ false
   passed-over j r n m a b l = elim (test (isUnder h prefix (entryIn form t m))) [
     | fail q ↦ q

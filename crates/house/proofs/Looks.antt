@@ -26,7 +26,7 @@ use Rattle.entries.proofs.Stored.{entries-here, entries-past}
 use Rattle.forms.specs.Lines.{houseLine}
 use Rattle.forms.specs.Formed.{FormedLine}
 use Rattle.house.specs.declared.progress.Progress.{Progress}
-use Rattle.house.specs.Writes.{WroteLines}
+use Rattle.house.specs.Writes.{WroteLines, Readable}
 use Rattle.house.specs.Keys.{isRecord, isUnder, picked, Listed, AllListed, AreFormed, isTypedRecord, anyTyped, linesUnder, PutsKeys, isOtherRecord, prefixIn}
 use Rattle.house.proofs.Writes.{wrote-no-lines}
 
@@ -85,17 +85,21 @@ module _ {form : Form} {v : Version} {h : Bytes} {t : List ℕ} {k : ℕ} (g : F
     pub forming-aside : q ≡ false → Forming form v h t (k + 1)
     forming-aside f = forming-more (λ a r. both r (sym u ∙ f))
 
-    pub forming-line : {line : Bytes} → line ≡ lineIn h (entryOf e) → {z : Bool} → FormedLine v line z → not z ≡ false → Forming form v h t (k + 1)
-    forming-line {line} i {z} f o = forming-more (λ a r.
+    -- the line of a record that can be read stands in form
+    pub forming-own : {line : Bytes} → line ≡ lineIn h (entryOf e) → (Readable v line → houseLine v line ≡ line) → Forming form v h t (k + 1)
+    forming-own i f = forming-more (λ a r.
         let d = a .readable in record {
           readable = d;
-          copied = λ q. subst (λ (x : Bytes). houseLine v x ≡ x) i (f .is (not-false z o) (d .line) (rw i (d .read)) (d .entry));
+          copied = λ q. subst (λ (x : Bytes). houseLine v x ≡ x) i (f (subst (Readable v) (sym i) d));
           key = a .key;
           plain = a .plain;
           other = a .other;
           prefix = a .prefix;
           under = a .under;
         })
+
+    pub forming-line : {line : Bytes} → line ≡ lineIn h (entryOf e) → {z : Bool} → FormedLine v line z → not z ≡ false → Forming form v h t (k + 1)
+    forming-line i {z} f o = forming-own i (λ d. f .is (not-false z o) (d .line) (d .read) (d .entry))
 
 pub ruleset formings = (forming-all, forming-not, forming-end, forming-aside, forming-line)
 

@@ -13,7 +13,6 @@ use Rattle.values.specs.Hash.{wideBasis, wideStep, wideFrom}
 use Rattle.values.specs.Written.{last}
 use Rattle.values.proofs.Tests.{pass, fail, test, and-l, and-off, or-on, not-true, not-false, both}
 use Rattle.values.proofs.Sames.{same-self}
-use Rattle.values.proofs.Markings.{none-met}
 use Rattle.rules.specs.Version.{Version}
 use Rattle.rules.specs.Known.{isTyped}
 use Rattle.rules.specs.Entry.{Entry}
@@ -81,7 +80,7 @@ linked-on : {form : Form} {h : Bytes} {t t′ : List ℕ} → bare t′ ≡ bare
 linked-on {form} {h} {t} {t′} e f g =
     let n = g .slots in
     let size = same-room form t′ t e in
-    let slot : (m : ℕ) → slotAt form h t′ n m ≡ slotAt form h t n m = λ m. ap (slotIn h [] n) (same-entry form t′ t e m) in
+    let slot : (m : ℕ) → slotAt form h t′ n m ≡ slotAt form h t n m = λ m. ap (slotIn h n) (same-entry form t′ t e m) in
     record {
       slots = n;
       some = g .some;
@@ -294,16 +293,16 @@ module _ (f : Bool) (v : Version) (h : Bytes) (form : Form) (t : List ℕ) (a : 
 
 -- they have one slot
 
-slot-small : (n : ℕ) (p : Bytes) → 0 < n → slotOf [] n p < n
+slot-small : (n : ℕ) (p : Bytes) → 0 < n → slotOf n p < n
 unfolding slotOf
 slot-small zero p l = absurd (omega arith)
-slot-small (suc n) p l = rw (slotOf, ← none-met [] (wideFrom wideBasis p) refl) (mod-lt (wideStep (wideFrom wideBasis p) 0) {m = suc n} l)
+slot-small (suc n) p l = mod-lt (wideStep (wideFrom wideBasis p) 0) {m = suc n} l
 
-slot-inside : (h : Bytes) (n : ℕ) (e : Entry) → 0 < n → isOtherRecord e ≡ true → slotIn h [] n e < n
+slot-inside : (h : Bytes) (n : ℕ) (e : Entry) → 0 < n → isOtherRecord e ≡ true → slotIn h n e < n
 unfolding slotIn
 slot-inside h n e l o = rw (slotIn, o) (slot-small n (prefixIn h e) l)
 
-slot-same : (h : Bytes) (n : ℕ) (d e : Entry) → isOtherRecord d ≡ true → isOtherRecord e ≡ true → prefixIn h d ≡ prefixIn h e → slotIn h [] n d ≡ slotIn h [] n e
+slot-same : (h : Bytes) (n : ℕ) (d e : Entry) → isOtherRecord d ≡ true → isOtherRecord e ≡ true → prefixIn h d ≡ prefixIn h e → slotIn h n d ≡ slotIn h n e
 unfolding slotIn
 slot-same h n d e a b c = rw (slotIn, a, b, c)
 

@@ -1,21 +1,17 @@
 -- The keys that are not typed, by first appearance: a turn of each loop on plain values. Assumes nothing.
-use Prim.Native.Nat.{ℕ, zero, suc, _+_, _-_, _%_, _≤_, _<_}
+use Prim.Native.Nat.{ℕ, zero, suc, _+_, _-_, _≤_, _<_}
 use native.Mathlib.Omega.{arith}
-use native.Mathlib.Nat.{mod-lt}
 use mathlib.Core.Path.{_≡_, refl, sym, ap, subst, _∙_}
 use mathlib.Core.Bool.{Bool, true, false, not}
 use mathlib.Core.List.{List, [], _∷_, _++_, append-assoc, append-nil}
-use lib.Dec.{eqb, leb, ltb}
+use lib.Dec.{eqb, ltb}
 use lib.ListN.{length, getD, take, drop, take-append-drop}
 use lib.Seq.{take-all, take-add}
-use borrow.Author.Tests.{lt-ltb, le-ltb, eq-eqb, ne-eqb, eqb-true, eqb-false, ltb-true, ltb-false, leb-true}
+use borrow.Author.Tests.{lt-ltb, le-ltb, eqb-true, eqb-false, ltb-true, ltb-false}
 use Rattle.values.specs.Bytes.{Bytes, is, before, starts}
-use Rattle.values.specs.Hash.{wideBasis, wideStep, wideFrom}
-use Rattle.values.specs.Marks.{isMet}
 use Rattle.values.specs.Written.{last}
-use Rattle.values.proofs.Tests.{pass, fail, test, and-l, and-r, and-off, not-true, not-false, both}
+use Rattle.values.proofs.Tests.{pass, fail, test, and-l, and-off, not-true, not-false}
 use Rattle.values.proofs.Sames.{same-self}
-use Rattle.values.proofs.Markings.{none-met}
 use Rattle.rules.specs.Version.{Version}
 use Rattle.rules.specs.Known.{isTyped}
 use Rattle.rules.specs.Entry.{Entry}
@@ -30,15 +26,14 @@ use Rattle.forms.specs.Lines.{houseLine}
 use Rattle.house.specs.declared.progress.Progress.{Progress}
 use Rattle.house.specs.Writes.{WroteLines, PutsEntry, PutsRun}
 use Rattle.house.specs.Keys.{isRecord, isUnder, picked, Listed, AllListed, isOtherRecord, prefixIn, seenUnder, isFirst, linesIf, otherLines, PutsOthers}
-use Rattle.house.specs.Doubles.{hashIn, MarksTwice}
-use Rattle.house.specs.Links.{slotOf, slotIn, isPast, linkOf, Links, NextIs, PassesOther, Linked, SeesKey, PutsLinked, PutsFirst, SkipsUnder, SkipsSame, PutsOthersBy}
+use Rattle.house.specs.Links.{slotOf, slotIn, linkOf, Links, NextIs, PassesOther, Linked, SeesKey, PutsLinked, PutsFirst, SkipsUnder, SkipsSame, PutsOthersBy}
 use Rattle.house.proofs.Writes.{wrote-no-lines, then-lines}
 use Rattle.house.proofs.Picks.{listed-on, picked-yes, picked-no}
 use Rattle.house.specs.Runs.{FindsRun}
 use Rattle.house.specs.declared.run.Run.{Run}
 use Rattle.house.proofs.Runs.{run-here, run-count, run-under, run-put, text-here}
 use Rattle.house.proofs.Looks.{listed-at, listed-nth, own-key, other-record}
-use Rattle.house.proofs.Linkings.{listed-in, own-is, slot-is, before-head, passed-over, picked-skip, unseen-picked, seen-none, seen-some}
+use Rattle.house.proofs.Linkings.{listed-in, slot-is, before-head, passed-over, picked-skip, unseen-picked, seen-none, seen-some}
 
 -- what answers the needs of `prefix_part`
 module _ (h : Bytes) (e : CodeEntry) {line : Bytes} (el : line ≡ lineIn h (entryOf e)) {end : ℕ} (f : end ≡ 0 + length (before (is 61) (drop 0 line))) where
@@ -70,21 +65,21 @@ pub ruleset kinds = (other-low, other-high, other-is)
 
 -- The scan for a key: no entry before number k is under it
 
-pub record Seeing (form : Form) (h t prefix : Bytes) (slot : ℕ) (twice heads links : List ℕ) (k : ℕ) : Type 0 where
-  pub is : (f : Bool) (v : Version) → Linked form v f h t prefix slot twice heads links → (m : ℕ) → m < k → m < room form t → isUnder h prefix (entryIn form t m) ≡ false
+pub record Seeing (form : Form) (h t prefix : Bytes) (slot : ℕ) (heads links : List ℕ) (k : ℕ) : Type 0 where
+  pub is : (f : Bool) (v : Version) → Linked form v f h t prefix slot heads links → (m : ℕ) → m < k → m < room form t → isUnder h prefix (entryIn form t m) ≡ false
 
-pub see-start : {form : Form} {h t prefix : Bytes} {slot : ℕ} {twice heads links : List ℕ} {k : ℕ} → k ≡ getD heads slot 0 → Seeing form h t prefix slot twice heads links k
+pub see-start : {form : Form} {h t prefix : Bytes} {slot : ℕ} {heads links : List ℕ} {k : ℕ} → k ≡ getD heads slot 0 → Seeing form h t prefix slot heads links k
 see-start e = record { is = λ f v g m a b. before-head g m (rw (← e) a) b }
 
-module _ {form : Form} {h t prefix : Bytes} {slot : ℕ} {twice heads links : List ℕ} {k : ℕ} (g : Seeing form h t prefix slot twice heads links k) where
-  pub see-end : {end : ℕ} → end ≤ k → SeesKey form h t prefix slot twice heads links end false
+module _ {form : Form} {h t prefix : Bytes} {slot : ℕ} {heads links : List ℕ} {k : ℕ} (g : Seeing form h t prefix slot heads links k) where
+  pub see-end : {end : ℕ} → end ≤ k → SeesKey form h t prefix slot heads links end false
   see-end {end} l = record { is = λ f v x b. sym (seen-none form h t prefix end b (λ m a. g .is f v x m (omega arith) (omega arith))) }
 
   module _ {e : CodeEntry} (ee : entryOf e ≡ entryIn form t k) {q : Bool} (u : q ≡ isUnder h prefix (entryOf e)) where
-    pub see-here : {end : ℕ} → k < end → q ≡ true → SeesKey form h t prefix slot twice heads links end true
+    pub see-here : {end : ℕ} → k < end → q ≡ true → SeesKey form h t prefix slot heads links end true
     see-here {end} l o = record { is = λ f v x b. sym (seen-some form h t prefix end k l b (ap (isUnder h prefix) (sym ee) ∙ sym u ∙ o)) }
 
-    pub see-more : q ≡ false → {r : ℕ} → PassesOther h twice (entryOf e) slot heads links (k + 1) r → Seeing form h t prefix slot twice heads links r
+    pub see-more : q ≡ false → {r : ℕ} → PassesOther h (entryOf e) slot heads links (k + 1) r → Seeing form h t prefix slot heads links r
     see-more o {r} p = record {
       is = λ f v x m a b. elim (test (ltb m k)) [
         | pass y ↦ g .is f v x m (ltb-true m k y) b
@@ -98,7 +93,7 @@ module _ {form : Form} {h t prefix : Bytes} {slot : ℕ} {twice heads links : Li
 pub one-less : {slot : ℕ} {heads links : List ℕ} {k r end : ℕ} → k < end → NextIs slot heads links (k + 1) r → end - r < end - k
 one-less l p = let b = p .back in omega arith
 
-pub see-less : {h : Bytes} {e : Entry} {slot : ℕ} {twice heads links : List ℕ} {k r end : ℕ} → k < end → PassesOther h twice e slot heads links (k + 1) r → end - r < end - k
+pub see-less : {h : Bytes} {e : Entry} {slot : ℕ} {heads links : List ℕ} {k r end : ℕ} → k < end → PassesOther h e slot heads links (k + 1) r → end - r < end - k
 see-less l p = let b = p .back in omega arith
 
 pub next-less : {form : Form} {f : Bool} {h t prefix : Bytes} {limit k : ℕ} {run : Run} → FindsRun form f h t prefix limit k run → {slot : ℕ} {heads links : List ℕ} {r end : ℕ} → k < end → NextIs slot heads links (run .end) r → end - r < end - k
@@ -108,23 +103,23 @@ pub ruleset sees = (see-start, see-end, see-here, see-more, see-less)
 
 -- The loop over the entries of a key: the lines of those before number k are written
 
-pub record Putting (form : Form) (v : Version) (h t prefix : Bytes) (slot : ℕ) (twice heads links : List ℕ) (first : ℕ) (given old : Bytes) (s₀ : Progress) (new : Bytes) (s : Progress) (k : ℕ) : Type 0 where
+pub record Putting (form : Form) (v : Version) (h t prefix : Bytes) (slot : ℕ) (heads links : List ℕ) (first : ℕ) (given old : Bytes) (s₀ : Progress) (new : Bytes) (s : Progress) (k : ℕ) : Type 0 where
   pub size : length new ≡ length old
-  pub is : Linked form v (s₀ .formed) h t prefix slot twice heads links → (ls : List Bytes) × ((picked v h prefix (drop first (entriesIn form t)) ≡ ls ++ picked v h prefix (drop k (entriesIn form t))) × WroteLines given old s₀ ls s new)
+  pub is : Linked form v (s₀ .formed) h t prefix slot heads links → (ls : List Bytes) × ((picked v h prefix (drop first (entriesIn form t)) ≡ ls ++ picked v h prefix (drop k (entriesIn form t))) × WroteLines given old s₀ ls s new)
 
-pub put-start : (form : Form) (v : Version) (h t prefix : Bytes) (slot : ℕ) (twice heads links : List ℕ) (first : ℕ) (given old : Bytes) (s : Progress) → s .next .at ≤ last → s .lines ≤ last → length old ≤ last
-    → Putting form v h t prefix slot twice heads links first given old s old s first
-put-start form v h t prefix slot twice heads links first given old s a b d = record { size = refl; is = λ g. ([], (refl, wrote-no-lines given old s a b d)) }
+pub put-start : (form : Form) (v : Version) (h t prefix : Bytes) (slot : ℕ) (heads links : List ℕ) (first : ℕ) (given old : Bytes) (s : Progress) → s .next .at ≤ last → s .lines ≤ last → length old ≤ last
+    → Putting form v h t prefix slot heads links first given old s old s first
+put-start form v h t prefix slot heads links first given old s a b d = record { size = refl; is = λ g. ([], (refl, wrote-no-lines given old s a b d)) }
 
-module _ {form : Form} {v : Version} {h t prefix : Bytes} {slot : ℕ} {twice heads links : List ℕ} {first : ℕ} {given old : Bytes} {s₀ : Progress} {new : Bytes} {s : Progress} {k : ℕ}
-    (g : Putting form v h t prefix slot twice heads links first given old s₀ new s k) {n : ℕ} (en : n ≡ room form t) where
+module _ {form : Form} {v : Version} {h t prefix : Bytes} {slot : ℕ} {heads links : List ℕ} {first : ℕ} {given old : Bytes} {s₀ : Progress} {new : Bytes} {s : Progress} {k : ℕ}
+    (g : Putting form v h t prefix slot heads links first given old s₀ new s k) {n : ℕ} (en : n ≡ room form t) where
   module _ (l : k < n) {e : CodeEntry} (ee : entryOf e ≡ entryIn form t k) {q : Bool} (u : q ≡ isUnder h prefix (entryOf e)) where
     inside : k < room form t
     inside = rw (← en) l
 
     -- the entries that are passed over, after entry number j
-    skipped : Linked form v (s₀ .formed) h t prefix slot twice heads links → (j r : ℕ) → j + 1 ≤ r
-        → ((m : ℕ) → j + 1 ≤ m → (slotIn h twice (length heads) (entryIn form t j) ≡ slot → slot < length heads → linkOf links (j + 1) ≤ m) → r ≤ m)
+    skipped : Linked form v (s₀ .formed) h t prefix slot heads links → (j r : ℕ) → j + 1 ≤ r
+        → ((m : ℕ) → j + 1 ≤ m → (slotIn h (length heads) (entryIn form t j) ≡ slot → slot < length heads → linkOf links (j + 1) ≤ m) → r ≤ m)
         → picked v h prefix (drop (j + 1) (entriesIn form t)) ≡ picked v h prefix (drop r (entriesIn form t))
     skipped x j r b p =
         let z : j + 1 + (r - (j + 1)) ≡ r = omega arith in
@@ -132,7 +127,7 @@ module _ {form : Form} {v : Version} {h t prefix : Bytes} {slot : ℕ} {twice he
 
     pub put-more : q ≡ true → {run : Run} → FindsRun form (s .formed) h t prefix (s .limit) k run → {text : Bytes} → text ≡ take (run .stop - e .start) (drop (e .start) h)
         → {p : Progress} {o : Bytes} → PutsRun v text (run .end - k) given new s p o → length o ≡ length new → {r : ℕ} → NextIs slot heads links (run .end) r
-        → Putting form v h t prefix slot twice heads links first given old s₀ o p r
+        → Putting form v h t prefix slot heads links first given old s₀ o p r
     put-more f {run} y i {p} {o} a m {r} b = record {
       size = m ∙ g .size;
       is = λ x.
@@ -147,7 +142,7 @@ module _ {form : Form} {v : Version} {h t prefix : Bytes} {slot : ℕ} {twice he
           );
     }
       where
-        onward : Linked form v (s₀ .formed) h t prefix slot twice heads links → isUnder h prefix (entryIn form t k) ≡ true → picked v h prefix (drop (run .end) (entriesIn form t)) ≡ picked v h prefix (drop r (entriesIn form t))
+        onward : Linked form v (s₀ .formed) h t prefix slot heads links → isUnder h prefix (entryIn form t k) ≡ true → picked v h prefix (drop (run .end) (entriesIn form t)) ≡ picked v h prefix (drop r (entriesIn form t))
         onward x w =
             let l = y .ahead in
             let z : run .end - 1 + 1 ≡ run .end = omega arith in
@@ -156,7 +151,7 @@ module _ {form : Form} {v : Version} {h t prefix : Bytes} {slot : ℕ} {twice he
             rw (← z) (skipped x (run .end - 1) r (rw z (b .back)) (λ j c d. b .is j (rw z at c) (rw z at (d (slot-is x (run .end - 1) (omega arith) under)))))
 
     pub put-one : q ≡ true → {line : Bytes} → line ≡ lineIn h (entryOf e) → {p : Progress} {o : Bytes} → PutsEntry v line given new s p o → length o ≡ length new → {r : ℕ} → NextIs slot heads links (k + 1) r
-        → Putting form v h t prefix slot twice heads links first given old s₀ o p r
+        → Putting form v h t prefix slot heads links first given old s₀ o p r
     unfolding isUnder
     put-one f {line} i {p} {o} a m {r} b = record {
       size = m ∙ g .size;
@@ -177,7 +172,7 @@ module _ {form : Form} {v : Version} {h t prefix : Bytes} {slot : ℕ} {twice he
           );
     }
 
-    pub put-other : q ≡ false → {r : ℕ} → PassesOther h twice (entryOf e) slot heads links (k + 1) r → Putting form v h t prefix slot twice heads links first given old s₀ new s r
+    pub put-other : q ≡ false → {r : ℕ} → PassesOther h (entryOf e) slot heads links (k + 1) r → Putting form v h t prefix slot heads links first given old s₀ new s r
     put-other f {r} b = record {
       size = g .size;
       is = λ x.
@@ -191,7 +186,7 @@ module _ {form : Form} {v : Version} {h t prefix : Bytes} {slot : ℕ} {twice he
           );
     }
 
-  pub put-end : n ≤ k → PutsLinked form v h t prefix slot twice heads links first given old s₀ s new
+  pub put-end : n ≤ k → PutsLinked form v h t prefix slot heads links first given old s₀ s new
   unfolding picked
   put-end l = record {
     is = λ x.
@@ -201,35 +196,14 @@ module _ {form : Form} {v : Version} {h t prefix : Bytes} {slot : ℕ} {twice he
 
 pub ruleset puttings = (put-more, put-one, put-other, put-end, see-less, one-less, next-less, run-here, run-count)
 
--- a key that has no slot where there are some is not marked
-unmet : (twice : List ℕ) (n : ℕ) (p : Bytes) → isPast n (slotOf twice n p) ≡ true → isMet twice (wideFrom wideBasis p) ≡ false
-unfolding slotOf
-unmet twice zero p e = both e refl
-unmet twice (suc n) p e = elim (test (isMet twice (wideFrom wideBasis p))) [
-  | fail q ↦ q
-  | pass q ↦
-      let x = wideStep (wideFrom wideBasis p) 0 in
-      let y : leb (suc n) (x % suc n) ≡ true = and-r (not (eqb (suc n) 0)) (leb (suc n) (x % suc n)) (rw (slotOf, q) at e) in
-      absurd (omega (arith, leb-true (suc n) (x % suc n) y, mod-lt x {m = suc n} (omega arith)))
-]
-
--- what answers the needs of `is_alone`
-pub alone-none : (n slot : ℕ) → n ≡ 0 → false ≡ isPast n slot
-alone-none n slot e = rw (eq-eqb n 0 e)
-
-pub alone-past : (n slot : ℕ) → (n ≡ 0 → ⊥) → leb n slot ≡ isPast n slot
-alone-past n slot f = rw (ne-eqb n 0 f)
-
-pub ruleset alones = (alone-none, alone-past)
-
 -- what answers the needs of `put_if_first`
-module _ {form : Form} (v : Version) {h : Bytes} {t twice heads links : List ℕ} {k : ℕ} {e : CodeEntry} (ee : entryOf e ≡ entryIn form t k) {q : Bool} (o : q ≡ isOtherRecord (entryOf e)) where
-  pub first-typed : not q ≡ true → (given old : Bytes) (s : Progress) → PutsFirst form v h t twice heads links k given old s s old
+module _ {form : Form} (v : Version) {h : Bytes} {t heads links : List ℕ} {k : ℕ} {e : CodeEntry} (ee : entryOf e ≡ entryIn form t k) {q : Bool} (o : q ≡ isOtherRecord (entryOf e)) where
+  pub first-typed : not q ≡ true → (given old : Bytes) (s : Progress) → PutsFirst form v h t heads links k given old s s old
   unfolding isFirst
-  first-typed n given old s = record { is = λ x tw y l out b ls w. rw (← ee, ← o, not-true q n, append-nil ls) w }
+  first-typed n given old s = record { is = λ x y l out b ls w. rw (← ee, ← o, not-true q n, append-nil ls) w }
 
-  module _ (n : not q ≡ false) {p : Bytes} (i : p ≡ prefixIn h (entryOf e)) {slot : ℕ} (z : slot ≡ slotOf twice (length heads) p) where
-    linked-here : (f : Bool) → AllListed f v h (entriesIn form t) → Links form h t twice heads links 0 → k < room form t → Linked form v f h t p slot twice heads links
+  module _ (n : not q ≡ false) {p : Bytes} (i : p ≡ prefixIn h (entryOf e)) {slot : ℕ} (z : slot ≡ slotOf (length heads) p) where
+    linked-here : (f : Bool) → AllListed f v h (entriesIn form t) → Links form h t heads links 0 → k < room form t → Linked form v f h t p slot heads links
     linked-here f x y l =
         let other : isOtherRecord (entryOf e) ≡ true = sym o ∙ not-false q n in
         let g : Listed f v h (entryIn form t k) = listed-at f v h (take k (entriesIn form t)) (entryIn form t k) (drop (k + 1) (entriesIn form t))
@@ -247,17 +221,17 @@ module _ {form : Form} (v : Version) {h : Bytes} {t twice heads links : List ℕ
           place = z;
         }
 
-    module _ {r : Bool} (w : SeesKey form h t p slot twice heads links k r) where
-      first-is : (f : Bool) → AllListed f v h (entriesIn form t) → Links form h t twice heads links 0 → k < room form t → isFirst h (take k (entriesIn form t)) (entryIn form t k) ≡ not r
+    module _ {r : Bool} (w : SeesKey form h t p slot heads links k r) where
+      first-is : (f : Bool) → AllListed f v h (entriesIn form t) → Links form h t heads links 0 → k < room form t → isFirst h (take k (entriesIn form t)) (entryIn form t k) ≡ not r
       unfolding isFirst
       first-is f x y l = rw (← ee, ← o, not-false q n, ← i, ← w .is f v (linked-here f x y l) (omega arith))
 
-      pub first-seen : r ≡ true → (given old : Bytes) (s : Progress) → PutsFirst form v h t twice heads links k given old s s old
-      first-seen c given old s = record { is = λ x tw y l out b ls u. rw (first-is (s .formed) x y l, c, append-nil ls) u }
+      pub first-seen : r ≡ true → (given old : Bytes) (s : Progress) → PutsFirst form v h t heads links k given old s s old
+      first-seen c given old s = record { is = λ x y l out b ls u. rw (first-is (s .formed) x y l, c, append-nil ls) u }
 
-      pub first-put : r ≡ false → {given old : Bytes} {s u : Progress} {new : Bytes} → PutsLinked form v h t p slot twice heads links k given old s u new → PutsFirst form v h t twice heads links k given old s u new
+      pub first-put : r ≡ false → {given old : Bytes} {s u : Progress} {new : Bytes} → PutsLinked form v h t p slot heads links k given old s u new → PutsFirst form v h t heads links k given old s u new
       first-put c {given} {old} {s} {u} {new} a = record {
-        is = λ x tw y l out b ls d.
+        is = λ x y l out b ls d.
             let j = linked-here (s .formed) x y l in
             let none : seenUnder h p (take k (entriesIn form t)) ≡ false = sym (w .is (s .formed) v j (omega arith)) ∙ c in
             let all : picked v h p (entriesIn form t) ≡ picked v h p (drop k (entriesIn form t))
@@ -265,49 +239,7 @@ module _ {form : Form} (v : Version) {h : Bytes} {t twice heads links : List ℕ
             rw (first-is (s .formed) x y l, c, ← ee, ← i, all) (then-lines d (a .is j));
       }
 
-    -- no other entry has a key that is not marked
-    module _ {r : Bool} (c : r ≡ isPast (length heads) slot) (past : r ≡ true) where
-      apart : (f : Bool) → AllListed f v h (entriesIn form t) → MarksTwice form h t twice → Links form h t twice heads links 0 → k < room form t
-          → (m : ℕ) → m < room form t → (m ≡ k → ⊥) → isUnder h p (entryIn form t m) ≡ false
-      apart f x tw y l m a d = elim (test (isUnder h p (entryIn form t m))) [
-        | fail u ↦ u
-        | pass u ↦
-            let w = own-is (linked-here f x y l) m a u in
-            let here : isOtherRecord (entryIn form t k) ≡ true = ap isOtherRecord (sym ee) ∙ sym o ∙ not-false q n in
-            let same : prefixIn h (entryIn form t k) ≡ p = ap (prefixIn h) (sym ee) ∙ sym i in
-            let off : isMet twice (wideFrom wideBasis p) ≡ false = unmet twice (length heads) p (ap (isPast (length heads)) (sym z) ∙ sym c ∙ past) in
-            elim (test (ltb m k)) [
-              | pass b ↦ both (tw .is m k (ltb-true m k b) l (w .0) here (ap (wideFrom wideBasis) (w .1 ∙ sym same))) (ap (λ (x : Bytes). isMet twice (wideFrom wideBasis x)) same ∙ off)
-              | fail b ↦
-                  let e : k < m = omega (arith, ltb-false m k b, d) in
-                  both (tw .is k m e a here (w .0) (ap (wideFrom wideBasis) (same ∙ sym (w .1)))) (ap (λ (x : Bytes). isMet twice (wideFrom wideBasis x)) (w .1) ∙ off)
-            ]
-      ]
-
-      pub first-alone : {line : Bytes} → line ≡ lineIn h (entryOf e) → {given old : Bytes} {s u : Progress} {new : Bytes} → PutsEntry v line given old s u new → PutsFirst form v h t twice heads links k given old s u new
-      unfolding isFirst picked
-      first-alone {line = text} w {given} {old} {s} {u} {new} b = record {
-        is = λ x tw y l out b₀ ls d.
-            let a = subst (λ (z : Bytes). PutsEntry v z given old s u new) w b in
-            let j = linked-here (s .formed) x y l in
-            let away = apart (s .formed) x tw y l in
-            let other : isOtherRecord (entryIn form t k) ≡ true = ap isOtherRecord (sym ee) ∙ sym o ∙ not-false q n in
-            let g = listed-in j k l (other-record (entryIn form t k) other) in
-            let z : Listed (s .formed) v h (entryOf e) = rw ee g in
-            let under : isUnder h p (entryIn form t k) ≡ true = rw (i, ee, g .prefix) (g .under (g .key) (g .plain) ∙ same-self (g .key)) in
-            let none : seenUnder h p (take k (entriesIn form t)) ≡ false = seen-none form h t p k (omega arith) (λ m a. away m (omega arith) (λ e. omega (arith, e))) in
-            let line = houseLine v (lineIn h (entryOf e)) in
-            let rest : picked v h p (drop (k + 1) (entriesIn form t)) ≡ []
-            = picked-skip form h t p v (room form t - (k + 1)) (k + 1) (λ m a b c. away m c (λ e. omega (arith, e)))
-            ∙ ap (picked v h p) (entries-past form t (k + 1 + (room form t - (k + 1))) (omega arith)) in
-            let only : picked v h p (entriesIn form t) ≡ line ∷ []
-            = ap (picked v h p) (sym (take-append-drop k (entriesIn form t))) ∙ unseen-picked v h p (take k (entriesIn form t)) (drop k (entriesIn form t)) none
-            ∙ ap (picked v h p) (entries-here form t k l) ∙ picked-yes v h p (entryIn form t k) (drop (k + 1) (entriesIn form t)) under ∙ rw (← ee) (ap (line ∷_) rest) in
-            let first : isFirst h (take k (entriesIn form t)) (entryOf e) ≡ true = rw (← o, not-false q n, ← i, none) in
-            rw (← ee, first, ← i, only) (then-lines d (a .is (z .readable) (z .copied)));
-      }
-
-pub ruleset firsts = (first-typed, first-seen, first-put, first-alone)
+pub ruleset firsts = (first-typed, first-seen, first-put)
 
 pub other-turn : (v : Version) (h : Bytes) (es : List Entry) (k : ℕ) (e : Entry) → drop k es ≡ e ∷ drop (k + 1) es → {q : Bool} → q ≡ isFirst h (take k es) e
     → otherLines v h es (take k es) (drop k es) ≡ linesIf q (picked v h (prefixIn h e) es) ++ otherLines v h es (take (k + 1) es) (drop (k + 1) es)
@@ -379,40 +311,40 @@ module _ (form : Form) (f : Bool) (v : Version) (h : Bytes) (t : List ℕ) (x : 
 
 -- The loop over the keys: the lines of those that appear before number k are written
 
-pub record Othering (form : Form) (v : Version) (h : Bytes) (t twice heads links : List ℕ) (given old : Bytes) (s₀ : Progress) (new : Bytes) (s : Progress) (k : ℕ) : Type 0 where
+pub record Othering (form : Form) (v : Version) (h : Bytes) (t heads links : List ℕ) (given old : Bytes) (s₀ : Progress) (new : Bytes) (s : Progress) (k : ℕ) : Type 0 where
   pub size : length new ≡ length old
-  pub is : AllListed (s₀ .formed) v h (entriesIn form t) → MarksTwice form h t twice → Links form h t twice heads links 0
+  pub is : AllListed (s₀ .formed) v h (entriesIn form t) → Links form h t heads links 0
       → (ls : List Bytes) × ((otherLines v h (entriesIn form t) [] (entriesIn form t) ≡ ls ++ otherLines v h (entriesIn form t) (take k (entriesIn form t)) (drop k (entriesIn form t))) × WroteLines given old s₀ ls s new)
 
-pub other-start : (form : Form) (v : Version) (h : Bytes) (t twice heads links : List ℕ) (given old : Bytes) (s : Progress) → s .next .at ≤ last → s .lines ≤ last → length old ≤ last
-    → Othering form v h t twice heads links given old s old s 0
-other-start form v h t twice heads links given old s a b d = record { size = refl; is = λ g tw j. ([], (refl, wrote-no-lines given old s a b d)) }
+pub other-start : (form : Form) (v : Version) (h : Bytes) (t heads links : List ℕ) (given old : Bytes) (s : Progress) → s .next .at ≤ last → s .lines ≤ last → length old ≤ last
+    → Othering form v h t heads links given old s old s 0
+other-start form v h t heads links given old s a b d = record { size = refl; is = λ g j. ([], (refl, wrote-no-lines given old s a b d)) }
 
-module _ {form : Form} {v : Version} {h : Bytes} {t twice heads links : List ℕ} {given old : Bytes} {s₀ : Progress} {new : Bytes} {s : Progress} {k : ℕ} (g : Othering form v h t twice heads links given old s₀ new s k) {n : ℕ} (en : n ≡ room form t) where
+module _ {form : Form} {v : Version} {h : Bytes} {t heads links : List ℕ} {given old : Bytes} {s₀ : Progress} {new : Bytes} {s : Progress} {k : ℕ} (g : Othering form v h t heads links given old s₀ new s k) {n : ℕ} (en : n ≡ room form t) where
   abbrev es : List Entry
   es = entriesIn form t
 
-  pub other-more : k < n → {r : Progress} {o : Bytes} → PutsFirst form v h t twice heads links k given new s r o → length o ≡ length new → {i : ℕ} → SkipsSame form h t k i
-      → Othering form v h t twice heads links given old s₀ o r i
+  pub other-more : k < n → {r : Progress} {o : Bytes} → PutsFirst form v h t heads links k given new s r o → length o ≡ length new → {i : ℕ} → SkipsSame form h t k i
+      → Othering form v h t heads links given old s₀ o r i
   other-more l {r} {o} a m {i} z = record {
     size = m ∙ g .size;
-    is = λ x tw j.
-        let d = g .is x tw j in
+    is = λ x j.
+        let d = g .is x j in
         let e = entryIn form t k in
         let ls = linesIf (isFirst h (take k es) e) (picked v h (prefixIn h e) es) in (
           d .0 ++ ls,
           (
             d .1 .0 ∙ ap (d .0 ++_) (other-turn v h es k e (entries-here form t k (rw (← en) l)) refl ∙ ap (ls ++_) (same-skipped form (s₀ .formed) v h t x (rw (← en) l) z)) ∙ sym (append-assoc (d .0) ls (otherLines v h es (take i es) (drop i es))),
-            a .is (listed-on (d .1 .1) v h es x) tw j (rw (← en) l) old s₀ (d .0) (d .1 .1),
+            a .is (listed-on (d .1 .1) v h es x) j (rw (← en) l) old s₀ (d .0) (d .1 .1),
           ),
         );
   }
 
-  pub other-end : n ≤ k → PutsOthersBy form v h t twice heads links given old s₀ s new
+  pub other-end : n ≤ k → PutsOthersBy form v h t heads links given old s₀ s new
   unfolding otherLines
   other-end l = record {
-    is = λ x tw j.
-        let d = g .is x tw j in
+    is = λ x j.
+        let d = g .is x j in
         subst (λ (ls : List Bytes). WroteLines given old s₀ ls s new) (sym (d .1 .0 ∙ ap (d .0 ++_) (rw (entries-past form t k (rw (← en) l))) ∙ append-nil (d .0))) (d .1 .1);
   }
 
@@ -421,11 +353,11 @@ place-inside form t en l = omega (arith, en, room-small form t)
 
 pub ruleset others = (other-more, other-end, skip-less)
 
--- what answers the needs of `put_others_linked` and `put_others_few`: where there are no marks, any key may be one of several entries
-module _ {form : Form} {v : Version} {h : Bytes} {t twice heads links : List ℕ} {given old : Bytes} {s r : Progress} {new : Bytes} (p : PutsOthersBy form v h t twice heads links given old s r new) where
-  pub others-linked : Links form h t twice heads links 0 → length twice ≡ 0 → PutsOthers v h (entriesIn form t) given old s r new
-  others-linked m z = record { is = λ a. p .is a (record { is = λ i j b c d e f. sym (none-met twice (hashIn h (entryIn form t j)) z) }) m }
+-- what answers the needs of `put_others_linked` and `put_others_few`
+module _ {form : Form} {v : Version} {h : Bytes} {t heads links : List ℕ} {given old : Bytes} {s r : Progress} {new : Bytes} (p : PutsOthersBy form v h t heads links given old s r new) where
+  pub others-linked : Links form h t heads links 0 → PutsOthers v h (entriesIn form t) given old s r new
+  others-linked m = record { is = λ a. p .is a m }
 
   -- where there are no heads, nothing is linked
-  pub others-unlinked : length heads ≡ 0 → length twice ≡ 0 → PutsOthers v h (entriesIn form t) given old s r new
+  pub others-unlinked : length heads ≡ 0 → PutsOthers v h (entriesIn form t) given old s r new
   others-unlinked z = others-linked (record { first = λ m a b c. absurd (omega arith); next = λ j m a b c d e. absurd (omega arith) })

@@ -38,12 +38,12 @@ use Rattle.house.specs.declared.form.FormOutcome.the-variants.{Whole, To
 use Rattle.house.specs.declared.form.Compared.{Compared}
 use Rattle.house.specs.declared.form.HouseAnswer.{HouseAnswer}
 use Rattle.house.specs.declared.form.IsHouseAnswer.{IsHouseAnswer}
-use Rattle.house.specs.Forms.{formLines, isWhole, outcomeOf, ComparesForm}
+use Rattle.house.specs.Forms.{formLines, outcomeOf, ComparesForm}
 use Rattle.house.specs.Answers.{FormMeaning, formAnswerMeans, houseMeans, refusedAnswer, formAnswered}
 use Rattle.house.specs.IsHouse.{firstDifference, answeredAs, heldAs, judged, isHouse}
 use Rattle.house.specs.Verdicts.{VerdictMeaning, verdictMeans, isHouseMeans, toldAnswer, verdictBy, verdict, AnswersComparison, IsHouseCall}
 use Rattle.house.specs.Keys.{AllListed}
-use Rattle.house.proofs.Forms.{is-whole}
+use Rattle.house.proofs.Forms.{isWhole, is-whole}
 use Rattle.house.proofs.Answers.{Answers, refused-told, is-readable, answers-it}
 
 -- The first difference

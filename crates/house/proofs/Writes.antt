@@ -73,7 +73,7 @@ lines-append [] ms = refl
 lines-append (l ∷ ls) ms = ap (writeLine l ++_) (lines-append ls ms) ∙ sym (append-assoc (writeLine l) (writeLines ls) (writeLines ms))
 
 -- a written line is longer than its text
-line-longer : (l : Bytes) → length l < length (writeLine l)
+pub line-longer : (l : Bytes) → length l < length (writeLine l)
 unfolding writeLine
 line-longer l = elim (test (ends 13 l)) [
   | pass e ↦ rw (writeLine, e, length-append l (13 ∷ 10 ∷ [])) (omega arith)

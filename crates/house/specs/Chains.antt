@@ -2,7 +2,7 @@
 use Prim.Native.Nat.{ℕ, _+_, _-_, _%_, _^_, _≤_, _<_}
 use mathlib.Core.Path.{_≡_}
 use mathlib.Core.Bool.{Bool, true, false}
-use mathlib.Core.List.{List, []}
+use mathlib.Core.List.{List}
 use lib.Dec.{leb, ltb}
 use lib.ListN.{length, getD}
 use Rattle.values.specs.Bytes.{Bytes}
@@ -28,7 +28,7 @@ nextAt form t k end = elim (ltb k (linkAt form t k)) [ true ↦ linkAt form t k 
 
 -- the slot of entry number m among n; past them if its key is typed
 abbrev pub slotAt : Form → Bytes → List ℕ → ℕ → ℕ → ℕ
-slotAt form h t n m = slotIn h [] n (entryIn form t m)
+slotAt form h t n m = slotIn h n (entryIn form t m)
 
 -- r is the first number from k on whose slot is s; none before the end is, where r is not before it
 pub record FirstFrom (slot : ℕ → ℕ) (end s k r : ℕ) : Type 0 where

@@ -5,8 +5,7 @@ use mathlib.Core.Bool.{Bool, true, false}
 use mathlib.Core.List.{[], _∷_, _++_, map}
 use mathlib.Core.Option.{none}
 use Rattle.values.specs.Bytes.{Bytes, ascii}
-use Rattle.values.specs.Hash.{wideBasis, wideStep, wideFrom}
-use Rattle.values.specs.Marks.{markWord, markBit, markBits, hasBits, isSet, setAll, isFew, isMet, meet}
+use Rattle.values.specs.Hash.{wideStep, wideFrom}
 use Rattle.rules.specs.Sizes.{Limits, limits}
 use Rattle.rules.specs.Examples.{opened as rules}
 use Rattle.house.specs.Links.{slotOf, cellOf}
@@ -68,10 +67,7 @@ remainders : map (cellOf 3) (1 ∷ 2 ∷ 3 ∷ 7 ∷ []) ≡ 1 ∷ 2 ∷ 0 ∷ 1
 unfolding cellOf
 remainders = refl
 
--- a key's slot among 8: by its hash where it is marked or there are no marks, else none
-abbrev pub prefix : Bytes
-prefix = ascii "##cell="
-
-slotted : map (λ (twice : Bytes). slotOf twice 8 prefix) ([] ∷ meet (0 ∷ 0 ∷ []) (wideFrom wideBasis prefix) ∷ (0 ∷ 0 ∷ []) ∷ []) ≡ 5 ∷ 5 ∷ 8 ∷ []
-unfolding slotOf isMet meet isSet setAll isFew hasBits markWord markBit markBits wideStep wideFrom
+-- a key's slot among 8, by its hash
+slotted : slotOf 8 (ascii "##cell=") ≡ 5
+unfolding slotOf wideStep wideFrom
 slotted = refl

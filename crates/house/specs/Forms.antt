@@ -1,5 +1,5 @@
 -- The whole form, as a header's bytes and its entries tell it, and what becomes of it. Assumes nothing.
-use Prim.Native.Nat.{ℕ, _≤_}
+use Prim.Native.Nat.{ℕ}
 use mathlib.Core.Path.{_≡_}
 use mathlib.Core.Bool.{Bool, true, false}
 use mathlib.Core.List.{List, [], _∷_, _++_}
@@ -8,7 +8,6 @@ use lib.Dec.{eqb, leb}
 use lib.ListN.{length}
 use lib.Seq.{sets}
 use Rattle.values.specs.Bytes.{Bytes}
-use Rattle.values.specs.declared.sink.Sink.{Sink}
 use Rattle.values.specs.Written.{last, differing, sooner}
 use Rattle.rules.specs.Sizes.{Limits}
 use Rattle.rules.specs.Lines.{writeLines}
@@ -61,22 +60,12 @@ linedAs room size (some p) = LineTooLong (p .0) (p .1)
 unfoldable pub measuredAs : Limits → ℕ → Progress → FormOutcome
 measuredAs lim room m = elim (leb (m .next .at) (lim .header)) [ true ↦ linedAs room (m .next .at) (longIn m) | false ↦ TooLong ]
 
--- what was put is as long as the header, and did not differ from it, and there is room for it
-pub record IsOwn (end : Sink) (size room : ℕ) (r : Bool) : Type 0 where
-  pub is : r ≡ true → (end .at ≡ size) × (size ≤ end .differs) × (size ≤ room)
-
 -- what becomes of these lines, where the output has `room` bytes
 unfoldable pub outcomeOf : Limits → ℕ → List Bytes → FormOutcome
 outcomeOf lim room ls = elim (leb (length (writeLines ls)) (lim .header)) [
   | true ↦ linedAs room (length (writeLines ls)) (tooLong (lim .line) 0 0 ls)
   | false ↦ TooLong
 ]
-
-abbrev pub isWhole : FormOutcome → Bool
-isWhole (Whole n) = true
-isWhole TooLong = false
-isWhole (LineTooLong l s) = false
-isWhole NoRoom = false
 
 -- the bytes that are written
 abbrev pub writtenOf : FormOutcome → List Bytes → Bytes

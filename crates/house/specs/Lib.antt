@@ -1,6 +1,5 @@
 pub mod Writes
 pub mod Keys
-pub mod Doubles
 pub mod Links
 pub mod Runs
 pub mod Chains

@@ -1,55 +1,58 @@
--- The size of a form whose lines stand in the header as the form writes them: a sum over the entries, in any order. Assumes nothing.
-use Prim.Native.Nat.{ℕ, _+_, _≤_, _<_}
+-- The size of a form: a sum over the lines, in any order. Assumes nothing.
+use Prim.Native.Nat.{ℕ}
 use mathlib.Core.Path.{_≡_}
 use mathlib.Core.Bool.{true, false}
-use mathlib.Core.List.{List, [], _∷_}
+use mathlib.Core.List.{List, [], _∷_, _++_}
 use lib.Dec.{leb}
 use lib.ListN.{length}
 use Rattle.values.specs.Bytes.{Bytes}
-use Rattle.values.specs.Written.{last}
+use Rattle.values.specs.Written.{last, onward}
 use Rattle.rules.specs.Version.{Version}
 use Rattle.rules.specs.Lines.{writeLine}
 use Rattle.rules.specs.Record.{fileformat}
 use Rattle.rules.specs.Entry.{Entry}
 use Rattle.rules.specs.Shown.{lineIn}
 use Rattle.rules.specs.House.{writeRecord}
-use Rattle.house.specs.declared.sizes.Standing.{Standing}
-use Rattle.house.specs.Keys.{isRecord, pick, AreFormed}
-
--- the sum of a number of each line
-unfoldable pub total : (Bytes → ℕ) → List Bytes → ℕ
-total f [] = 0
-total f (l ∷ ls) = f l + total f ls
+use Rattle.forms.specs.Lines.{houseLine}
+use Rattle.house.specs.declared.sizes.Sum.{Sum}
+use Rattle.house.specs.Writes.{Readable}
+use Rattle.house.specs.Keys.{isRecord, pick, AllListed, AreFormed}
 
 -- a line's bytes with its ending
 abbrev pub lineSize : Bytes → ℕ
 lineSize l = length (writeLine l)
 
--- 1 if a line is too long
-abbrev pub excess : ℕ → Bytes → ℕ
-excess limit l = elim (leb (length l) limit) [ true ↦ 0 | false ↦ 1 ]
+-- a size and that of a line more; the largest number stands for no size
+unfoldable pub withLine : ℕ → ℕ → Bytes → ℕ
+withLine limit size l = elim (leb (length l) limit) [ true ↦ onward size (lineSize l) | false ↦ last ]
 
--- the lines of the records, as they stand
-unfoldable pub standing : Bytes → List Entry → List Bytes
-standing h [] = []
-standing h (e ∷ es) = pick (isRecord e) (lineIn h e) (standing h es)
+-- the size of lines of which none is too long
+unfoldable pub sizeOf : ℕ → List Bytes → ℕ
+sizeOf limit [] = 0
+sizeOf limit (l ∷ ls) = withLine limit (sizeOf limit ls) l
 
--- the largest number stands for no size
+-- the form's lines of the records, in the header's order
+unfoldable pub listedLines : Version → Bytes → List Entry → List Bytes
+listedLines v h [] = []
+listedLines v h (e ∷ es) = pick (isRecord e) (houseLine v (lineIn h e)) (listedLines v h es)
 
-pub record AddsLine (limit size : ℕ) (line : Bytes) (r : ℕ) : Type 0 where
-  pub is : r < last → r ≡ size + lineSize line
-  pub short : r < last → length line ≤ limit
+-- the form's line of l more
+pub record AddsPut (limit : ℕ) (v : Version) (size : ℕ) (l : Bytes) (r : ℕ) : Type 0 where
+  pub is : Readable v l → r ≡ withLine limit size (houseLine v l)
 
--- whether all lines stand in form, and then their size; none of them is too long
-pub record Stands (limit : ℕ) (v : Version) (h : Bytes) (es : List Entry) (r : Standing) : Type 0 where
+-- the same, and all lines stand in form only if this one does too
+pub record AddsRecord (limit : ℕ) (v : Version) (s : Sum) (l : Bytes) (r : Sum) : Type 0 where
+  pub formed : r .formed ≡ true → (s .formed ≡ true) × (Readable v l → houseLine v l ≡ l)
+  pub size : Readable v l → r .size ≡ withLine limit (s .size) (houseLine v l)
+
+pub record SumsLines (limit : ℕ) (v : Version) (h : Bytes) (es : List Entry) (r : Sum) : Type 0 where
   pub formed : AreFormed v h es (r .formed)
-  pub is : r .formed ≡ true → r .size < last → r .size ≡ total lineSize (standing h es)
-  pub short : r .formed ≡ true → r .size < last → total (excess limit) (standing h es) ≡ 0
+  pub size : AllListed false v h es → r .size ≡ sizeOf limit (listedLines v h es)
 
 -- the form's lines without the records'
 abbrev pub outerLines : Version → Bytes → List Bytes
 outerLines v columns = writeRecord (fileformat v) ∷ columns ∷ []
 
+-- these lines, and others that take so many bytes
 pub record SizesForm (limit : ℕ) (v : Version) (columns : Bytes) (records r : ℕ) : Type 0 where
-  pub is : r < last → r ≡ records + total lineSize (outerLines v columns)
-  pub short : r < last → total (excess limit) (outerLines v columns) ≡ 0
+  pub is : (ls : List Bytes) → records ≡ sizeOf limit ls → r ≡ sizeOf limit (outerLines v columns ++ ls)

@@ -9,7 +9,6 @@ use entries::notes;
 use entries::table;
 use values::hash;
 ghost use mathlib.Core.Path.{_≡_};
-ghost use mathlib.Core.List.{[]};
 ghost use Prim.Native.Nat.{_^_, _≤_, _<_};
 ghost use lib.ListN.{length};
 ghost use Rattle.entries.specs.Values.{entryOf};
@@ -23,7 +22,7 @@ const WRITTEN: usize = 0x80_0000;
 // The slot of an entry's key, among so many; past them if the key is typed.
 fn slot_in(h: &[u8], e: Entry, slots: usize) -> usize
     requires { ⌜ 0 < slots ⌝ }
-    ensures { λ r. ⌜ r ≡ slotIn (now (h .entry)) [] slots (entryOf e) ⌝ }
+    ensures { λ r. ⌜ r ≡ slotIn (now (h .entry)) slots (entryOf e) ⌝ }
 {
     if !keys::is_other(e) {
         return slots;

@@ -8,7 +8,7 @@ ghost use lib.ListN.{length};
 ghost use lib.Seq.{sets};
 ghost use Rattle.values.specs.Written.{Puts};
 
-pub fn copy(out: &mut [u8], at: usize, text: &[u8])
+fn copy(out: &mut [u8], at: usize, text: &[u8])
     requires { ⌜ at + length (now text) ≤ length (now out) ⌝ }
     ensures { λ _. ⌜ now (out .exit) ≡ sets (now (out .entry)) at (now (text .entry)) ⌝ }
 {

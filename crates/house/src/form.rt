@@ -1,6 +1,5 @@
 // The house form of a header: its size is found first, and it is written if it may stand and fits; and whether a header is in house form,
 // told by measuring it, which holds the form against the header.
-use crate::copying;
 use crate::keys;
 use crate::progress;
 use crate::progress::Progress;
@@ -26,7 +25,7 @@ ghost use Rattle.entries.specs.Tables.{entriesIn};
 ghost use Rattle.entries.specs.Notes.{bare};
 ghost use Rattle.house.specs.Keys.{AreFormed};
 ghost use Rattle.house.specs.Sizes.{SizesForm};
-ghost use Rattle.house.specs.Forms.{columnLine, PutsRecords, PutsForm, isWhole, measuredAs, IsOwn, WritesForm, ComparesForm};
+ghost use Rattle.house.specs.Forms.{columnLine, PutsRecords, PutsForm, measuredAs, WritesForm, ComparesForm};
 ghost use Rattle.header.specs.Verdicts.{imposedOf};
 ghost use Rattle.house.specs.Answers.{refusedAnswer, formAnswered, AnswersForm, HouseCall};
 ghost use Rattle.house.specs.Verdicts.{toldAnswer, verdict, AnswersComparison, IsHouseCall};
@@ -57,19 +56,6 @@ enum FormOutcome {
     TooLong,
     LineTooLong(usize, usize),
     NoRoom,
-}
-
-impl FormOutcome {
-    fn is_whole(self) -> bool
-        ensures { λ r. ⌜ r ≡ isWhole self ⌝ }
-    {
-        match self {
-            FormOutcome::Whole(_) => true,
-            FormOutcome::TooLong => false,
-            FormOutcome::LineTooLong(_, _) => false,
-            FormOutcome::NoRoom => false,
-        }
-    }
 }
 
 // What came of a form that was held against the header, and the first place where it is not the header: the largest number if it all is.
@@ -161,50 +147,6 @@ fn outcome_of(measured: Progress, limits: Limits, room: usize) -> FormOutcome
     FormOutcome::Whole(size)
 }
 
-// Whether a header of `size` bytes is its own form, which was held against it, and fits.
-fn is_own(end: Sink, size: usize, room: usize) -> bool
-    ensures { λ r. ⌜ IsOwn end size room r ⌝ }
-{
-    if end.at != size {
-        return false;
-    }
-    if end.differs < size {
-        return false;
-    }
-    size <= room
-}
-
-// The form is measured by putting it nowhere. A header that is its own form is copied.
-fn write_measured(
-    h: &[u8],
-    kept: &mut [u64],
-    form: Form,
-    version: FileFormat,
-    formed: bool,
-    out: &mut [u8],
-) -> FormOutcome
-    requires formed { ⌜ AreFormed (versionOf version) (now h) (entriesIn form (now kept)) formed ⌝ }
-    requires bare { ⌜ bare (now kept) ≡ now kept ⌝ }
-    ensures lines { λ r. ⌜ WritesForm (limitsBy form) (versionOf version) (now (h .entry)) (entriesIn form (now (kept .entry))) (now (out .entry)) r
-        (now (out .exit)) ⌝ }
-    ensures table { λ _. ⌜ now (kept .exit) ≡ now (kept .entry) ⌝ }
-{
-    let limits = form.limits();
-    let mut nothing = [0u8; 0];
-    let measured = put_form(h, kept, form, version, limits.line, formed, &mut nothing, h);
-    let outcome = outcome_of(measured, limits, out.len());
-    if !outcome.is_whole() {
-        return outcome;
-    }
-    let end = measured.next;
-    if is_own(end, h.len(), out.len()) {
-        copying::copy(out, 0, h);
-        return outcome;
-    }
-    put_form(h, kept, form, version, limits.line, formed, out, b"");
-    outcome
-}
-
 // The size of a form whose records take so many bytes; the largest number if one of its other lines is too long.
 fn size_form(columns: &[u8], version: FileFormat, limit: usize, records: usize) -> usize
     ensures { λ r. ⌜ SizesForm limit (versionOf version) (now (columns .entry)) records r ⌝ }
@@ -227,9 +169,32 @@ fn size_form(columns: &[u8], version: FileFormat, limit: usize, records: usize) 
     progress::count_on(next.at, records)
 }
 
-// Nothing is written unless the whole form may stand and fits. Where all lines stand in form its size is a sum, which costs less than to
-// measure it, since that goes over all keys in the form's order; few entries are measured as soon. Whether the lines stand so is asked
-// once, and not at each putting.
+// The form is held against the header, and written nowhere; the header limit is room enough for it.
+fn compare_form(
+    h: &[u8],
+    kept: &mut [u64],
+    form: Form,
+    version: FileFormat,
+    formed: bool,
+) -> Compared
+    requires formed { ⌜ AreFormed (versionOf version) (now h) (entriesIn form (now kept)) formed ⌝ }
+    requires bare { ⌜ bare (now kept) ≡ now kept ⌝ }
+    ensures lines { λ r. ⌜ ComparesForm (limitsBy form) (versionOf version) (now (h .entry)) (entriesIn form (now (kept .entry))) r ⌝ }
+    ensures table { λ _. ⌜ now (kept .exit) ≡ now (kept .entry) ⌝ }
+{
+    let limits = form.limits();
+    let mut nothing = [0u8; 0];
+    let measured = put_form(h, kept, form, version, limits.line, formed, &mut nothing, h);
+    let outcome = outcome_of(measured, limits, limits.header);
+    let end = measured.next;
+    Compared {
+        outcome,
+        differs: end.differs,
+    }
+}
+
+// Nothing is written unless the whole form may stand and fits. Its size is a sum over the lines as they stand in the header, so that it is
+// put once, in its own order; only where it or a line of it is too long is it put nowhere, to tell which.
 fn write_form(
     h: &[u8],
     kept: &mut [u64],
@@ -243,42 +208,19 @@ fn write_form(
     ensures table { λ _. ⌜ now (kept .exit) ≡ now (kept .entry) ⌝ }
 {
     let limits = form.limits();
-    let standing = sizes::find_standing(h, kept, form, version, limits.line);
-    let formed = standing.formed;
-    if !formed {
-        return write_measured(h, kept, form, version, formed, out);
-    }
-    if kept.len() <= 128 {
-        return write_measured(h, kept, form, version, formed, out);
-    }
+    let sum = sizes::sum_lines(h, kept, form, version, limits.line);
+    let formed = sum.formed;
     let columns = column_line(h, kept, form);
-    let size = size_form(columns, version, limits.line, standing.size);
+    let size = size_form(columns, version, limits.line, sum.size);
     if limits.header < size {
-        return write_measured(h, kept, form, version, formed, out);
+        let compared = compare_form(h, kept, form, version, formed);
+        return compared.outcome;
     }
     if out.len() < size {
         return FormOutcome::NoRoom;
     }
     put_form(h, kept, form, version, limits.line, formed, out, b"");
     FormOutcome::Whole(size)
-}
-
-// The form is held against the header, and written nowhere; the header limit is room enough for it.
-fn compare_form(h: &[u8], kept: &mut [u64], form: Form, version: FileFormat) -> Compared
-    requires bare { ⌜ bare (now kept) ≡ now kept ⌝ }
-    ensures lines { λ r. ⌜ ComparesForm (limitsBy form) (versionOf version) (now (h .entry)) (entriesIn form (now (kept .entry))) r ⌝ }
-    ensures table { λ _. ⌜ now (kept .exit) ≡ now (kept .entry) ⌝ }
-{
-    let limits = form.limits();
-    let mut nothing = [0u8; 0];
-    let formed = keys::are_formed(h, kept, form, version);
-    let measured = put_form(h, kept, form, version, limits.line, formed, &mut nothing, h);
-    let outcome = outcome_of(measured, limits, limits.header);
-    let end = measured.next;
-    Compared {
-        outcome,
-        differs: end.differs,
-    }
 }
 
 fn refuse(x: Refusal, line: usize, start: usize, entries: usize) -> HouseAnswer
@@ -397,7 +339,8 @@ fn judge_accepted(
     ensures lines { λ r. ⌜ AnswersComparison (limitsBy form) read version (now (h .entry)) (entriesIn form (now (kept .entry))) r ⌝ }
     ensures table { λ _. ⌜ now (kept .exit) ≡ now (kept .entry) ⌝ }
 {
-    let compared = compare_form(h, kept, form, version);
+    let formed = keys::are_formed(h, kept, form, version);
+    let compared = compare_form(h, kept, form, version, formed);
     let written = compared.outcome;
     judge(answer(read, written), h.len(), compared.differs)
 }

@@ -21,7 +21,7 @@ ghost use Rattle.entries.specs.Tables.{entriesIn};
 ghost use Rattle.entries.specs.Notes.{bare};
 ghost use Rattle.house.specs.Keys.{isRecord, isUnder, PutsKey, AreFormed, PutsKeys, laterKeys, isTypedRecord, anyTyped, prefixIn, isOtherRecord, PutsOthers};
 ghost use lib.ListN.{length};
-ghost use Rattle.house.specs.Links.{isPast, SeesKey, PutsLinked, PutsFirst, SkipsUnder, SkipsSame, PutsOthersBy};
+ghost use Rattle.house.specs.Links.{SeesKey, PutsLinked, PutsFirst, SkipsUnder, SkipsSame, PutsOthersBy};
 
 // Whether an entry is a map or a text.
 pub fn is_record(e: Entry) -> bool
@@ -188,12 +188,11 @@ fn is_seen(
     form: Form,
     prefix: &[u8],
     slot: usize,
-    twice: &[u64],
     heads: &[u32],
     links: &[u32],
     end: usize,
 ) -> bool
-    ensures { λ r. ⌜ SeesKey form (now (h .entry)) (now (kept .entry)) (now (prefix .entry)) slot (now (twice .entry)) (now (heads .entry)) (now (links .entry)) end r ⌝ }
+    ensures { λ r. ⌜ SeesKey form (now (h .entry)) (now (kept .entry)) (now (prefix .entry)) slot (now (heads .entry)) (now (links .entry)) end r ⌝ }
 {
     let mut k = links::number_at(heads, slot);
     while k < end {
@@ -202,7 +201,7 @@ fn is_seen(
         if is_under(h, e, prefix) {
             return true;
         }
-        k = links::pass_other(h, e, slot, twice, heads, links, k);
+        k = links::pass_other(h, e, slot, heads, links, k);
     }
     false
 }
@@ -214,7 +213,6 @@ fn put_linked(
     form: Form,
     prefix: &[u8],
     slot: usize,
-    twice: &[u64],
     heads: &[u32],
     links: &[u32],
     first: usize,
@@ -223,7 +221,7 @@ fn put_linked(
     given: &[u8],
     s: Progress,
 ) -> Progress
-    ensures { λ r. ⌜ PutsLinked form (versionOf version) (now (h .entry)) (now (kept .entry)) (now (prefix .entry)) slot (now (twice .entry)) (now (heads .entry)) (now (links .entry)) first
+    ensures { λ r. ⌜ PutsLinked form (versionOf version) (now (h .entry)) (now (kept .entry)) (now (prefix .entry)) slot (now (heads .entry)) (now (links .entry)) first
         (now (given .entry)) (now (out .entry)) s r (now (out .exit)) ⌝ }
 {
     let mut progress = s;
@@ -244,20 +242,10 @@ fn put_linked(
                 k = links::next_of(slot, heads, links, run.end);
             }
         } else {
-            k = links::pass_other(h, e, slot, twice, heads, links, near);
+            k = links::pass_other(h, e, slot, heads, links, near);
         }
     }
     progress
-}
-
-// Whether a key has no slot though there are some: one entry only has it.
-fn is_alone(heads: &[u32], slot: usize) -> bool
-    ensures { λ r. ⌜ r ≡ isPast (length (now (heads .entry))) slot ⌝ }
-{
-    if heads.len() == 0 {
-        return false;
-    }
-    heads.len() <= slot
 }
 
 // The lines of the key of entry number k, if that is not typed and no entry before is under it.
@@ -265,7 +253,6 @@ fn put_if_first(
     h: &[u8],
     kept: &[u64],
     form: Form,
-    twice: &[u64],
     heads: &[u32],
     links: &[u32],
     k: usize,
@@ -274,7 +261,7 @@ fn put_if_first(
     given: &[u8],
     s: Progress,
 ) -> Progress
-    ensures { λ r. ⌜ PutsFirst form (versionOf version) (now (h .entry)) (now (kept .entry)) (now (twice .entry)) (now (heads .entry)) (now (links .entry)) k (now (given .entry)) (now (out .entry)) s r
+    ensures { λ r. ⌜ PutsFirst form (versionOf version) (now (h .entry)) (now (kept .entry)) (now (heads .entry)) (now (links .entry)) k (now (given .entry)) (now (out .entry)) s r
         (now (out .exit)) ⌝ }
 {
     let e = table::get(kept, form, k);
@@ -282,11 +269,8 @@ fn put_if_first(
         return s;
     }
     let prefix = prefix_part(h, e);
-    let slot = links::slot_of(twice, heads, prefix);
-    if is_alone(heads, slot) {
-        return progress::put_entry(part::line_part(h, e), version, out, given, s);
-    }
-    if is_seen(h, kept, form, prefix, slot, twice, heads, links, k) {
+    let slot = links::slot_of(heads, prefix);
+    if is_seen(h, kept, form, prefix, slot, heads, links, k) {
         return s;
     }
     put_linked(
@@ -295,7 +279,6 @@ fn put_if_first(
         form,
         prefix,
         slot,
-        twice,
         heads,
         links,
         k,
@@ -337,20 +320,19 @@ fn skip_same(h: &[u8], kept: &[u64], form: Form, heads: &[u32], k: usize) -> usi
     skip_under(h, kept, form, prefix_part(h, e), next)
 }
 
-// The other keys, by first appearance, where the entries are linked and the keys of several are marked in `twice`.
+// The other keys, by first appearance, where the entries are linked.
 fn put_others_by(
     h: &[u8],
     kept: &[u64],
     form: Form,
     version: FileFormat,
-    twice: &[u64],
     heads: &[u32],
     links: &[u32],
     out: &mut [u8],
     given: &[u8],
     s: Progress,
 ) -> Progress
-    ensures { λ r. ⌜ PutsOthersBy form (versionOf version) (now (h .entry)) (now (kept .entry)) (now (twice .entry)) (now (heads .entry)) (now (links .entry)) (now (given .entry)) (now (out .entry)) s r
+    ensures { λ r. ⌜ PutsOthersBy form (versionOf version) (now (h .entry)) (now (kept .entry)) (now (heads .entry)) (now (links .entry)) (now (given .entry)) (now (out .entry)) s r
         (now (out .exit)) ⌝ }
 {
     let mut progress = s;
@@ -360,7 +342,6 @@ fn put_others_by(
             h,
             kept,
             form,
-            twice,
             heads,
             links,
             k,
@@ -374,7 +355,7 @@ fn put_others_by(
     progress
 }
 
-// The same, where `heads` and `links` are to be filled, and no keys are marked: any may be that of several.
+// The same, where `heads` and `links` are to be filled.
 fn put_others_linked(
     h: &[u8],
     kept: &[u64],
@@ -388,9 +369,8 @@ fn put_others_linked(
 ) -> Progress
     ensures { λ r. ⌜ PutsOthers (versionOf version) (now (h .entry)) (entriesIn form (now (kept .entry))) (now (given .entry)) (now (out .entry)) s r (now (out .exit)) ⌝ }
 {
-    let twice = &kept[..0];
-    links::link_all(h, kept, form, twice, heads, links);
-    put_others_by(h, kept, form, version, twice, heads, links, out, given, s)
+    links::link_all(h, kept, form, heads, links);
+    put_others_by(h, kept, form, version, heads, links, out, given, s)
 }
 
 // The other keys where there are more entries than links. No header that was read has so many that a note can't hold their numbers.
@@ -512,18 +492,7 @@ fn put_others_few(
     ensures { λ r. ⌜ PutsOthers (versionOf version) (now (h .entry)) (entriesIn form (now (kept .entry))) (now (given .entry)) (now (out .entry)) s r (now (out .exit)) ⌝ }
 {
     let unlinked = [0u32; 0];
-    put_others_by(
-        h,
-        kept,
-        form,
-        version,
-        &kept[..0],
-        &unlinked,
-        &unlinked,
-        out,
-        given,
-        s,
-    )
+    put_others_by(h, kept, form, version, &unlinked, &unlinked, out, given, s)
 }
 
 // The other keys, by first appearance.

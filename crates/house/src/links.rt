@@ -1,40 +1,36 @@
-// Where the entries of a key stand, so that they are found without looking at all. A key that several entries may have has a slot, by its
-// hash; a head is the number of the first entry of its slot, and the link of number k, of the entry before number k, is that of the next
-// entry of this one's slot, or a smaller one where several numbers have one link.
+// Where the entries of a key stand, so that they are found without looking at all. A key that is not typed has a slot, by its hash; a head
+// is the number of the first entry of its slot, and the link of number k, of the entry before number k, is that of the next entry of this
+// one's slot, or a smaller one where several numbers have one link.
 use crate::keys;
 use entries::entry::Entry;
 use entries::form::Form;
 use entries::table;
 use values::hash;
-use values::marks;
 ghost use mathlib.Core.Path.{_≡_};
 ghost use Prim.Native.Nat.{_≤_};
 ghost use lib.ListN.{length, getD};
 ghost use Rattle.entries.specs.Values.{entryOf};
 ghost use Rattle.house.specs.Links.{slotOf, slotIn, cellOf, TakesPlace, Lowers, Links, NextIs, PassesOther};
 
-// The slot of a key, among those of `heads`; past them if it is not marked in `twice`.
-pub fn slot_of(twice: &[u64], heads: &[u32], prefix: &[u8]) -> usize
-    ensures { λ r. ⌜ r ≡ slotOf (now (twice .entry)) (length (now (heads .entry))) (now (prefix .entry)) ⌝ }
+// The slot of a key, among those of `heads`.
+pub fn slot_of(heads: &[u32], prefix: &[u8]) -> usize
+    ensures { λ r. ⌜ r ≡ slotOf (length (now (heads .entry))) (now (prefix .entry)) ⌝ }
 {
     if heads.len() == 0 {
         return 0;
     }
     let hash = hash::wide_from(hash::WIDE_BASIS, prefix, false);
-    if !marks::is_met(twice, hash) {
-        return heads.len();
-    }
     (hash::wide_step(hash, 0) % (heads.len() as u64)) as usize
 }
 
-// That of an entry's key; past them too if the key is typed.
-fn slot_in(h: &[u8], e: Entry, twice: &[u64], heads: &[u32]) -> usize
-    ensures { λ r. ⌜ r ≡ slotIn (now (h .entry)) (now (twice .entry)) (length (now (heads .entry))) (entryOf e) ⌝ }
+// That of an entry's key; past them if the key is typed.
+fn slot_in(h: &[u8], e: Entry, heads: &[u32]) -> usize
+    ensures { λ r. ⌜ r ≡ slotIn (now (h .entry)) (length (now (heads .entry))) (entryOf e) ⌝ }
 {
     if !keys::is_other(e) {
         return heads.len();
     }
-    slot_of(twice, heads, keys::prefix_part(h, e))
+    slot_of(heads, keys::prefix_part(h, e))
 }
 
 fn wide(n: u32) -> usize
@@ -64,13 +60,13 @@ fn short_of(n: usize) -> u32
 }
 
 // Entry number k becomes the head of its slot, and the head that was there is given back.
-fn take_place(h: &[u8], e: Entry, k: usize, twice: &[u64], heads: &mut [u32]) -> u32
-    ensures { λ r. ⌜ TakesPlace (now (h .entry)) (now (twice .entry)) (entryOf e) k (now (heads .entry)) r (now (heads .exit)) ⌝ }
+fn take_place(h: &[u8], e: Entry, k: usize, heads: &mut [u32]) -> u32
+    ensures { λ r. ⌜ TakesPlace (now (h .entry)) (entryOf e) k (now (heads .entry)) r (now (heads .exit)) ⌝ }
 {
     if !keys::is_other(e) {
         return 0xFFFF_FFFF;
     }
-    let slot = slot_of(twice, heads, keys::prefix_part(h, e));
+    let slot = slot_of(heads, keys::prefix_part(h, e));
     if heads.len() <= slot {
         return 0xFFFF_FFFF;
     }
@@ -106,21 +102,14 @@ fn lower(links: &mut [u32], k: usize, next: u32)
 }
 
 // Links all entries that have slots, whatever stands in `heads` and `links`.
-pub fn link_all(
-    h: &[u8],
-    kept: &[u64],
-    form: Form,
-    twice: &[u64],
-    heads: &mut [u32],
-    links: &mut [u32],
-)
-    ensures { λ _. ⌜ Links form (now (h .entry)) (now (kept .entry)) (now (twice .entry)) (now (heads .exit)) (now (links .exit)) 0 ⌝ }
+pub fn link_all(h: &[u8], kept: &[u64], form: Form, heads: &mut [u32], links: &mut [u32])
+    ensures { λ _. ⌜ Links form (now (h .entry)) (now (kept .entry)) (now (heads .exit)) (now (links .exit)) 0 ⌝ }
 {
     let mut k = table::count(kept, form);
     while 0 < k {
         let after = k;
         k -= 1;
-        let next = take_place(h, table::get(kept, form, k), k, twice, heads);
+        let next = take_place(h, table::get(kept, form, k), k, heads);
         lower(links, after, next);
     }
 }
@@ -140,21 +129,13 @@ pub fn next_of(slot: usize, heads: &[u32], links: &[u32], k: usize) -> usize
 }
 
 // The same after any entry: number k, if it is not of this slot.
-pub fn pass_other(
-    h: &[u8],
-    e: Entry,
-    slot: usize,
-    twice: &[u64],
-    heads: &[u32],
-    links: &[u32],
-    k: usize,
-) -> usize
-    ensures { λ r. ⌜ PassesOther (now (h .entry)) (now (twice .entry)) (entryOf e) slot (now (heads .entry)) (now (links .entry)) k r ⌝ }
+pub fn pass_other(h: &[u8], e: Entry, slot: usize, heads: &[u32], links: &[u32], k: usize) -> usize
+    ensures { λ r. ⌜ PassesOther (now (h .entry)) (entryOf e) slot (now (heads .entry)) (now (links .entry)) k r ⌝ }
 {
     if heads.len() <= slot {
         return k;
     }
-    if slot_in(h, e, twice, heads) != slot {
+    if slot_in(h, e, heads) != slot {
         return k;
     }
     next_of(slot, heads, links, k)

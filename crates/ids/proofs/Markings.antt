@@ -1,18 +1,20 @@
 -- Marks: what they tell of the entries. Assumes nothing.
-use Prim.Native.Nat.{ℕ, zero, suc, _+_, _-_, _≤_, _<_}
+use Prim.Native.Nat.{ℕ, zero, suc, _+_, _-_, _*_, _^_, _≤_, _<_}
 use native.Mathlib.Omega.{arith}
 use mathlib.Core.Path.{_≡_, refl, sym, ap, subst, _∙_}
-use mathlib.Core.Bool.{Bool, true, false, not, _&&_, _||_, false≢true}
+use mathlib.Core.Bool.{Bool, true, false, not, _&&_, false≢true, true≢false}
 use mathlib.Core.List.{List, [], _∷_, _++_, append-assoc}
 use lib.Dec.{eqb, leb, ltb}
-use lib.ListN.{length, drop, getD, take, take-append-drop, length-append, List·getD-eq-default}
-use lib.Seq.{take-at, drop-drop, take-append-seam, getD-drop, getD-append-seam}
-use borrow.Author.Tests.{eqb-true, eqb-false, ltb-true, ltb-false, leb-true, leb-false, lt-leb, lt-ltb, le-ltb, ne-eqb, eq-eqb}
+use lib.ListN.{length, getD, drop, take, length-append, length-drop, length-take}
+use lib.Seq.{take-at, getD-take, getD-drop}
+use borrow.Author.Tests.{eqb-true, eqb-false, ltb-true, ltb-false, leb-true, leb-false, lt-leb, le-leb, lt-ltb, le-ltb, ne-eqb, eq-eqb}
+use mir.Syntax.{w64}
+use mir.Val.{Fits}
 use Rattle.values.specs.Bytes.{Bytes, is, any, before, starts, same}
 use Rattle.values.specs.Value.{meaning}
 use Rattle.values.specs.Hash.{wideBasis, wideStep, wideFrom}
-use Rattle.values.specs.Marks.{isMet, meet}
-use Rattle.values.proofs.Tests.{pass, fail, test, or-l, or-r, and-l, and-r, not-true, not-false}
+use Rattle.values.specs.Marks.{isMet, meet, isNoted}
+use Rattle.values.proofs.Tests.{pass, fail, test, and-l, and-r, not-true, not-false}
 use Rattle.values.proofs.Sames.{same-sound}
 use Rattle.values.proofs.Lists.{before-none, before-stop}
 use Rattle.values.proofs.Fields.{before-part}
@@ -26,10 +28,10 @@ use Rattle.entries.specs.declared.form.Form.{Form}
 use Rattle.entries.specs.Tables.{room, entriesIn, entryIn}
 use Rattle.entries.proofs.Stored.{entries-here, entries-past}
 use Rattle.ids.specs.Clashes.{prefixOf, Prefixes, hasKey, keySeen, isOfKey, isOfId, idSeen, clashBy, clashIn}
-use Rattle.ids.specs.Marks.{keyHash, prefixHash, underHash, idHash, markUnder, markEntry, Marked, MarkedFrom, markId, markKey, markMap, markNames, markNoted, isFar, AheadMarked, isSought, keyFound, idFound, clashFound}
-use Rattle.ids.specs.Ahead.{isEnd, isCut, isOpened, isEnded, idEnds, keyEnds, isRival, rivalEnds, NewName, runFrom, runNoted, textNoted, mapNoted, hasEscape, notesFrom, isNear, NextNear}
+use Rattle.ids.specs.Names.{keyHash, prefixHash, underHash, idHash, otherSort, idEnd, fourAt, tailHash}
+use Rattle.ids.specs.Ahead.{hashNoted, quotedNoted, textNear, sortNoted, IdNamed, KeyNamed, Named}
+use Rattle.ids.specs.Marks.{markUnder, markEntry, Marked, idNoted, keyNoted, MarkedFor, IdSpared, KeySpared, Spared, NextNear, markId, markKey, markNames, markNoted, keyFound, idFound, clashFound}
 use Rattle.ids.proofs.Seen.{met-by}
-use Rattle.ids.proofs.Aheads.{either-way, nameEnds, new-id, Noted, noted, name-as, rival-key, run-away, text-away, away-kind, away-from}
 use Rattle.rules.specs.Claims.{All, keyIn}
 use Rattle.rules.proofs.Records.{starts-is}
 
@@ -74,22 +76,22 @@ one-kept h key e ms hash a =
       ]
     ]
 
--- what is marked is so whatever stands ahead
-pub marked-from : (h : Bytes) (from : ℕ) (ms : List ℕ) (e : Entry) → Marked h ms e → MarkedFrom h from ms e
-marked-from h from ms e m = record { id = λ a b k n. m .id a b; key = λ a b n. m .key a b }
+-- what is marked is so whatever was noted
+pub marked-for : (h : Bytes) (ns ms : List ℕ) (e : Entry) → Marked h ms e → MarkedFor h ns ms e
+marked-for h ns ms e m = record { id = λ a b n. m .id a b; key = λ a b n. m .key a b }
 
 -- where all that was met is so still
-kept-from : (h : Bytes) (from : ℕ) (ms ms′ : List ℕ) → ((hash : ℕ) → isMet ms hash ≡ true → isMet ms′ hash ≡ true) → (es : List Entry) → All (MarkedFrom h from ms) es → All (MarkedFrom h from ms′) es
-kept-from h from ms ms′ f [] a = tt
-kept-from h from ms ms′ f (x ∷ es) a = (record { id = λ b c k n. f _ (a .0 .id b c k n); key = λ b c n. f _ (a .0 .key b c n) }, kept-from h from ms ms′ f es (a .1))
+kept-for : (h : Bytes) (ns ms ms′ : List ℕ) → ((hash : ℕ) → isMet ms hash ≡ true → isMet ms′ hash ≡ true) → (es : List Entry) → All (MarkedFor h ns ms) es → All (MarkedFor h ns ms′) es
+kept-for h ns ms ms′ f [] a = tt
+kept-for h ns ms ms′ f (x ∷ es) a = (record { id = λ b c n. f _ (a .0 .id b c n); key = λ b c n. f _ (a .0 .key b c n) }, kept-for h ns ms ms′ f es (a .1))
 
-pub under-kept : (h : Bytes) (from key : ℕ) (e : Entry) (ms : List ℕ) (es : List Entry) → All (MarkedFrom h from ms) es → All (MarkedFrom h from (markUnder h key e ms)) es
-under-kept h from key e ms = kept-from h from ms (markUnder h key e ms) (one-kept h key e ms)
+pub under-kept : (h : Bytes) (ns : List ℕ) (key : ℕ) (e : Entry) (ms : List ℕ) (es : List Entry) → All (MarkedFor h ns ms) es → All (MarkedFor h ns (markUnder h key e ms)) es
+under-kept h ns key e ms = kept-for h ns ms (markUnder h key e ms) (one-kept h key e ms)
 
 -- where there are no marks, all may have been met
-pub unmarked-all : (h : Bytes) (from : ℕ) (es : List Entry) (ms : Bytes) → length ms ≡ 0 → All (MarkedFrom h from ms) es
-unmarked-all h from [] ms z = tt
-unmarked-all h from (e ∷ es) ms z = (record { id = λ a b k n. sym (none-met ms _ z); key = λ a b n. sym (none-met ms _ z) }, unmarked-all h from es ms z)
+pub unmarked-all : (h : Bytes) (ns : List ℕ) (es : List Entry) (ms : Bytes) → length ms ≡ 0 → All (MarkedFor h ns ms) es
+unmarked-all h ns [] ms z = tt
+unmarked-all h ns (e ∷ es) ms z = (record { id = λ a b n. sym (none-met ms _ z); key = λ a b n. sym (none-met ms _ z) }, unmarked-all h ns es ms z)
 
 -- What the scans find is marked
 
@@ -121,23 +123,17 @@ prefix-own h prefix e own = elim (test (ltb (e .kind) 7)) [
       rw (prefixHash, keyHash, l, le-ltb (length prefix) 3 (omega arith), m, own) (ap (wideFrom wideBasis) (take-at k (61 ∷ []) (length k) refl))
 ]
 
--- where all that is there is marked of what stands as was looked for, nothing is lost by not looking for what is not
-sought-sure : (met sought seen : Bool) → (sought ≡ true → seen ≡ true → met ≡ true) → ((met || not sought) && seen) ≡ seen
-sought-sure met true seen f = sure (met || false) seen (λ s. rw (f refl s))
-sought-sure met false seen f = sure (met || true) seen (λ s. either-way met)
+sort-small : (kind : ℕ) → (7 ≤ otherSort kind) × (otherSort kind ≤ 8)
+unfolding otherSort
+sort-small kind = elim (test (eqb kind 7)) [ pass k ↦ rw (otherSort, k) (omega arith, omega arith) | fail k ↦ rw (otherSort, k) (omega arith, omega arith) ]
 
 -- e is the new entry, whose line begins with the prefix
-module _ (h : Bytes) (from : ℕ) (ms : List ℕ) (prefix : Bytes) (e : Entry) (own : prefix ≡ prefixOf (keyIn (lineIn h e))) where
+module _ (h : Bytes) (ns ms : List ℕ) (prefix : Bytes) (e : Entry) (own : prefix ≡ prefixOf (keyIn (lineIn h e))) where
   key-is : (x : Entry) → starts prefix (lineIn h x) ≡ true → keyIn (lineIn h x) ≡ keyIn (lineIn h e)
   key-is x s = key-own (keyIn (lineIn h e)) (lineIn h x) (before-none (is 61) (drop 2 (lineIn h e))) (ap (λ (p : Bytes). starts p (lineIn h x)) (sym own) ∙ s)
 
   same-key : 7 ≤ e .kind → (x : Entry) → 7 ≤ x .kind → starts prefix (lineIn h x) ≡ true → keyHash h x ≡ keyHash h e
   same-key l x m s = sym (hash-other h x m) ∙ ap (wideFrom wideBasis) (key-is x s) ∙ hash-other h e l
-
-  -- the key of an entry stands ahead where the new one's does
-  key-there : (x : Entry) → x .kind ≡ e .kind → isOfKey h prefix (e .kind) x ≡ true → (7 ≤ e .kind → NewName keyEnds h from (keyIn (lineIn h e))) → 7 ≤ x .kind → NewName keyEnds h from (keyIn (lineIn h x))
-  unfolding isOfKey
-  key-there x k u w l = subst (NewName keyEnds h from) (sym (key-is x (rw (le-ltb (e .kind) 7 (omega arith)) at u))) (w (omega arith))
 
   same-id-key : (x : Entry) → x .kind ≡ e .kind → isOfKey h prefix (e .kind) x ≡ true → keyHash h x ≡ keyHash h e
   unfolding isOfKey
@@ -146,109 +142,118 @@ module _ (h : Bytes) (from : ℕ) (ms : List ℕ) (prefix : Bytes) (e : Entry) (
     | fail l ↦ let t = ltb-false (e .kind) 7 l in same-key t x (omega arith) (rw l at u)
   ]
 
-  key-marked : 7 ≤ e .kind → (kind : ℕ) → NewName (rivalEnds kind) h from (keyIn (lineIn h e)) → 7 ≤ kind → kind ≤ 8 → (es : List Entry) → All (MarkedFrom h from ms) es
+  key-marked : 7 ≤ e .kind → (kind : ℕ) → sortNoted ns kind ≡ true → hashNoted ns (underHash (keyHash h e) kind) ≡ true → 7 ≤ kind → kind ≤ 8 → (es : List Entry) → All (MarkedFor h ns ms) es
       → keySeen h prefix kind es ≡ true → isMet ms (underHash (keyHash h e) kind) ≡ true
   unfolding keySeen hasKey
-  key-marked o kind w l m [] a f = absurd (false≢true f)
-  key-marked o kind w l m (x ∷ es) a f = elim (test (hasKey h prefix kind x)) [
+  key-marked o kind v w l m [] a f = absurd (false≢true f)
+  key-marked o kind v w l m (x ∷ es) a f = elim (test (hasKey h prefix kind x)) [
     | pass g ↦
         let k = eqb-true (x .kind) kind (and-l (eqb (x .kind) kind) (starts prefix (lineIn h x)) g) in
         let s = and-r (eqb (x .kind) kind) (starts prefix (lineIn h x)) g in
-        let v = subst (λ (n : ℕ). NewName (rivalEnds n) h from (keyIn (lineIn h x))) (sym k) (subst (NewName (rivalEnds kind) h from) (sym (key-is x s)) w) in
-        subst (λ (c : ℕ). isMet ms (underHash c kind) ≡ true) (same-key o x (omega arith) s)
-        (subst (λ (n : ℕ). isMet ms (underHash (keyHash h x) n) ≡ true) k (a .0 .key (omega arith) (omega arith) v))
-    | fail g ↦ key-marked o kind w l m es (a .1) (rw g at f)
+        let c = same-key o x (omega arith) s in
+        subst (λ (c : ℕ). isMet ms (underHash c kind) ≡ true) c
+        (subst (λ (n : ℕ). isMet ms (underHash (keyHash h x) n) ≡ true) k (a .0 .key (omega arith) (omega arith) (rw (c, k, v, w))))
+    | fail g ↦ key-marked o kind v w l m es (a .1) (rw g at f)
   ]
 
-  id-marked : 2 ≤ e .kind → e .kind ≤ 7 → (7 ≤ e .kind → NewName keyEnds h from (keyIn (lineIn h e))) → NewName idEnds h from (idMeaning h e) → (es : List Entry) → All (MarkedFrom h from ms) es → idSeen h prefix (e .kind) (idMeaning h e) es ≡ true → isMet ms (idHash (keyHash h e) (e .kind) (idMeaning h e)) ≡ true
+  id-marked : 2 ≤ e .kind → e .kind ≤ 7 → IdNamed h ns e → (es : List Entry) → All (MarkedFor h ns ms) es → idSeen h prefix (e .kind) (idMeaning h e) es ≡ true
+      → isMet ms (idHash (keyHash h e) (e .kind) (idMeaning h e)) ≡ true
   unfolding idSeen isOfId
-  id-marked n l v w [] a f = absurd (false≢true f)
-  id-marked n l v w (x ∷ es) a f = elim (test (isOfId h prefix (e .kind) (idMeaning h e) x)) [
+  id-marked n l v [] a f = absurd (false≢true f)
+  id-marked n l v (x ∷ es) a f = elim (test (isOfId h prefix (e .kind) (idMeaning h e) x)) [
     | pass g ↦
         let k = eqb-true (x .kind) (e .kind) (and-l (eqb (x .kind) (e .kind)) (isOfKey h prefix (e .kind) x && same (idMeaning h x) (idMeaning h e)) g) in
         let r = and-r (eqb (x .kind) (e .kind)) (isOfKey h prefix (e .kind) x && same (idMeaning h x) (idMeaning h e)) g in
-        let o = and-l (isOfKey h prefix (e .kind) x) (same (idMeaning h x) (idMeaning h e)) r in
-        let b = same-id-key x k o in
+        let b = same-id-key x k (and-l (isOfKey h prefix (e .kind) x) (same (idMeaning h x) (idMeaning h e)) r) in
         let i = same-sound (idMeaning h x) (idMeaning h e) (and-r (isOfKey h prefix (e .kind) x) (same (idMeaning h x) (idMeaning h e)) r) in
-        subst (λ (c : ℕ). isMet ms (idHash c (e .kind) (idMeaning h e)) ≡ true) b
-        (subst (λ (n : ℕ). isMet ms (idHash (keyHash h x) n (idMeaning h e)) ≡ true) k
-        (subst (λ (y : Bytes). isMet ms (idHash (keyHash h x) (x .kind) y) ≡ true) i (a .0 .id (omega arith) (omega arith) (key-there x k o v) (subst (NewName idEnds h from) (sym i) w))))
-    | fail g ↦ id-marked n l v w es (a .1) (rw g at f)
+        let hash : idHash (keyHash h x) (x .kind) (idMeaning h x) ≡ idHash (keyHash h e) (e .kind) (idMeaning h e) = rw (b, i, k) in
+        let noted : idNoted h ns x ≡ true = rw (v .near (x .quoted) (idIn h x) i) (ap (hashNoted ns) hash ∙ v .hash) in
+        subst (λ (n : ℕ). isMet ms n ≡ true) hash (a .0 .id (omega arith) (omega arith) noted)
+    | fail g ↦ id-marked n l v es (a .1) (rw g at f)
   ]
 
-  key-sure : 7 ≤ e .kind → (kind : ℕ) → (isSought h prefix kind e ≡ true → NewName (rivalEnds kind) h from (keyIn (lineIn h e))) → 7 ≤ kind → kind ≤ 8 → (es : List Entry) → All (MarkedFrom h from ms) es
-      → keyFound h es ms prefix (keyHash h e) kind e ≡ keySeen h prefix kind es
+  key-sure : 7 ≤ e .kind → KeyNamed h ns e → (es : List Entry) → All (MarkedFor h ns ms) es → keyFound h es ms prefix (keyHash h e) (otherSort (e .kind)) ≡ keySeen h prefix (otherSort (e .kind)) es
   unfolding keyFound
-  key-sure o kind w l m es a = sought-sure (isMet ms (underHash (keyHash h e) kind)) (isSought h prefix kind e) (keySeen h prefix kind es) (λ d f. key-marked o kind (w d) l m es a f)
+  key-sure o v es a =
+      let s = sort-small (e .kind) in
+      sure (isMet ms (underHash (keyHash h e) (otherSort (e .kind)))) (keySeen h prefix (otherSort (e .kind)) es) (λ f. key-marked o (otherSort (e .kind)) (v .sort) (v .hash) (s .0) (s .1) es a f)
 
-  id-sure : 2 ≤ e .kind → e .kind ≤ 7 → (7 ≤ e .kind → NewName keyEnds h from (keyIn (lineIn h e))) → from ≤ e .start → (es : List Entry) → All (MarkedFrom h from ms) es → idFound h es ms prefix (keyHash h e) e ≡ idSeen h prefix (e .kind) (idMeaning h e) es
+  id-sure : 2 ≤ e .kind → e .kind ≤ 7 → IdNamed h ns e → (es : List Entry) → All (MarkedFor h ns ms) es → idFound h es ms prefix (keyHash h e) e ≡ idSeen h prefix (e .kind) (idMeaning h e) es
   unfolding idFound
-  id-sure n l v b es a =
-      sought-sure (isMet ms (idHash (keyHash h e) (e .kind) (idMeaning h e))) (isOpened h e && isEnded h e) (idSeen h prefix (e .kind) (idMeaning h e) es) (λ d f. id-marked n l v (new-id h from e b d) es a f)
-
--- a byte that begins a rival's value does so whatever follows
-rival-more : (kind n : ℕ) (s y : Bytes) → isRival kind (getD s n 0) ≡ true → isRival kind (getD (s ++ y) n 0) ≡ true
-rival-more kind n [] y d = elim (test (eqb kind textKind)) [ pass k ↦ absurd (false≢true (rw k at d)) | fail k ↦ rw k ]
-rival-more kind zero (x ∷ s) y d = d
-rival-more kind (suc n) (x ∷ s) y d = rival-more kind n s y d
-
--- the key of a new line, which begins with its prefix
-new-key : (h : Bytes) (from : ℕ) (e : Entry) → from ≤ e .start → (prefix : Bytes) → Prefixes prefix (lineIn h e) → (kind : ℕ) → isSought h prefix kind e ≡ true → NewName (rivalEnds kind) h from (keyIn (lineIn h e))
-unfolding lineIn isCut isEnd isSought
-new-key h from e b prefix own kind d =
-    let l = lineIn h e in
-    let k = keyIn l in
-    let r = drop (length (prefixOf k)) l in
-    let y = drop (e .length) (drop (e .start) h) in
-    let line : l ++ y ≡ drop (e .start) h = take-append-drop (e .length) (drop (e .start) h) in
-    let first = ap (λ (p : Bytes). starts p l) (sym (own .key)) ∙ own .first in
-    let whole : drop (e .start) h ≡ prefixOf k ++ (r ++ y) = sym line ∙ ap (_++ y) (starts-is (prefixOf k) l first) ∙ append-assoc (prefixOf k) r y in
-    let two : e .start + 1 + 1 ≡ e .start + 2 = omega arith in
-    let rest : drop (e .start + 1 + 1) h ≡ k ++ 61 ∷ (r ++ y) = rw two (sym (drop-drop 2 (e .start) h)) ∙ ap (drop 2) whole ∙ append-assoc k (61 ∷ []) (r ++ y) in
-    let hash : getD h (e .start + 1) 0 ≡ 35 = sym (getD-drop (e .start) h 1 0) ∙ ap (λ (x : Bytes). getD x 1 0) whole in
-    let end : getD h (e .start + 1 + 1 + length k) 0 ≡ 61 = sym (getD-drop (e .start + 1 + 1) h (length k) 0) ∙ ap (λ (x : Bytes). getD x (length k) 0) rest ∙ getD-append-seam k 61 (r ++ y) 0 in
-    let past : length prefix ≡ 2 + length k + 1 = ap length (own .key) ∙ rw (length-append k (61 ∷ [])) (omega arith) in
-    let next : e .start + 1 + 1 + length k + 1 ≡ e .start + length prefix = omega arith in
-    let rival : isRival kind (getD h (e .start + length prefix) 0) ≡ true
-    = subst (λ (x : ℕ). isRival kind x ≡ true) (ap (λ (x : Bytes). getD x (length prefix) 0) line ∙ getD-drop (e .start) h (length prefix) 0) (rival-more kind (length prefix) l y d) in
-    record {
-      at = e .start + 1;
-      size = length k;
-      quoted = false;
-      behind = omega arith;
-      opened = ap isCut hash;
-      text = sym (ap (take (length k)) rest ∙ take-append-seam k (61 ∷ (r ++ y)));
-      ended = rw (end, next) rival;
-    }
+  id-sure n l v es a = sure (isMet ms (idHash (keyHash h e) (e .kind) (idMeaning h e))) (idSeen h prefix (e .kind) (idMeaning h e) es) (λ f. id-marked n l v es a f)
 
 -- of a typed kind no key is asked for
 typed-only : (kind : ℕ) (i m n x y : Bool) → kind < 7 → clashBy kind i m x ≡ clashBy kind i n y
 unfolding clashBy
 typed-only kind i m n x y l = rw (clashBy, lt-ltb kind 7 l)
 
--- past the other maps no ID is asked for
-other-clash : (kind : ℕ) (i j m x : Bool) → 7 < kind → clashBy kind i m x ≡ clashBy kind j m x
+-- of a map only whether there are texts
+map-only : (kind : ℕ) (i t x y : Bool) → kind ≡ 7 → clashBy kind i t x ≡ clashBy kind i t y
 unfolding clashBy
-other-clash kind i j m x l = rw (clashBy, le-ltb kind 7 (omega arith), ne-eqb kind 7 (λ k. omega arith))
+map-only kind i t x y k = rw (clashBy, le-ltb kind 7 (omega arith), eq-eqb kind 7 k)
 
--- where all entries are marked that it may clash with, what is not marked is not among them
-pub clash-sure : (h : Bytes) (from : ℕ) (es : List Entry) (ms : List ℕ) (prefix : Bytes) (e : Entry) → Prefixes prefix (lineIn h e) → 2 ≤ e .kind
-    → from ≤ e .start → All (MarkedFrom h from ms) es → clashFound h es ms prefix e ≡ clashIn h es prefix e
-unfolding isSought
-clash-sure h from es ms prefix e own n b a =
-    let w = new-key h from e b prefix own in
-    let v = rival-key (mapKind other) (w (mapKind other) refl) in
+-- and past the maps no ID, and whether there are maps
+other-clash : (kind : ℕ) (i j t s m : Bool) → 7 < kind → clashBy kind i t m ≡ clashBy kind j s m
+unfolding clashBy
+other-clash kind i j t s m l = rw (clashBy, le-ltb kind 7 (omega arith), ne-eqb kind 7 (λ k. omega arith))
+
+-- where all entries are marked of which a name was noted, and its names were, what is not marked is not among them
+pub clash-sure : (h : Bytes) (ns : List ℕ) (es : List Entry) (ms : List ℕ) (prefix : Bytes) (e : Entry) → Prefixes prefix (lineIn h e) → 2 ≤ e .kind
+    → Named h ns e → All (MarkedFor h ns ms) es → clashFound h es ms prefix e ≡ clashIn h es prefix e
+unfolding otherSort
+clash-sure h ns es ms prefix e own n v a =
     elim (test (ltb (e .kind) 7)) [
-      | pass l ↦ let t = ltb-true (e .kind) 7 l in rw (id-sure h from ms prefix e (own .key) n (omega arith) (λ m. v) b es a) (typed-only (e .kind) _ _ _ _ _ t)
+      | pass l ↦ let t = ltb-true (e .kind) 7 l in rw (id-sure h ns ms prefix e (own .key) n (omega arith) (v .id (omega arith)) es a) (typed-only (e .kind) _ _ _ _ _ t)
       | fail l ↦
           let t = ltb-false (e .kind) 7 l in
-          let u = key-sure h from ms prefix e (own .key) t textKind (w textKind) (omega arith) (omega arith) es a in
-          let m = key-sure h from ms prefix e (own .key) t (mapKind other) (w (mapKind other)) (omega arith) (omega arith) es a in
-          elim (test (leb (e .kind) 7)) [
-            | pass q ↦ rw (id-sure h from ms prefix e (own .key) n (leb-true (e .kind) 7 q) (λ m. v) b es a, u, m)
-            | fail q ↦ rw (u, m) (other-clash (e .kind) _ _ _ _ (omega (arith, leb-false (e .kind) 7 q)))
+          let u = key-sure h ns ms prefix e (own .key) t (v .key t) es a in
+          elim (test (eqb (e .kind) 7)) [
+            | pass q ↦
+                let k = eqb-true (e .kind) 7 q in
+                let s : otherSort (e .kind) ≡ textKind = rw (otherSort, q) in
+                rw (id-sure h ns ms prefix e (own .key) n (omega arith) (v .id (omega arith)) es a, rw s at u) (map-only (e .kind) _ _ _ _ k)
+            | fail q ↦
+                let s : otherSort (e .kind) ≡ mapKind other = rw (otherSort, q) in
+                rw (rw s at u) (other-clash (e .kind) _ _ _ _ _ (omega (arith, eqb-false (e .kind) 7 q)))
           ]
     ]
+
+-- The last bytes of an ID
+
+-- those of an ID that lies in the header are the ones that stand there
+module _ (h : Bytes) (a n : ℕ) (long : 8 ≤ n) (inside : a + n ≤ length h) where
+  here-length : length (take n (drop a h)) ≡ n
+  here-length = length-take n (drop a h) ∙ omega (arith, length-drop a h)
+
+  byte-here : (i : ℕ) → i < n → getD (take n (drop a h)) i 0 ≡ getD h (a + i) 0
+  byte-here i l = getD-take n (drop a h) i 0 l ∙ getD-drop a h i 0
+
+  four-here : (m : ℕ) → m + 4 ≤ n → fourAt (take n (drop a h)) m ≡ fourAt h (a + m)
+  unfolding fourAt
+  four-here m l =
+      let place : (i : ℕ) → a + m + i ≡ a + (m + i) = λ i. omega arith in
+      rw (place 1, place 2, place 3, byte-here m (omega arith), byte-here (m + 1) (omega arith), byte-here (m + 2) (omega arith), byte-here (m + 3) (omega arith))
+
+  tail-here : tailHash (take n (drop a h)) (length (take n (drop a h))) ≡ tailHash h (a + n)
+  unfolding tailHash
+  tail-here =
+      let far : a + n - 8 ≡ a + (n - 8) = omega arith in
+      let near : a + n - 4 ≡ a + (n - 4) = omega arith in
+      rw (here-length, far, near, four-here (n - 8) (omega arith), four-here (n - 4) (omega arith))
+
+module _ (h : Bytes) (at : ℕ) {a b c d : ℕ} (ea : a ≡ getD h at 0) (eb : b ≡ getD h (at + 1) 0) (ec : c ≡ getD h (at + 2) 0) (ed : d ≡ getD h (at + 3) 0) where
+  pub four-is : a + b * 256 + c * 65536 + d * 16777216 ≡ fourAt h at
+  unfolding fourAt
+  four-is = rw (ea, eb, ec, ed)
+
+pub four-small : {a b c d : ℕ} → a ≤ 255 → b ≤ 255 → c ≤ 255 → d ≤ 255 → a + b * 256 + c * 65536 + d * 16777216 < 2 ^ 32
+four-small f g i j = omega arith
+
+pub ruleset fours = (four-is, four-small)
+
+pub hash-is : (h : Bytes) (end : ℕ) {a : ℕ} → a ≡ fourAt h (end - 8) → {b : ℕ} → b ≡ fourAt h (end - 4) → (a + b * 33) * 39084873 ≡ tailHash h end
+unfolding tailHash
+hash-is h end e f = rw (e, f)
 
 -- What the code computes
 
@@ -271,73 +276,25 @@ under-hashed key kind e = e
 
 pub ruleset hashes = (key-typed, key-other, id-hashed, under-hashed)
 
-not-same : (a b : Bool) → not a ≡ not b → a ≡ b
-not-same true true e = refl
-not-same true false e = absurd (false≢true e)
-not-same false true e = absurd (false≢true (sym e))
-not-same false false e = refl
-
-not-no : (b : Bool) → true ≡ not b → b ≡ false
-not-no true e = e
-not-no false e = refl
-
-not-no′ : (b : Bool) → not b ≡ false → b ≡ true
-not-no′ true e = refl
-not-no′ false e = sym e
-
-not-not : (b : Bool) → b ≡ not (not b)
-not-not true = refl
-not-not false = refl
-
--- m is what the marks answered, s whether the new name stands as those that were looked for, q whether that settles it
-told : {m s q b : Bool} → q ≡ not (m || not s) → q ≡ not b → {met sought : Bool} → m ≡ met → s ≡ sought → (met || not sought) ≡ b
-told {m} {s} {b = b} d f e g = rw (← e, ← g) (not-same (m || not s) b (sym d ∙ f))
-
-module _ (h : Bytes) (es : List Entry) (ms : List ℕ) (prefix : Bytes) (key kind : ℕ) (x : CodeEntry) {hash : ℕ} (eh : hash ≡ underHash key kind) {m : Bool} (e : m ≡ isMet ms hash)
-    {s : Bool} (en : s ≡ isSought h prefix kind (entryOf x)) {q : Bool} (d : q ≡ not (m || not s)) where
-  pub key-unmarked : q ≡ true → false ≡ keyFound h es ms prefix key kind (entryOf x)
+-- m is what the marks answered
+module _ (h : Bytes) (es : List Entry) (ms : List ℕ) (prefix : Bytes) (key kind : ℕ) {hash : ℕ} (eh : hash ≡ underHash key kind) {m : Bool} (e : m ≡ isMet ms hash) where
+  pub key-unmarked : not m ≡ true → false ≡ keyFound h es ms prefix key kind
   unfolding keyFound
-  key-unmarked f = rw (told {b = false} d f (e ∙ ap (isMet ms) eh) en)
+  key-unmarked f = rw (← eh, ← e, not-true m f)
 
-  pub key-looked : q ≡ false → {r : Bool} → r ≡ keySeen h prefix kind es → r ≡ keyFound h es ms prefix key kind (entryOf x)
+  pub key-looked : not m ≡ false → {r : Bool} → r ≡ keySeen h prefix kind es → r ≡ keyFound h es ms prefix key kind
   unfolding keyFound
-  key-looked f g = g ∙ rw (told {b = true} d f (e ∙ ap (isMet ms) eh) en)
+  key-looked f g = g ∙ rw (← eh, ← e, not-false m f)
 
-module _ (h : Bytes) (es : List Entry) (ms : List ℕ) (prefix : Bytes) (key : ℕ) (x : CodeEntry) {hash : ℕ} (eh : hash ≡ idHash key (x .kind) (idMeaning h (entryOf x))) {m : Bool} (e : m ≡ isMet ms hash)
-    {s : Bool} (en : s ≡ (isOpened h (entryOf x) && isEnded h (entryOf x))) {q : Bool} (d : q ≡ not (m || not s)) where
-  pub id-unmarked : q ≡ true → false ≡ idFound h es ms prefix key (entryOf x)
+module _ (h : Bytes) (es : List Entry) (ms : List ℕ) (prefix : Bytes) (key : ℕ) (x : CodeEntry) {hash : ℕ} (eh : hash ≡ idHash key (x .kind) (idMeaning h (entryOf x))) {m : Bool} (e : m ≡ isMet ms hash) where
+  pub id-unmarked : not m ≡ true → false ≡ idFound h es ms prefix key (entryOf x)
   unfolding idFound
-  id-unmarked f = rw (told {b = false} d f (e ∙ ap (isMet ms) eh) en)
+  id-unmarked f = rw (← eh, ← e, not-true m f)
 
   -- the code holds the new entry's ID in p
-  pub id-looked : q ≡ false → {p : Bytes} → p ≡ idIn h (entryOf x) → {r : Bool} → r ≡ idSeen h prefix (x .kind) (meaning (x .quoted) p) es → r ≡ idFound h es ms prefix key (entryOf x)
+  pub id-looked : not m ≡ false → {p : Bytes} → p ≡ idIn h (entryOf x) → {r : Bool} → r ≡ idSeen h prefix (x .kind) (meaning (x .quoted) p) es → r ≡ idFound h es ms prefix key (entryOf x)
   unfolding idFound
-  id-looked f ep g = g ∙ rw (ep, told {b = true} d f (e ∙ ap (isMet ms) eh) en)
-
-module _ (m s : Bool) where
-  pub free-met : m ≡ true → false ≡ not (m || not s)
-  free-met e = rw e
-
-  pub free-sought : m ≡ false → s ≡ not (m || not s)
-  free-sought e = rw e (not-not s)
-
-pub ruleset frees = (free-met, free-sought)
-
--- whether a new line stands as was looked for
-module _ (h prefix : Bytes) (kind : ℕ) (x : CodeEntry) where
-  pub sought-any : (kind ≡ 8 → ⊥) → true ≡ isSought h prefix kind (entryOf x)
-  unfolding isSought
-  sought-any n = rw (ne-eqb kind 8 n)
-
-  module _ (k : kind ≡ 8) {l : Bytes} (el : l ≡ lineIn h (entryOf x)) where
-    pub sought-map : eqb (getD l (length prefix) 0) 60 ≡ isSought h prefix kind (entryOf x)
-    unfolding isSought
-    sought-map = rw (eq-eqb kind 8 k, el)
-
-    pub sought-end : length l ≤ length prefix → false ≡ isSought h prefix kind (entryOf x)
-    sought-end n = ap (λ (b : ℕ). eqb b 60) (sym (List·getD-eq-default l 0 {n = length prefix} n)) ∙ sought-map
-
-pub ruleset soughts = (sought-any, sought-map, sought-end)
+  id-looked f ep g = g ∙ rw (← eh, ← e, not-false m f, ep)
 
 -- no new line clashes with the fileformat line
 pub unmarked : (h ms : Bytes) (e : Entry) → e .kind < 2 → Marked h ms e
@@ -347,66 +304,32 @@ unmarked h ms e l = record { id = λ a b. absurd (omega arith); key = λ a b. ab
 pub unmarked-last : (h ms : Bytes) (e : Entry) → 8 < e .kind → Marked h ms e
 unmarked-last h ms e l = record { id = λ a b. absurd (omega arith); key = λ a b. absurd (omega arith) }
 
--- What may stand ahead is marked
+-- What was noted is marked
 
 module _ (h : Bytes) (ns : List ℕ) (e : Entry) (ms : List ℕ) where
   id-length : length (markId h ns e ms) ≡ length ms
   unfolding markId
-  id-length = elim (test (textNoted ns (idIn h e))) [ pass f ↦ rw (markId, f) (meet-length ms _) | fail f ↦ rw (markId, f) ]
+  id-length = elim (test (idNoted h ns e)) [ pass f ↦ rw (markId, f) (meet-length ms _) | fail f ↦ rw (markId, f) ]
 
   key-length : length (markKey h ns e ms) ≡ length ms
   unfolding markKey
-  key-length = elim (test (mapNoted ns (runFrom 0 0 (keyIn (lineIn h e))))) [ pass f ↦ rw (markKey, f) (meet-length ms _) | fail f ↦ rw (markKey, f) ]
+  key-length = elim (test (keyNoted h ns e)) [ pass f ↦ rw (markKey, f) (meet-length ms _) | fail f ↦ rw (markKey, f) ]
 
   id-kept : (hash : ℕ) → isMet ms hash ≡ true → isMet (markId h ns e ms) hash ≡ true
   unfolding markId
-  id-kept hash a = elim (test (textNoted ns (idIn h e))) [ pass f ↦ rw (markId, f) (meet-kept ms _ hash a) | fail f ↦ rw (markId, f) a ]
+  id-kept hash a = elim (test (idNoted h ns e)) [ pass f ↦ rw (markId, f) (meet-kept ms _ hash a) | fail f ↦ rw (markId, f) a ]
 
   key-kept : (hash : ℕ) → isMet ms hash ≡ true → isMet (markKey h ns e ms) hash ≡ true
   unfolding markKey
-  key-kept hash a = elim (test (mapNoted ns (runFrom 0 0 (keyIn (lineIn h e))))) [ pass f ↦ rw (markKey, f) (meet-kept ms _ hash a) | fail f ↦ rw (markKey, f) a ]
+  key-kept hash a = elim (test (keyNoted h ns e)) [ pass f ↦ rw (markKey, f) (meet-kept ms _ hash a) | fail f ↦ rw (markKey, f) a ]
 
-  module _ (from : ℕ) (noted : Noted h from ns) where
-    id-ahead : NewName idEnds h from (idMeaning h e) → isMet (markId h ns e ms) (idHash (keyHash h e) (e .kind) (idMeaning h e)) ≡ true
-    unfolding markId
-    id-ahead w = elim (test (textNoted ns (idIn h e))) [
-      | pass f ↦ rw (markId, f) (meet-own ms _)
-      | fail f ↦ absurd (text-away h from ns noted (e .quoted) (idIn h e) f w)
-    ]
+  id-met : idNoted h ns e ≡ true → isMet (markId h ns e ms) (idHash (keyHash h e) (e .kind) (idMeaning h e)) ≡ true
+  unfolding markId
+  id-met f = rw (markId, f) (meet-own ms _)
 
-    key-ahead : NewName (rivalEnds textKind) h from (keyIn (lineIn h e)) → isMet (markKey h ns e ms) (underHash (keyHash h e) (e .kind)) ≡ true
-    unfolding markKey
-    key-ahead w = elim (test (mapNoted ns (runFrom 0 0 (keyIn (lineIn h e))))) [
-      | pass f ↦ rw (markKey, f) (meet-own ms _)
-      | fail f ↦ absurd (run-away (rivalEnds textKind) mapNoted h from ns (noted .maps) false (keyIn (lineIn h e)) f w)
-    ]
-
-module _ (h : Bytes) (ns : List ℕ) (e : Entry) (ms : List ℕ) where
-  abbrev under : ℕ
-  under = underHash (keyHash h e) (e .kind)
-
-  map-length : length (markMap h ns e ms) ≡ length ms
-  unfolding markMap
-  map-length = elim (test (runNoted ns (runFrom 0 0 (keyIn (lineIn h e))))) [ pass f ↦ rw (markMap, f) (id-length h ns e (meet ms under) ∙ meet-length ms under) | fail f ↦ rw (markMap, f) ]
-
-  map-kept : (hash : ℕ) → isMet ms hash ≡ true → isMet (markMap h ns e ms) hash ≡ true
-  unfolding markMap
-  map-kept hash a = elim (test (runNoted ns (runFrom 0 0 (keyIn (lineIn h e))))) [
-    | pass f ↦ rw (markMap, f) (id-kept h ns e (meet ms under) hash (meet-kept ms under hash a))
-    | fail f ↦ rw (markMap, f) a
-  ]
-
-  map-marked : (from : ℕ) → Noted h from ns → 7 ≤ e .kind → MarkedFrom h from (markMap h ns e ms) e
-  unfolding markMap
-  map-marked from noted l = elim (test (runNoted ns (runFrom 0 0 (keyIn (lineIn h e))))) [
-    | pass f ↦ rw (markMap, f) (record {
-      id = λ a b k w. id-ahead h ns e (meet ms under) from noted w;
-      key = λ a b w. id-kept h ns e (meet ms under) under (meet-own ms under);
-    })
-    | fail f ↦
-        let away : NewName keyEnds h from (keyIn (lineIn h e)) → ⊥ = λ w. run-away nameEnds runNoted h from ns (noted .runs) false (keyIn (lineIn h e)) f (name-as (λ end i. rw i (either-way (idEnds h end))) w) in
-        record { id = λ a b k w. absurd (away (k l)); key = λ a b w. absurd (away (rival-key (e .kind) w)) }
-  ]
+  key-met : keyNoted h ns e ≡ true → isMet (markKey h ns e ms) (underHash (keyHash h e) (e .kind)) ≡ true
+  unfolding markKey
+  key-met f = rw (markKey, f) (meet-own ms _)
 
 module _ (h : Bytes) (ns : List ℕ) (e : Entry) (ms : List ℕ) where
   names-length : length (markNames h ns e ms) ≡ length ms
@@ -414,7 +337,7 @@ module _ (h : Bytes) (ns : List ℕ) (e : Entry) (ms : List ℕ) where
   names-length = elim (test (ltb (e .kind) 7)) [
     | pass l ↦ rw (markNames, l) (id-length h ns e ms)
     | fail l ↦ elim (test (eqb (e .kind) 7)) [
-      | pass k ↦ rw (markNames, l, k) (map-length h ns e ms)
+      | pass k ↦ rw (markNames, l, k) (id-length h ns e (markKey h ns e ms) ∙ key-length h ns e ms)
       | fail k ↦ rw (markNames, l, k) (key-length h ns e ms)
     ]
   ]
@@ -424,163 +347,231 @@ module _ (h : Bytes) (ns : List ℕ) (e : Entry) (ms : List ℕ) where
   names-kept hash a = elim (test (ltb (e .kind) 7)) [
     | pass l ↦ rw (markNames, l) (id-kept h ns e ms hash a)
     | fail l ↦ elim (test (eqb (e .kind) 7)) [
-      | pass k ↦ rw (markNames, l, k) (map-kept h ns e ms hash a)
+      | pass k ↦ rw (markNames, l, k) (id-kept h ns e (markKey h ns e ms) hash (key-kept h ns e ms hash a))
       | fail k ↦ rw (markNames, l, k) (key-kept h ns e ms hash a)
     ]
   ]
 
-  names-marked : (from : ℕ) → Noted h from ns → MarkedFrom h from (markNames h ns e ms) e
+  names-marked : MarkedFor h ns (markNames h ns e ms) e
   unfolding markNames
-  names-marked from noted = elim (test (ltb (e .kind) 7)) [
-    | pass l ↦ rw (markNames, l) (record { id = λ a b k w. id-ahead h ns e ms from noted w; key = λ a b w. absurd (omega (arith, ltb-true (e .kind) 7 l)) })
+  names-marked = elim (test (ltb (e .kind) 7)) [
+    | pass l ↦ rw (markNames, l) (record { id = λ a b f. id-met h ns e ms f; key = λ a b f. absurd (omega (arith, ltb-true (e .kind) 7 l)) })
     | fail l ↦ elim (test (eqb (e .kind) 7)) [
-      | pass k ↦ rw (markNames, l, k) (map-marked h ns e ms from noted (ltb-false (e .kind) 7 l))
+      | pass k ↦ rw (markNames, l, k) (record { id = λ a b f. id-met h ns e (markKey h ns e ms) f; key = λ a b f. id-kept h ns e (markKey h ns e ms) _ (key-met h ns e ms f) })
       | fail k ↦
           let ne = eqb-false (e .kind) 7 k in
-          let text : 7 ≤ e .kind → e .kind ≤ 8 → e .kind ≡ 8 = λ a b. omega (arith, ne) in
-          rw (markNames, l, k) (record { id = λ a b k w. absurd (ne (omega (arith, ltb-false (e .kind) 7 l))); key = λ a b w. key-ahead h ns e ms from noted (subst (λ (n : ℕ). NewName (rivalEnds n) h from (keyIn (lineIn h e))) (text a b) w) })
+          rw (markNames, l, k) (record { id = λ a b f. absurd (ne (omega (arith, ltb-false (e .kind) 7 l))); key = λ a b f. key-met h ns e ms f })
     ]
   ]
 
 -- what the code's tests answered
 module _ (h : Bytes) (ns : List ℕ) (x : CodeEntry) (ms : List ℕ) where
-  module _ {p : Bytes} (ep : p ≡ idIn h (entryOf x)) {q : Bool} (a : q ≡ textNoted ns p) where
-    pub id-spared : not q ≡ true → ms ≡ markId h ns (entryOf x) ms
+  module _ {p : Bytes} (ep : p ≡ idIn h (entryOf x)) {q : Bool} (a : q ≡ textNear ns (x .quoted) p) where
+    pub id-far : not q ≡ true → ms ≡ markId h ns (entryOf x) ms
     unfolding markId
-    id-spared n = rw (markId, ← ep, ← a, not-true q n)
+    id-far n = rw (markId, ← ep, ← a, not-true q n)
 
-    pub id-noted : not q ≡ false → {key : ℕ} → key ≡ keyHash h (entryOf x) → {hash : ℕ} → hash ≡ idHash key (x .kind) (idMeaning h (entryOf x)) → {ms′ : List ℕ} → ms′ ≡ meet ms hash → ms′ ≡ markId h ns (entryOf x) ms
-    unfolding markId
-    id-noted n ek eh f = f ∙ rw (eh, ek) (sym (rw (markId, ← ep, ← a, not-false q n, ← ep)))
+    module _ (n : not q ≡ false) {key : ℕ} (ek : key ≡ keyHash h (entryOf x)) {hash : ℕ} (eh : hash ≡ idHash key (x .kind) (idMeaning h (entryOf x))) {b : Bool} (f : b ≡ hashNoted ns hash) where
+      is-id : hash ≡ idHash (keyHash h (entryOf x)) (x .kind) (meaning (x .quoted) p)
+      is-id = eh ∙ rw (ek, ep)
 
-  module _ {p : Bytes} (ep : p ≡ lineIn h (entryOf x)) {q : Bool} (a : q ≡ mapNoted ns (runFrom 0 0 (keyIn p))) where
-    pub key-spared : not q ≡ true → ms ≡ markKey h ns (entryOf x) ms
+      pub id-spared : not b ≡ true → ms ≡ markId h ns (entryOf x) ms
+      unfolding markId
+      id-spared m = rw (markId, ← ep, ← a, not-false q n, ← is-id, ← f, not-true b m)
+
+      pub id-noted : not b ≡ false → {ms′ : List ℕ} → ms′ ≡ meet ms hash → ms′ ≡ markId h ns (entryOf x) ms
+      unfolding markId
+      id-noted m g = g ∙ rw (markId, ← ep, ← a, not-false q n, ← is-id, ← f, not-false b m) (ap (meet ms) (eh ∙ rw ek))
+
+  module _ {q : Bool} (a : q ≡ sortNoted ns (x .kind)) where
+    pub key-far : not q ≡ true → ms ≡ markKey h ns (entryOf x) ms
     unfolding markKey
-    key-spared n = rw (markKey, ← ep, ← a, not-true q n)
+    key-far n = rw (markKey, ← a, not-true q n)
 
-    pub key-noted : not q ≡ false → {key : ℕ} → key ≡ keyHash h (entryOf x) → {hash : ℕ} → hash ≡ underHash key (x .kind) → {ms′ : List ℕ} → ms′ ≡ meet ms hash → ms′ ≡ markKey h ns (entryOf x) ms
-    unfolding markKey
-    key-noted n ek eh f = f ∙ rw (eh, ek) (sym (rw (markKey, ← ep, ← a, not-false q n)))
+    module _ (n : not q ≡ false) {key : ℕ} (ek : key ≡ keyHash h (entryOf x)) {hash : ℕ} (eh : hash ≡ underHash key (x .kind)) {b : Bool} (f : b ≡ hashNoted ns hash) where
+      is-key : hash ≡ underHash (keyHash h (entryOf x)) (x .kind)
+      is-key = eh ∙ rw ek
 
-  module _ {p : Bytes} (ep : p ≡ lineIn h (entryOf x)) {q : Bool} (a : q ≡ runNoted ns (runFrom 0 0 (keyIn p))) where
-    pub map-spared : not q ≡ true → ms ≡ markMap h ns (entryOf x) ms
-    unfolding markMap
-    map-spared n = rw (markMap, ← ep, ← a, not-true q n)
+      pub key-spared : not b ≡ true → ms ≡ markKey h ns (entryOf x) ms
+      unfolding markKey
+      key-spared m = rw (markKey, ← a, not-false q n, ← is-key, ← f, not-true b m)
 
-    pub map-noted : not q ≡ false → {key : ℕ} → key ≡ keyHash h (entryOf x) → {hash : ℕ} → hash ≡ underHash key (x .kind) → {ms′ : List ℕ} → ms′ ≡ meet ms hash
-        → {ms″ : List ℕ} → ms″ ≡ markId h ns (entryOf x) ms′ → ms″ ≡ markMap h ns (entryOf x) ms
-    unfolding markMap
-    map-noted n ek eh f g = g ∙ rw (f, eh, ek) (sym (rw (markMap, ← ep, ← a, not-false q n)))
+      pub key-noted : not b ≡ false → {ms′ : List ℕ} → ms′ ≡ meet ms hash → ms′ ≡ markKey h ns (entryOf x) ms
+      unfolding markKey
+      key-noted m g = g ∙ rw (markKey, ← a, not-false q n, ← is-key, ← f, not-false b m) (ap (meet ms) is-key)
 
   pub names-typed : x .kind < 7 → {ms′ : List ℕ} → ms′ ≡ markId h ns (entryOf x) ms → ms′ ≡ markNames h ns (entryOf x) ms
   unfolding markNames
   names-typed l f = f ∙ rw (markNames, lt-ltb (x .kind) 7 l)
 
-  module _ (l : 7 ≤ x .kind) where
-    pub names-map : x .kind ≡ 7 → {ms′ : List ℕ} → ms′ ≡ markMap h ns (entryOf x) ms → ms′ ≡ markNames h ns (entryOf x) ms
+  module _ (l : 7 ≤ x .kind) {ms′ : List ℕ} (f : ms′ ≡ markKey h ns (entryOf x) ms) where
+    pub names-map : x .kind ≡ 7 → {ms″ : List ℕ} → ms″ ≡ markId h ns (entryOf x) ms′ → ms″ ≡ markNames h ns (entryOf x) ms
     unfolding markNames
-    names-map k f = f ∙ rw (markNames, le-ltb (x .kind) 7 l, eq-eqb (x .kind) 7 k)
+    names-map k g = g ∙ rw (f, markNames, le-ltb (x .kind) 7 l, eq-eqb (x .kind) 7 k)
 
-    pub names-text : (x .kind ≡ 7 → ⊥) → {ms′ : List ℕ} → ms′ ≡ markKey h ns (entryOf x) ms → ms′ ≡ markNames h ns (entryOf x) ms
+    pub names-text : (x .kind ≡ 7 → ⊥) → ms′ ≡ markNames h ns (entryOf x) ms
     unfolding markNames
-    names-text n f = f ∙ rw (markNames, le-ltb (x .kind) 7 l, ne-eqb (x .kind) 7 n)
+    names-text n = f ∙ rw (markNames, le-ltb (x .kind) 7 l, ne-eqb (x .kind) 7 n)
 
-pub ruleset namings = (id-spared, id-noted, key-spared, key-noted, map-spared, map-noted, names-typed, names-map, names-text)
+pub ruleset namings = (id-far, id-spared, id-noted, key-far, key-spared, key-noted, names-typed, names-map, names-text)
 
--- Entries that need not be marked are passed over
+-- Entries that are passed over
 
-module _ (h : Bytes) (plain : Bool) (ns : List ℕ) where
-  noted-kept : (from : ℕ) (es fs : List Entry) (ms : List ℕ) → All (MarkedFrom h from ms) fs → All (MarkedFrom h from (markNoted h plain ns es ms)) fs
-  unfolding markNoted
-  noted-kept from [] fs ms a = a
-  noted-kept from (e ∷ es) fs ms a = elim (test (isNear h plain ns e)) [
-    | pass f ↦ rw (markNoted, f) (noted-kept from es fs (markNames h ns e ms) (kept-from h from ms (markNames h ns e ms) (names-kept h ns e ms) fs a))
-    | fail f ↦ rw (markNoted, f) (noted-kept from es fs ms a)
+-- whether an entry's ID lies in the header
+module _ (h : Bytes) (x : CodeEntry) where
+  pub starts-outside : length h < x .start → false ≡ leb (idEnd (entryOf x)) (length h)
+  starts-outside l = sym (lt-leb (idEnd (entryOf x)) (length h) (omega arith))
+
+  pub begins-outside : x .start ≤ length h → length h - x .start < x .offset → false ≡ leb (idEnd (entryOf x)) (length h)
+  begins-outside l m = sym (lt-leb (idEnd (entryOf x)) (length h) (omega arith))
+
+  pub ends-inside : x .start ≤ length h → x .offset ≤ length h - x .start → leb (x .«id_length») (length h - x .start - x .offset) ≡ leb (idEnd (entryOf x)) (length h)
+  ends-inside l m = elim (test (leb (x .«id_length») (length h - x .start - x .offset))) [
+    | pass e ↦ e ∙ sym (le-leb (idEnd (entryOf x)) (length h) (omega (arith, leb-true (x .«id_length») (length h - x .start - x .offset) e)))
+    | fail e ↦ e ∙ sym (lt-leb (idEnd (entryOf x)) (length h) (omega (arith, leb-false (x .«id_length») (length h - x .start - x .offset) e)))
   ]
 
-  -- by its last bytes an entry is none of the names ahead
-  spared-marked : (from : ℕ) → Noted h from ns → plain ≡ not (hasEscape h from) → (e : Entry) (ms : List ℕ) → isNear h plain ns e ≡ false → MarkedFrom h from ms e
-  spared-marked from noted p e ms f =
-      let none = not-no (hasEscape h from) (sym (not-no′ plain (or-l (not plain) _ f)) ∙ p) in
-      let away = or-r (not plain) _ f in
-      record { id = λ b c k w. absurd (away-from h ns e away from noted none w); key = λ b c w. absurd (omega (arith, away-kind h ns e away)) }
+pub ruleset insides = (starts-outside, begins-outside, ends-inside)
 
-  noted-all : (from : ℕ) → Noted h from ns → plain ≡ not (hasEscape h from) → (es : List Entry) (ms : List ℕ) → All (MarkedFrom h from (markNoted h plain ns es ms)) es
-  unfolding markNoted
-  noted-all from noted p [] ms = tt
-  noted-all from noted p (e ∷ es) ms = elim (test (isNear h plain ns e)) [
-    | pass f ↦ rw (markNoted, f) (noted-kept from es (e ∷ []) (markNames h ns e ms) (names-marked h ns e ms from noted, tt) .0, noted-all from noted p es (markNames h ns e ms))
-    | fail f ↦ rw (markNoted, f) (noted-kept from es (e ∷ []) ms (spared-marked from noted p e ms f, tt) .0, noted-all from noted p es ms)
-  ]
+module _ (h : Bytes) (ns : List ℕ) (x : CodeEntry) where
+  pub id-any : IdSpared h ns (entryOf x) true
+  id-any = record { is = λ a f. absurd (true≢false f) }
 
-  noted-length : (es : List Entry) (ms : List ℕ) → length (markNoted h plain ns es ms) ≡ length ms
-  unfolding markNoted
-  noted-length [] ms = refl
-  noted-length (e ∷ es) ms = elim (test (isNear h plain ns e)) [
-    | pass f ↦ rw (markNoted, f) (noted-length es (markNames h ns e ms) ∙ names-length h ns e ms)
-    | fail f ↦ rw (markNoted, f) (noted-length es ms)
-  ]
+  module _ {b : Bool} (eb : b ≡ leb (idEnd (entryOf x)) (length h)) (i : not b ≡ false) where
+    pub id-inside : x .start + x .offset + x .«id_length» ≤ length h
+    id-inside = leb-true (idEnd (entryOf x)) (length h) (sym eb ∙ not-false b i)
 
-  passed-over : (form : Form) (t ms : List ℕ) (k d : ℕ) → ((n : ℕ) → k ≤ n → n < k + d → isNear h plain ns (entryIn form t n) ≡ false)
-      → markNoted h plain ns (drop k (entriesIn form t)) ms ≡ markNoted h plain ns (drop (k + d) (entriesIn form t)) ms
-  unfolding markNoted
-  passed-over form t ms k zero f = let i : k + 0 ≡ k = omega arith in rw i
-  passed-over form t ms k (suc d) f = elim (test (ltb k (room form t))) [
-    | pass l ↦
-        let i : k + suc d ≡ k + 1 + d = omega arith in
-        rw (i, entries-here form t k (ltb-true k (room form t) l), markNoted, f k (omega arith) (omega arith)) (passed-over form t ms (k + 1) d (λ n a b. f n (omega arith) (omega arith)))
-    | fail l ↦
-        let m = ltb-false k (room form t) l in
-        rw (entries-past form t k m, entries-past form t (k + suc d) (omega arith))
+    module _ (few : length h * 1 < 2 ^ 63) where
+      pub id-start-fits : Fits w64 (x .start + x .offset)
+      id-start-fits = record { fits = omega (arith, id-inside) }
+
+      pub id-end-fits : Fits w64 (x .start + x .offset + x .«id_length»)
+      id-end-fits = record { fits = omega (arith, id-inside) }
+
+    pub id-by-tail : x .quoted ≡ false → 8 ≤ x .«id_length» → {hash : ℕ} → hash ≡ tailHash h (x .start + x .offset + x .«id_length») → {r : Bool} → r ≡ isNoted ns hash → IdSpared h ns (entryOf x) r
+    unfolding textNear idIn
+    id-by-tail q l eh er = record {
+      is = λ a f.
+          let n = here-length h (x .start + x .offset) (x .«id_length») l id-inside in
+          let t = tail-here h (x .start + x .offset) (x .«id_length») l id-inside in
+          rw (q, le-ltb (length (take (x .«id_length») (drop (x .start + x .offset) h))) 8 (rw n l), a, t, ← eh, ← er) f;
+    }
+
+  pub key-typed-spared : x .kind < 7 → KeySpared ns (entryOf x) false
+  key-typed-spared l = record { is = λ f m. absurd (omega arith) }
+
+  pub key-by-sort : {r : Bool} → r ≡ sortNoted ns (x .kind) → KeySpared ns (entryOf x) r
+  key-by-sort e = record { is = λ f m. sym e ∙ f }
+
+  pub near-any : Spared h ns (entryOf x) true
+  near-any = record { id = λ a f l. absurd (true≢false f); key = λ f l. absurd (true≢false f) }
+
+  module _ {b : Bool} (c : KeySpared ns (entryOf x) b) (f : b ≡ false) where
+    pub near-text : 7 < x .kind → Spared h ns (entryOf x) false
+    near-text l = record { id = λ a g m. absurd (omega arith); key = λ g m. c .is f m }
+
+    pub near-id : {r : Bool} → IdSpared h ns (entryOf x) r → Spared h ns (entryOf x) r
+    near-id d = record { id = λ a g m. d .is a g; key = λ g m. c .is f m }
+
+pub ruleset nears = (id-any, id-inside, id-start-fits, id-end-fits, id-by-tail, key-typed-spared, key-by-sort, near-any, near-text, near-id)
+
+spared-same : (h : Bytes) (ns : List ℕ) (e : Entry) (ms : List ℕ) → quotedNoted ns ≡ false → {r : Bool} → Spared h ns e r → r ≡ false → markNames h ns e ms ≡ ms
+unfolding markNames markId markKey
+spared-same h ns e ms a s f = elim (test (ltb (e .kind) 7)) [
+  | pass l ↦ rw (markNames, l, markId, s .id a f (omega (arith, ltb-true (e .kind) 7 l)))
+  | fail l ↦ elim (test (eqb (e .kind) 7)) [
+    | pass k ↦ rw (markNames, l, k, markId, s .id a f (omega (arith, eqb-true (e .kind) 7 k)), markKey, s .key f (ltb-false (e .kind) 7 l))
+    | fail k ↦ rw (markNames, l, k, markKey, s .key f (ltb-false (e .kind) 7 l))
   ]
+]
+
+-- those from the first on up to k need not be marked
+pub record Nexting (h : Bytes) (form : Form) (t ns : List ℕ) (first k : ℕ) : Type 0 where
+  pub bare : quotedNoted ns ≡ false
+  pub later : first ≤ k
+  pub spared : (n : ℕ) → first ≤ n → n < k → (ms : List ℕ) → markNames h ns (entryIn form t n) ms ≡ ms
+
+module _ (h : Bytes) (form : Form) (t ns : List ℕ) (k : ℕ) {q : Bool} (e : q ≡ quotedNoted ns) where
+  pub next-any : NextNear h form t ns k k
+  next-any = record { later = omega arith; spared = λ n a b. absurd (omega arith) }
+
+  pub next-start : q ≡ false → Nexting h form t ns k k
+  next-start f = record { bare = sym e ∙ f; later = omega arith; spared = λ n a b. absurd (omega arith) }
+
+module _ {h : Bytes} {form : Form} {t ns : List ℕ} {first k : ℕ} (g : Nexting h form t ns first k) where
+  pub next-found : NextNear h form t ns first k
+  next-found = record { later = g .later; spared = g .spared }
+
+  pub next-away : {e : CodeEntry} → entryOf e ≡ entryIn form t k → {q : Bool} → Spared h ns (entryOf e) q → q ≡ false → Nexting h form t ns first (k + 1)
+  next-away ee s f = record {
+    bare = g .bare;
+    later = omega (arith, g .later);
+    spared = λ n a b ms. elim (test (eqb n k)) [
+      | pass i ↦ rw (eqb-true n k i, ← ee) (spared-same h ns _ ms (g .bare) s f)
+      | fail i ↦ g .spared n a (omega (arith, eqb-false n k i)) ms
+    ];
+  }
+
+pub ruleset nexts = (next-any, next-start, next-found, next-away)
+
+passed-over : (h : Bytes) (ns : List ℕ) (form : Form) (t ms : List ℕ) (k d : ℕ) → ((n : ℕ) → k ≤ n → n < k + d → (ms : List ℕ) → markNames h ns (entryIn form t n) ms ≡ ms)
+    → markNoted h ns (drop k (entriesIn form t)) ms ≡ markNoted h ns (drop (k + d) (entriesIn form t)) ms
+unfolding markNoted
+passed-over h ns form t ms k zero f = let i : k + 0 ≡ k = omega arith in rw i
+passed-over h ns form t ms k (suc d) f = elim (test (ltb k (room form t))) [
+  | pass l ↦
+      let i : k + suc d ≡ k + 1 + d = omega arith in
+      rw (i, entries-here form t k (ltb-true k (room form t) l), markNoted, f k (omega arith) (omega arith) ms) (passed-over h ns form t ms (k + 1) d (λ n a b. f n (omega arith) (omega arith)))
+  | fail l ↦
+      let m = ltb-false k (room form t) l in
+      rw (entries-past form t k m, entries-past form t (k + suc d) (omega arith))
+]
+
+module _ (h : Bytes) (ns : List ℕ) where
+  noted-kept : (es fs : List Entry) (ms : List ℕ) → All (MarkedFor h ns ms) fs → All (MarkedFor h ns (markNoted h ns es ms)) fs
+  unfolding markNoted
+  noted-kept [] fs ms a = a
+  noted-kept (e ∷ es) fs ms a = noted-kept es fs (markNames h ns e ms) (kept-for h ns ms (markNames h ns e ms) (names-kept h ns e ms) fs a)
+
+  pub noted-all : (es : List Entry) (ms : List ℕ) → All (MarkedFor h ns (markNoted h ns es ms)) es
+  unfolding markNoted
+  noted-all [] ms = tt
+  noted-all (e ∷ es) ms = (noted-kept es (e ∷ []) (markNames h ns e ms) (names-marked h ns e ms, tt) .0, noted-all es (markNames h ns e ms))
 
 -- What is left to mark by the notes, from number k on
 
-pub record Noting (h : Bytes) (form : Form) (t : List ℕ) (plain : Bool) (ns ms₀ ms : List ℕ) (k : ℕ) : Type 0 where
+pub record Noting (h : Bytes) (form : Form) (t ns ms₀ ms : List ℕ) (k : ℕ) : Type 0 where
   pub long : length ms ≡ length ms₀
-  pub still : markNoted h plain ns (entriesIn form t) ms₀ ≡ markNoted h plain ns (drop k (entriesIn form t)) ms
+  pub still : markNoted h ns (entriesIn form t) ms₀ ≡ markNoted h ns (drop k (entriesIn form t)) ms
 
-pub noting-start : (h : Bytes) (form : Form) (t : List ℕ) (plain : Bool) (ns ms : List ℕ) → Noting h form t plain ns ms ms 0
-noting-start h form t plain ns ms = record { long = refl; still = refl }
+pub noting-start : (h : Bytes) (form : Form) (t ns ms : List ℕ) → Noting h form t ns ms ms 0
+noting-start h form t ns ms = record { long = refl; still = refl }
 
-module _ {h : Bytes} {form : Form} {t : List ℕ} {plain : Bool} {ns ms₀ ms : List ℕ} {k : ℕ} (g : Noting h form t plain ns ms₀ ms k) {r : ℕ} (a : NextNear h form t plain ns k r) where
-  up-to : markNoted h plain ns (entriesIn form t) ms₀ ≡ markNoted h plain ns (drop r (entriesIn form t)) ms
+module _ {h : Bytes} {form : Form} {t ns ms₀ ms : List ℕ} {k : ℕ} (g : Noting h form t ns ms₀ ms k) {r : ℕ} (a : NextNear h form t ns k r) where
+  up-to : markNoted h ns (entriesIn form t) ms₀ ≡ markNoted h ns (drop r (entriesIn form t)) ms
   up-to =
       let i : k + (r - k) ≡ r = omega (arith, a .later) in
-      g .still ∙ passed-over h plain ns form t ms k (r - k) (λ n b c. a .spared n b (omega (arith, a .later))) ∙ ap (λ (n : ℕ). markNoted h plain ns (drop n (entriesIn form t)) ms) i
+      g .still ∙ passed-over h ns form t ms k (r - k) (λ n b c. a .spared n b (omega (arith, a .later))) ∙ ap (λ (n : ℕ). markNoted h ns (drop n (entriesIn form t)) ms) i
 
-  pub noting-end : {m : ℕ} → m ≡ room form t → m ≤ r → ms ≡ markNoted h plain ns (entriesIn form t) ms₀
-  unfolding markNoted
-  noting-end em l = sym (up-to ∙ rw (entries-past form t r (rw (← em) l)))
+  module _ {m : ℕ} (em : m ≡ room form t) where
+    pub noting-end : m ≤ r → ms ≡ markNoted h ns (entriesIn form t) ms₀
+    unfolding markNoted
+    noting-end l = sym (up-to ∙ rw (entries-past form t r (rw (← em) l)))
 
-  pub noting-next : {m : ℕ} → m ≡ room form t → r < m → {e : CodeEntry} → entryOf e ≡ entryIn form t r → {ms′ : List ℕ} → ms′ ≡ markNames h ns (entryOf e) ms → Noting h form t plain ns ms₀ ms′ (r + 1)
-  unfolding markNoted
-  noting-next em l {e} ee f =
-      let here : r < room form t = rw (← em) l in
-      record {
+    module _ (l : r < m) where
+      pub noting-next : {e : CodeEntry} → entryOf e ≡ entryIn form t r → {ms′ : List ℕ} → ms′ ≡ markNames h ns (entryOf e) ms → Noting h form t ns ms₀ ms′ (r + 1)
+      unfolding markNoted
+      noting-next {e} ee f = record {
         long = ap length f ∙ names-length h ns (entryOf e) ms ∙ g .long;
-        still = up-to ∙ rw (entries-here form t r here, markNoted, a .stops here, ← ee, ← f);
+        still = up-to ∙ rw (entries-here form t r (rw (← em) l), markNoted, ← ee, ← f);
       }
 
-  pub noting-less : {m : ℕ} → m ≡ room form t → r < m → room form t - (r + 1) < room form t - k
-  noting-less em l = omega (arith, a .later)
+      pub noting-less : room form t - (r + 1) < room form t - k
+      noting-less = omega (arith, em, a .later)
 
-pub noting-long : {h : Bytes} {form : Form} {t : List ℕ} {plain : Bool} {ns ms₀ ms : List ℕ} {k : ℕ} → Noting h form t plain ns ms₀ ms k → length ms ≡ length ms₀
+pub noting-long : {h : Bytes} {form : Form} {t ns ms₀ ms : List ℕ} {k : ℕ} → Noting h form t ns ms₀ ms k → length ms ≡ length ms₀
 noting-long g = g .long
 
 pub ruleset notings = (noting-start, noting-end, noting-next, noting-less, noting-long)
-
--- What lines from a place on may clash with is marked
-
--- plain and ns are what looking ahead answered
-pub by-noted : (h : Bytes) (from : ℕ) (ns₀ : List ℕ) (es : List Entry) (ms : List ℕ) {plain : Bool} → plain ≡ not (hasEscape h from) → {ns : List ℕ} → ns ≡ notesFrom h from ns₀
-    → {ms′ : List ℕ} → ms′ ≡ markNoted h plain ns es ms → AheadMarked h from ms′ es
-by-noted h from ns₀ es ms {plain} e {ns} f g = record { all = rw g (noted-all h plain ns from (rw f (noted h from ns₀)) e es ms) }
-
-pub far-past : (h : Bytes) (from : ℕ) → length h < from → false ≡ isFar h from
-far-past h from l = sym (lt-leb 16384 (length h - from) (omega arith))
-
-pub ahead-none : (h : Bytes) (from : ℕ) (form : Form) (t ms : List ℕ) {n : ℕ} → n ≡ room form t → n ≡ 0 → AheadMarked h from ms (entriesIn form t)
-ahead-none h from form t ms en z = let none : entriesIn form t ≡ [] = entries-past form t 0 (omega arith) in record { all = rw none tt }
 
 pub ruleset scans = (key-unmarked, key-looked, id-unmarked, id-looked, met-by)

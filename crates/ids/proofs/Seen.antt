@@ -22,7 +22,8 @@ use Rattle.entries.specs.declared.form.Form.{Form}
 use Rattle.entries.specs.Tables.{room, entriesIn, entryIn}
 use Rattle.entries.proofs.Stored.{entries-here, entries-past}
 use Rattle.ids.specs.Clashes.{hasKey, keySeen, isOfKey, isOfId, idSeen, mapClash, clashBy, lastOf, MayEqual, Candidate}
-use Rattle.ids.specs.Marks.{prefixHash, underHash, idHash, markUnder, meetId, meetKey, keyFound, idFound, otherSort, mixedFound, twiceFound, clashOf, clashUnder}
+use Rattle.ids.specs.Names.{prefixHash, underHash, idHash, otherSort}
+use Rattle.ids.specs.Marks.{markUnder, meetId, meetKey, keyFound, idFound, mixedFound, twiceFound, clashOf, clashUnder}
 use Rattle.ids.specs.declared.scan.Clash.{Clash}
 use Rattle.ids.specs.declared.scan.Clash.the-variants.{Free, TypedId, Mixed, OtherId}
 
@@ -200,7 +201,7 @@ module _ (h : Bytes) (es : List Entry) (ms : List ℕ) (prefix : Bytes) (key : �
     unfolding mixedFound
     unmixed l = rw (mixedFound, lt-ltb (e .kind) 7 l)
 
-    pub mixed-by : 7 ≤ e .kind → {o : ℕ} → o ≡ otherSort (e .kind) → {r : Bool} → r ≡ keyFound h es ms prefix key o e → r ≡ mixedFound h es ms prefix key e
+    pub mixed-by : 7 ≤ e .kind → {o : ℕ} → o ≡ otherSort (e .kind) → {r : Bool} → r ≡ keyFound h es ms prefix key o → r ≡ mixedFound h es ms prefix key e
     unfolding mixedFound
     mixed-by l a b = b ∙ rw (mixedFound, le-ltb (e .kind) 7 l, a)
 
@@ -294,16 +295,16 @@ both-marked h key e ms = elim (test (ltb (e .kind) 7)) [
 
 -- what answers the needs of `find_clash`; key is the hash that the code computed
 module _ (h prefix : Bytes) (new : CodeEntry) {key : ℕ} (ek : key ≡ prefixHash prefix (new .kind)) (ms : List ℕ) where
-  by-key : (es : List Entry) (e : Entry) (kind : ℕ)
-      → keyFound h es ms prefix key (otherSort kind) e ≡ elim (eqb kind 7) [ true ↦ keyFound h es ms prefix key textKind e | false ↦ keyFound h es ms prefix key (mapKind other) e ]
+  by-key : (es : List Entry) (kind : ℕ)
+      → keyFound h es ms prefix key (otherSort kind) ≡ elim (eqb kind 7) [ true ↦ keyFound h es ms prefix key textKind | false ↦ keyFound h es ms prefix key (mapKind other) ]
   unfolding otherSort
-  by-key es e kind = elim (test (eqb kind 7)) [ pass k ↦ rw (otherSort, k) | fail k ↦ rw (otherSort, k) ]
+  by-key es kind = elim (test (eqb kind 7)) [ pass k ↦ rw (otherSort, k) | fail k ↦ rw (otherSort, k) ]
 
   pub clash-found : (es : List Entry) {mixed : Bool} → mixed ≡ mixedFound h es ms prefix key (entryOf new) → {twice : Bool} → twice ≡ twiceFound h es ms prefix key (entryOf new)
       → {r : Clash} → r ≡ clashOf (new .kind) twice mixed → r ≡ clashUnder h es ms prefix (prefixHash prefix (new .kind)) (entryOf new)
   unfolding mixedFound twiceFound
   clash-found es a b c =
-      c ∙ rw (a, b, by-key es (entryOf new) (new .kind)) (by-sort (new .kind) (idFound h es ms prefix key (entryOf new)) (keyFound h es ms prefix key textKind (entryOf new)) (keyFound h es ms prefix key (mapKind other) (entryOf new)))
+      c ∙ rw (a, b, by-key es (new .kind)) (by-sort (new .kind) (idFound h es ms prefix key (entryOf new)) (keyFound h es ms prefix key textKind) (keyFound h es ms prefix key (mapKind other)))
       ∙ ap (λ (k : ℕ). clashUnder h es ms prefix k (entryOf new)) ek
 
   pub clash-marked : {a : List ℕ} → a ≡ meetId h key (entryOf new) ms → {b : List ℕ} → b ≡ meetKey key (new .kind) a → b ≡ markUnder h (prefixHash prefix (new .kind)) (entryOf new) ms

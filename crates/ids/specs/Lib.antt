@@ -1,3 +1,4 @@
 pub mod Clashes
+pub mod Names
 pub mod Ahead
 pub mod Marks

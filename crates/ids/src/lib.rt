@@ -1,3 +1,5 @@
 // IDs that stand twice, and keys that mix texts and maps.
-mod ahead;
+pub mod ahead;
+mod names;
+mod notes;
 pub mod scan;

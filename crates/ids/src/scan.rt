@@ -1,23 +1,26 @@
 // What a new line clashes with among the entries kept so far.
-use crate::ahead;
+use crate::names;
+use crate::notes;
 use entries::entry::Entry;
 use entries::form::Form;
 use entries::kind;
 use entries::part;
 use entries::table;
 use values::bytes;
-use values::hash;
 use values::marks;
 use values::string;
 ghost use mathlib.Core.Path.{_≡_};
-ghost use mathlib.Core.Bool.{not, _||_};
 ghost use Rattle.values.specs.Value.{meaning};
 ghost use Rattle.values.specs.Marks.{meet};
 ghost use Rattle.rules.specs.Shown.{idMeaning};
 ghost use Rattle.entries.specs.Values.{entryOf};
 ghost use Rattle.entries.specs.Tables.{entriesIn};
 ghost use Rattle.ids.specs.Clashes.{lastOf, isOfKey, MayEqual, Candidate, keySeen, idSeen};
-ghost use Rattle.ids.specs.Marks.{keyHash, prefixHash, underHash, idHash, markUnder, markId, markKey, markMap, markNames, markNoted, isFar, AheadMarked, isSought, keyFound, idFound, otherSort, mixedFound, twiceFound, meetId, meetKey, clashOf, clashUnder};
+ghost use lib.Dec.{leb};
+ghost use lib.ListN.{length};
+ghost use Rattle.ids.specs.Names.{prefixHash, idHash, idEnd};
+ghost use Rattle.ids.specs.Ahead.{quotedNoted};
+ghost use Rattle.ids.specs.Marks.{markUnder, IdSpared, KeySpared, Spared, NextNear, markId, markKey, markNames, markNoted, keyFound, idFound, mixedFound, twiceFound, meetId, meetKey, clashOf, clashUnder};
 
 pub enum Clash {
     Free,
@@ -136,56 +139,6 @@ fn id_seen(
     false
 }
 
-// What the hashes of an entry begin with: that of an other record's key.
-fn key_hash(h: &[u8], e: Entry) -> u64
-    ensures { λ r. ⌜ r ≡ keyHash (now (h .entry)) (entryOf e) ⌝ }
-{
-    if e.kind < kind::OTHER_MAP {
-        return hash::WIDE_BASIS;
-    }
-    let line = part::line_part(h, e);
-    let end = bytes::find(line, 2, b'=');
-    hash::wide_from(hash::WIDE_BASIS, bytes::part(line, 2, end), false)
-}
-
-fn under_hash(key: u64, kind: u8) -> u64
-    ensures { λ r. ⌜ r ≡ underHash key kind ⌝ }
-{
-    hash::wide_step(key, kind as u16)
-}
-
-// The ID of an entry, under its key.
-fn id_hash(h: &[u8], key: u64, e: Entry) -> u64
-    ensures { λ r. ⌜ r ≡ idHash key (e .kind) (idMeaning (now (h .entry)) (entryOf e)) ⌝ }
-{
-    hash::wide_from(under_hash(key, e.kind), part::id_part(h, e), e.quoted)
-}
-
-// Whether no entry has the new one's name, by the marks: of a name that stands otherwise than those that were looked for ahead they tell nothing.
-fn is_free(met: bool, sought: bool) -> bool
-    ensures { λ r. ⌜ r ≡ not (met || not sought) ⌝ }
-{
-    if met {
-        return false;
-    }
-    sought
-}
-
-// Whether the new line stands as those do for which entries of this kind were marked: texts were for maps only.
-fn is_sought(h: &[u8], prefix: &[u8], kind: u8, new: Entry) -> bool
-    ensures { λ r. ⌜ r ≡ isSought (now (h .entry)) (now (prefix .entry)) kind (entryOf new) ⌝ }
-{
-    if kind != kind::OTHER_TEXT {
-        return true;
-    }
-    let line = part::line_part(h, new);
-    let at = prefix.len();
-    if line.len() <= at {
-        return false;
-    }
-    line[at] == b'<'
-}
-
 // As `key_seen`, where the marks don't tell it already; `key` is the new entry's key hash.
 fn has_key(
     h: &[u8],
@@ -195,12 +148,10 @@ fn has_key(
     prefix: &[u8],
     key: u64,
     kind: u8,
-    new: Entry,
 ) -> bool
-    ensures { λ r. ⌜ r ≡ keyFound (now (h .entry)) (entriesIn form (now (kept .entry))) (now (marks .entry)) (now (prefix .entry)) key kind (entryOf new) ⌝ }
+    ensures { λ r. ⌜ r ≡ keyFound (now (h .entry)) (entriesIn form (now (kept .entry))) (now (marks .entry)) (now (prefix .entry)) key kind ⌝ }
 {
-    let met = marks::is_met(marks, under_hash(key, kind));
-    if is_free(met, is_sought(h, prefix, kind, new)) {
+    if !marks::is_met(marks, names::under_hash(key, kind)) {
         return false;
     }
     key_seen(h, kept, form, prefix, kind)
@@ -219,8 +170,7 @@ fn has_id(
     ensures found { λ r. ⌜ r ≡ idFound (now (h .entry)) (entriesIn form (now (kept .entry))) (now (marks .entry)) (now (prefix .entry)) key (entryOf new) ⌝ }
     ensures marks { λ _. ⌜ now (marks .exit) ≡ meet (now (marks .entry)) (idHash key (new .kind) (idMeaning (now (h .entry)) (entryOf new))) ⌝ }
 {
-    let met = marks::meet_hash(marks, id_hash(h, key, new));
-    if is_free(met, ahead::is_set(h, new)) {
+    if !marks::meet_hash(marks, names::id_hash(h, key, new)) {
         return false;
     }
     id_seen(
@@ -249,16 +199,15 @@ fn is_mixed(
     if new.kind < kind::OTHER_MAP {
         return false;
     }
-    has_key(h, kept, form, marks, prefix, key, other_sort(new.kind), new)
-}
-
-fn other_sort(kind: u8) -> u8
-    ensures { λ r. ⌜ r ≡ otherSort kind ⌝ }
-{
-    if kind == kind::OTHER_MAP {
-        return kind::OTHER_TEXT;
-    }
-    kind::OTHER_MAP
+    has_key(
+        h,
+        kept,
+        form,
+        marks,
+        prefix,
+        key,
+        names::other_sort(new.kind),
+    )
 }
 
 // As `has_id`, of a kind that has one.
@@ -286,7 +235,7 @@ fn meet_key(marks: &mut [u64], key: u64, kind: u8)
     if kind < kind::OTHER_MAP {
         return;
     }
-    marks::meet_hash(marks, under_hash(key, kind));
+    marks::meet_hash(marks, names::under_hash(key, kind));
 }
 
 fn clash_of(kind: u8, twice: bool, mixed: bool) -> Clash
@@ -304,20 +253,6 @@ fn clash_of(kind: u8, twice: bool, mixed: bool) -> Clash
     Clash::OtherId
 }
 
-// What a new entry's hashes begin with, by its `##key=`.
-fn prefix_hash(prefix: &[u8], kind: u8) -> u64
-    ensures { λ r. ⌜ r ≡ prefixHash (now (prefix .entry)) kind ⌝ }
-{
-    if kind < kind::OTHER_MAP {
-        return hash::WIDE_BASIS;
-    }
-    if prefix.len() < 3 {
-        return hash::WIDE_BASIS;
-    }
-    let end = prefix.len() - 1;
-    hash::wide_from(hash::WIDE_BASIS, &prefix[2..end], false)
-}
-
 // What is wrong with a new line beside the entries kept so far, which are marked; it is marked too. `new` is its entry,
 // `prefix` its `##key=`. Each part is called here alone, so that the compiler makes it a part of the caller.
 pub fn find_clash(
@@ -331,124 +266,139 @@ pub fn find_clash(
     ensures clash { λ r. ⌜ r ≡ clashUnder (now (h .entry)) (entriesIn form (now (kept .entry))) (now (marks .entry)) (now (prefix .entry)) (prefixHash (now (prefix .entry)) (new .kind)) (entryOf new) ⌝ }
     ensures marks { λ _. ⌜ now (marks .exit) ≡ markUnder (now (h .entry)) (prefixHash (now (prefix .entry)) (new .kind)) (entryOf new) (now (marks .entry)) ⌝ }
 {
-    let key = prefix_hash(prefix, new.kind);
+    let key = names::prefix_hash(prefix, new.kind);
     let mixed = is_mixed(h, kept, form, marks, prefix, key, new);
     let twice = is_twice(h, kept, form, marks, prefix, key, new);
     meet_key(marks, key, new.kind);
     clash_of(new.kind, twice, mixed)
 }
 
-// The ID of an entry, where it may stand ahead.
+// The ID of an entry, where it was noted.
 fn mark_id(h: &[u8], e: Entry, notes: &[u64], marks: &mut [u64])
     ensures { λ _. ⌜ now (marks .exit) ≡ markId (now (h .entry)) (now (notes .entry)) (entryOf e) (now (marks .entry)) ⌝ }
 {
-    if !ahead::is_text_ahead(notes, part::id_part(h, e)) {
+    if !notes::is_text_near(notes, part::id_part(h, e), e.quoted) {
         return;
     }
-    marks::meet_hash(marks, id_hash(h, key_hash(h, e), e));
+    let hash = names::id_hash(h, names::key_hash(h, e), e);
+    if !notes::is_hash_noted(notes, hash) {
+        return;
+    }
+    marks::meet_hash(marks, hash);
 }
 
-// That there is a text under a key, where a map of it may stand ahead.
+// That there is a record of its kind under its key, where that was noted.
 fn mark_key(h: &[u8], e: Entry, notes: &[u64], marks: &mut [u64])
     ensures { λ _. ⌜ now (marks .exit) ≡ markKey (now (h .entry)) (now (notes .entry)) (entryOf e) (now (marks .entry)) ⌝ }
 {
-    if !ahead::is_map_ahead(notes, part::line_part(h, e)) {
+    if !notes::is_sort_noted(notes, e.kind) {
         return;
     }
-    marks::meet_hash(marks, under_hash(key_hash(h, e), e.kind));
-}
-
-// That there is a map under a key, and its ID, where both may: under a key that does not its ID is no other's.
-fn mark_map(h: &[u8], e: Entry, notes: &[u64], marks: &mut [u64])
-    ensures { λ _. ⌜ now (marks .exit) ≡ markMap (now (h .entry)) (now (notes .entry)) (entryOf e) (now (marks .entry)) ⌝ }
-{
-    if !ahead::is_key_ahead(notes, part::line_part(h, e)) {
+    let hash = names::under_hash(names::key_hash(h, e), e.kind);
+    if !notes::is_hash_noted(notes, hash) {
         return;
     }
-    marks::meet_hash(marks, under_hash(key_hash(h, e), e.kind));
-    mark_id(h, e, notes, marks);
+    marks::meet_hash(marks, hash);
 }
 
-// What a new line may clash with.
-fn mark_entry(h: &[u8], e: Entry, notes: &[u64], marks: &mut [u64])
+// What a line ahead may clash with.
+fn mark_names(h: &[u8], e: Entry, notes: &[u64], marks: &mut [u64])
     ensures { λ _. ⌜ now (marks .exit) ≡ markNames (now (h .entry)) (now (notes .entry)) (entryOf e) (now (marks .entry)) ⌝ }
 {
     if e.kind < kind::OTHER_MAP {
         mark_id(h, e, notes, marks);
         return;
     }
-    if e.kind == kind::OTHER_MAP {
-        mark_map(h, e, notes, marks);
-        return;
-    }
     mark_key(h, e, notes, marks);
+    if e.kind == kind::OTHER_MAP {
+        mark_id(h, e, notes, marks);
+    }
 }
 
-// Marks the entries whose names may stand ahead, by the notes of what stands there.
-fn mark_noted(h: &[u8], kept: &[u64], form: Form, plain: bool, notes: &[u64], marks: &mut [u64])
-    ensures { λ _. ⌜ now (marks .exit) ≡ markNoted (now (h .entry)) plain (now (notes .entry)) (entriesIn form (now (kept .entry))) (now (marks .entry)) ⌝ }
+// Whether an entry's ID lies in the header.
+fn lies_inside(h: &[u8], e: Entry) -> bool
+    ensures { λ r. ⌜ r ≡ leb (idEnd (entryOf e)) (length (now (h .entry))) ⌝ }
 {
+    if h.len() < e.start {
+        return false;
+    }
+    let rest = h.len() - e.start;
+    if rest < e.offset {
+        return false;
+    }
+    e.id_length <= rest - e.offset
+}
+
+// Whether the ID of an entry may have been noted, where no ID ahead is quoted: as `is_text_near`, with the last bytes read where they stand.
+fn is_id_near(h: &[u8], e: Entry, notes: &[u64]) -> bool
+    ensures { λ r. ⌜ IdSpared (now (h .entry)) (now (notes .entry)) (entryOf e) r ⌝ }
+{
+    let quoted = e.quoted;
+    if quoted {
+        return true;
+    }
+    if e.id_length < 8 {
+        return true;
+    }
+    if !lies_inside(h, e) {
+        return true;
+    }
+    marks::is_noted(notes, names::tail_hash(h, e.start + e.offset + e.id_length))
+}
+
+fn is_key_near(e: Entry, notes: &[u64]) -> bool
+    ensures { λ r. ⌜ KeySpared (now (notes .entry)) (entryOf e) r ⌝ }
+{
+    if e.kind < kind::OTHER_MAP {
+        return false;
+    }
+    notes::is_sort_noted(notes, e.kind)
+}
+
+// Whether a name of an entry may have been noted: a cheap test that most entries fail.
+fn is_near(h: &[u8], e: Entry, notes: &[u64]) -> bool
+    ensures { λ r. ⌜ Spared (now (h .entry)) (now (notes .entry)) (entryOf e) r ⌝ }
+{
+    if is_key_near(e, notes) {
+        return true;
+    }
+    if kind::OTHER_MAP < e.kind {
+        return false;
+    }
+    is_id_near(h, e, notes)
+}
+
+// The first entry from number `first` on of which that holds, or the end; where an ID ahead is quoted, any entry may have its ID.
+fn next_near(h: &[u8], kept: &[u64], form: Form, notes: &[u64], quoted: bool, first: usize) -> usize
+    requires { ⌜ quoted ≡ quotedNoted (now notes) ⌝ }
+    ensures { λ r. ⌜ NextNear (now (h .entry)) form (now (kept .entry)) (now (notes .entry)) first r ⌝ }
+{
+    if quoted {
+        return first;
+    }
+    let mut k = first;
+    while k < table::count(kept, form) {
+        if is_near(h, table::get(kept, form, k), notes) {
+            return k;
+        }
+        k += 1;
+    }
+    k
+}
+
+// Marks the entries whose names were noted, so that a scan of the table may be left out; where there are no notes, all of them.
+pub fn mark_noted(h: &[u8], kept: &[u64], form: Form, notes: &[u64], marks: &mut [u64])
+    ensures { λ _. ⌜ now (marks .exit) ≡ markNoted (now (h .entry)) (now (notes .entry)) (entriesIn form (now (kept .entry))) (now (marks .entry)) ⌝ }
+{
+    let quoted = notes::is_quoted_noted(notes);
     let mut k: usize = 0;
     loop {
-        k = ahead::next_near(h, kept, form, plain, notes, k);
+        k = next_near(h, kept, form, notes, quoted, k);
         if table::count(kept, form) <= k {
             return;
         }
         let e = table::get(kept, form, k);
-        mark_entry(h, e, notes, marks);
+        mark_names(h, e, notes, marks);
         k += 1;
     }
-}
-
-// Marks what lines from `from` on may clash with, by notes of what stands there, beside those that were.
-fn mark_by(h: &[u8], from: usize, kept: &[u64], form: Form, notes: &mut [u64], marks: &mut [u64])
-    ensures { λ _. ⌜ AheadMarked (now (h .entry)) from (now (marks .exit)) (entriesIn form (now (kept .entry))) ⌝ }
-{
-    let plain = ahead::look_ahead(h, from, notes);
-    mark_noted(h, kept, form, plain, notes, marks);
-}
-
-// Whether so many bytes stand from `from` on that they need more notes than a short part, which is read in less time than those are cleared.
-fn is_far(h: &[u8], from: usize) -> bool
-    ensures { λ r. ⌜ r ≡ isFar (now (h .entry)) from ⌝ }
-{
-    if h.len() < from {
-        return false;
-    }
-    16384 <= h.len() - from
-}
-
-fn mark_far(h: &[u8], from: usize, kept: &[u64], form: Form, marks: &mut [u64])
-    ensures { λ _. ⌜ AheadMarked (now (h .entry)) from (now (marks .exit)) (entriesIn form (now (kept .entry))) ⌝ }
-{
-    let mut notes = [0u64; 32768];
-    mark_by(h, from, kept, form, &mut notes, marks);
-}
-
-// With notes of its own where none are lent. A function that calls itself is not made a part of its caller, nor is one with more
-// notes of it: else all notes would be on the stack of every header.
-fn mark_lent(h: &[u8], from: usize, kept: &[u64], form: Form, notes: &mut [u64], marks: &mut [u64])
-    ensures { λ _. ⌜ AheadMarked (now (h .entry)) from (now (marks .exit)) (entriesIn form (now (kept .entry))) ⌝ }
-{
-    if 0 < notes.len() {
-        mark_by(h, from, kept, form, notes, marks);
-        return;
-    }
-    if is_far(h, from) {
-        mark_far(h, from, kept, form, marks);
-        return;
-    }
-    let mut few = [0u64; 1024];
-    mark_lent(h, from, kept, form, &mut few, marks);
-}
-
-// Marks what lines from `from` on may clash with, so that a scan of the table may be left out.
-pub fn mark_ahead(h: &[u8], from: usize, kept: &[u64], form: Form, marks: &mut [u64])
-    ensures { λ _. ⌜ AheadMarked (now (h .entry)) from (now (marks .exit)) (entriesIn form (now (kept .entry))) ⌝ }
-{
-    if table::count(kept, form) == 0 {
-        return;
-    }
-    let mut none = [0u64; 0];
-    mark_lent(h, from, kept, form, &mut none, marks);
 }

@@ -1,25 +1,25 @@
+use Rattle.header.proofs.Parsers.{ons}
 use borrow.Author.Needs.{needs}
 use Rattle.header.proofs.parser.read_marked.Statement.{statement}
 use Rattle.header.proofs.parser.read_marked.Tie as tie
-use Rattle.header.proofs.Parsers.{ons}
 
 kept-requires : tie.Need-kept-requires
-kept-requires c κs = search needs
+kept-requires c κs = search (ons, needs)
 
 mark-ahead-requires : tie.Need-mark-ahead-requires
-mark-ahead-requires c κs = search needs
+mark-ahead-requires c κs = search (ons, needs)
 
 read-lines-requires : tie.Need-read-lines-requires
 read-lines-requires c κs = search (ons, needs)
 
 same-length : tie.Need-same-length
-same-length c = search needs
+same-length c = search (ons, needs)
 
 same-length-2 : tie.Need-same-length-2
-same-length-2 c = search needs
+same-length-2 c = search (ons, needs)
 
 returns : tie.Need-returns
-returns c = search needs
+returns c = search (ons, needs)
 
 pub read-marked-spec : {M : Type 1} → statement M
 read-marked-spec =

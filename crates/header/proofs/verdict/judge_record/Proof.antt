@@ -6,8 +6,11 @@ use Rattle.header.proofs.verdict.judge_record.Tie as tie
 part-requires : tie.Need-part-requires
 part-requires c κs = search (records, needs)
 
-meet-record-requires : tie.Need-meet-record-requires
-meet-record-requires c κs = search (records, needs)
+read-record-requires : tie.Need-read-record-requires
+read-record-requires c κs = search (records, needs)
+
+meet-read-requires : tie.Need-meet-read-requires
+meet-read-requires c κs = search (records, needs)
 
 enum-known-new : tie.Need-enum-known-new
 enum-known-new c = search (records, needs)
@@ -35,7 +38,8 @@ judge-record-spec =
     tie.close
     (tie.spec
     part-requires
-    meet-record-requires
+    read-record-requires
+    meet-read-requires
     enum-known-new
     part-requires-2
     judge-id-requires

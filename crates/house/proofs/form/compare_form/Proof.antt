@@ -6,9 +6,6 @@ use Rattle.house.proofs.form.compare_form.Tie as tie
 limits-requires : tie.Need-limits-requires
 limits-requires c κs = search needs
 
-are-formed-requires : tie.Need-are-formed-requires
-are-formed-requires c κs = search needs
-
 slice-aggregate-put-form : tie.Need-slice-aggregate-put-form
 slice-aggregate-put-form c = search needs
 
@@ -29,7 +26,6 @@ compare-form-spec =
     tie.close
     (tie.spec
     limits-requires
-    are-formed-requires
     slice-aggregate-put-form
     put-form-requires
     outcome-of-requires

@@ -5,10 +5,10 @@ use Prim.Native.Nat.{_-_}
 use borrow.Author.Needs.{needs}
 
 abbrev Inv-loop : tie.InvT-loop
-Inv-loop h kept form prefix slot twice heads links end k₀ k = Seeing form h kept prefix slot twice heads links k
+Inv-loop h kept form prefix slot heads links end k₀ k = Seeing form h kept prefix slot heads links k
 
 abbrev μ-loop : tie.MeasureT-loop
-μ-loop h kept form prefix slot twice heads links end k₀ k = end - k
+μ-loop h kept form prefix slot heads links end k₀ k = end - k
 
 number-at-requires : tie.Need-number-at-requires Inv-loop μ-loop
 number-at-requires c κs = search (sees, needs)

@@ -18,35 +18,20 @@ prefix-part-requires c κs = search (firsts, needs)
 slot-of-requires : tie.Need-slot-of-requires
 slot-of-requires c κs = search (firsts, needs)
 
-is-alone-requires : tie.Need-is-alone-requires
-is-alone-requires c κs = search (firsts, needs)
-
-line-part-requires : tie.Need-line-part-requires
-line-part-requires c κs = search (firsts, needs)
-
-put-entry-requires : tie.Need-put-entry-requires
-put-entry-requires c κs = search (firsts, needs)
-
-same-length : tie.Need-same-length
-same-length c = search (firsts, needs)
+is-seen-requires : tie.Need-is-seen-requires
+is-seen-requires c κs = search (firsts, needs)
 
 returns-2 : tie.Need-returns-2
 returns-2 c = search (firsts, needs)
 
-is-seen-requires : tie.Need-is-seen-requires
-is-seen-requires c κs = search (firsts, needs)
-
-returns-3 : tie.Need-returns-3
-returns-3 c = search (firsts, needs)
-
 put-linked-requires : tie.Need-put-linked-requires
 put-linked-requires c κs = search (firsts, needs)
 
-same-length-2 : tie.Need-same-length-2
-same-length-2 c = search (firsts, needs)
+same-length : tie.Need-same-length
+same-length c = search (firsts, needs)
 
-returns-4 : tie.Need-returns-4
-returns-4 c = search (firsts, needs)
+returns-3 : tie.Need-returns-3
+returns-3 c = search (firsts, needs)
 
 pub put-if-first-spec : {M : Type 1} → statement M
 put-if-first-spec =
@@ -57,13 +42,8 @@ put-if-first-spec =
     returns
     prefix-part-requires
     slot-of-requires
-    is-alone-requires
-    line-part-requires
-    put-entry-requires
-    same-length
-    returns-2
     is-seen-requires
-    returns-3
+    returns-2
     put-linked-requires
-    same-length-2
-    returns-4)
+    same-length
+    returns-3)

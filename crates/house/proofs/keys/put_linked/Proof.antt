@@ -9,13 +9,13 @@ use Rattle.house.proofs.keys.put_linked.Statement.{statement}
 use Rattle.house.proofs.keys.put_linked.Tie as tie
 
 abbrev Inv-loop : tie.InvT-loop
-Inv-loop h kept form prefix slot twice heads links first version out₀ given progress₀ k₀ out progress k = Putting form (versionOf version) h kept prefix slot twice heads links k₀ given out₀ progress₀ out progress k
+Inv-loop h kept form prefix slot heads links first version out₀ given progress₀ k₀ out progress k = Putting form (versionOf version) h kept prefix slot heads links k₀ given out₀ progress₀ out progress k
 
 abbrev μ-loop : tie.MeasureT-loop
-μ-loop h kept form prefix slot twice heads links first version out₀ given progress₀ k₀ out progress k = room form kept - k
+μ-loop h kept form prefix slot heads links first version out₀ given progress₀ k₀ out progress k = room form kept - k
 
 loop-holds : tie.Need-loop-holds Inv-loop μ-loop
-loop-holds c = put-start _ _ _ _ _ _ _ _ _ _ _ _ _ (search needs) (search needs) (search needs)
+loop-holds c = put-start _ _ _ _ _ _ _ _ _ _ _ _ (search needs) (search needs) (search needs)
 
 count-requires : tie.Need-count-requires Inv-loop μ-loop
 count-requires c κs = search (puttings, needs)

@@ -8,13 +8,13 @@ use Rattle.house.proofs.keys.put_others_by.Statement.{statement}
 use Rattle.house.proofs.keys.put_others_by.Tie as tie
 
 abbrev Inv-loop : tie.InvT-loop
-Inv-loop h kept form version twice heads links out₀ given progress₀ k₀ out progress k = Othering form (versionOf version) h kept twice heads links given out₀ progress₀ out progress k
+Inv-loop h kept form version heads links out₀ given progress₀ k₀ out progress k = Othering form (versionOf version) h kept heads links given out₀ progress₀ out progress k
 
 abbrev μ-loop : tie.MeasureT-loop
-μ-loop h kept form version twice heads links out₀ given progress₀ k₀ out progress k = room form kept - k
+μ-loop h kept form version heads links out₀ given progress₀ k₀ out progress k = room form kept - k
 
 loop-holds : tie.Need-loop-holds Inv-loop μ-loop
-loop-holds c = other-start _ _ _ _ _ _ _ _ _ _ (search needs) (search needs) (search needs)
+loop-holds c = other-start _ _ _ _ _ _ _ _ _ (search needs) (search needs) (search needs)
 
 count-requires : tie.Need-count-requires Inv-loop μ-loop
 count-requires c κs = search (others, needs)

@@ -9,9 +9,6 @@ slice-aggregate-put-others-by c = search needs
 slice-aggregate-put-others-by-2 : tie.Need-slice-aggregate-put-others-by-2
 slice-aggregate-put-others-by-2 c = search needs
 
-slice-aggregate-put-others-by-3 : tie.Need-slice-aggregate-put-others-by-3
-slice-aggregate-put-others-by-3 c = search needs
-
 put-others-by-requires : tie.Need-put-others-by-requires
 put-others-by-requires c κs = search needs
 
@@ -27,7 +24,6 @@ put-others-few-spec =
     (tie.spec
     slice-aggregate-put-others-by
     slice-aggregate-put-others-by-2
-    slice-aggregate-put-others-by-3
     put-others-by-requires
     same-length
     returns)

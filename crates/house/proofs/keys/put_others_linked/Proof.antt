@@ -3,9 +3,6 @@ use borrow.Author.Needs.{needs}
 use Rattle.house.proofs.keys.put_others_linked.Statement.{statement}
 use Rattle.house.proofs.keys.put_others_linked.Tie as tie
 
-slice-aggregate-twice : tie.Need-slice-aggregate-twice
-slice-aggregate-twice c = search needs
-
 link-all-requires : tie.Need-link-all-requires
 link-all-requires c κs = search needs
 
@@ -28,7 +25,6 @@ pub put-others-linked-spec : {M : Type 1} → statement M
 put-others-linked-spec =
     tie.close
     (tie.spec
-    slice-aggregate-twice
     link-all-requires
     put-others-by-requires
     same-length

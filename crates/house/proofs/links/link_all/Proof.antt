@@ -4,10 +4,10 @@ use Rattle.house.proofs.links.link_all.Statement.{statement}
 use Rattle.house.proofs.links.link_all.Tie as tie
 
 abbrev Inv-loop : tie.InvT-loop
-Inv-loop h kept form twice heads₀ links₀ k₀ heads links k = Linking form h kept twice heads₀ links₀ heads links k
+Inv-loop h kept form heads₀ links₀ k₀ heads links k = Linking form h kept heads₀ links₀ heads links k
 
 abbrev μ-loop : tie.MeasureT-loop
-μ-loop h kept form twice heads₀ links₀ k₀ heads links k = k
+μ-loop h kept form heads₀ links₀ k₀ heads links k = k
 
 count-requires : tie.Need-count-requires Inv-loop μ-loop
 count-requires c κs = search (linkings, needs)

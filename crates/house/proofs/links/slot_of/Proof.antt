@@ -9,20 +9,14 @@ returns c = search (slots, needs)
 wide-from-requires : tie.Need-wide-from-requires
 wide-from-requires c κs = search (slots, needs)
 
-is-met-requires : tie.Need-is-met-requires
-is-met-requires c κs = search (slots, needs)
-
-returns-2 : tie.Need-returns-2
-returns-2 c = search (slots, needs)
-
 wide-step-requires : tie.Need-wide-step-requires
 wide-step-requires c κs = search (slots, needs)
 
 rem-result : tie.Need-rem-result
 rem-result c = search (slots, needs)
 
-returns-3 : tie.Need-returns-3
-returns-3 c = search (slots, needs)
+returns-2 : tie.Need-returns-2
+returns-2 c = search (slots, needs)
 
 pub slot-of-spec : {M : Type 1} → statement M
 slot-of-spec =
@@ -30,8 +24,6 @@ slot-of-spec =
     (tie.spec
     returns
     wide-from-requires
-    is-met-requires
-    returns-2
     wide-step-requires
     rem-result
-    returns-3)
+    returns-2)

@@ -9,12 +9,6 @@ under-hash-requires c κs = search (scans, needs)
 is-met-requires : tie.Need-is-met-requires
 is-met-requires c κs = search (scans, needs)
 
-is-sought-requires : tie.Need-is-sought-requires
-is-sought-requires c κs = search (scans, needs)
-
-is-free-requires : tie.Need-is-free-requires
-is-free-requires c κs = search (scans, needs)
-
 returns : tie.Need-returns
 returns c = search (scans, needs)
 
@@ -26,12 +20,4 @@ returns-2 c = search (scans, needs)
 
 pub has-key-spec : {M : Type 1} → statement M
 has-key-spec =
-    tie.close
-    (tie.spec
-    under-hash-requires
-    is-met-requires
-    is-sought-requires
-    is-free-requires
-    returns
-    key-seen-requires
-    returns-2)
+    tie.close (tie.spec under-hash-requires is-met-requires returns key-seen-requires returns-2)

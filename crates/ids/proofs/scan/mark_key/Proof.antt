@@ -3,11 +3,8 @@ use borrow.Author.Needs.{needs}
 use Rattle.ids.proofs.scan.mark_key.Statement.{statement}
 use Rattle.ids.proofs.scan.mark_key.Tie as tie
 
-line-part-requires : tie.Need-line-part-requires
-line-part-requires c κs = search (namings, needs)
-
-is-map-ahead-requires : tie.Need-is-map-ahead-requires
-is-map-ahead-requires c κs = search (namings, needs)
+is-sort-noted-requires : tie.Need-is-sort-noted-requires
+is-sort-noted-requires c κs = search (namings, needs)
 
 returns : tie.Need-returns
 returns c = search (namings, needs)
@@ -18,24 +15,31 @@ key-hash-requires c κs = search (namings, needs)
 under-hash-requires : tie.Need-under-hash-requires
 under-hash-requires c κs = search (namings, needs)
 
+is-hash-noted-requires : tie.Need-is-hash-noted-requires
+is-hash-noted-requires c κs = search (namings, needs)
+
+returns-2 : tie.Need-returns-2
+returns-2 c = search (namings, needs)
+
 meet-hash-requires : tie.Need-meet-hash-requires
 meet-hash-requires c κs = search (namings, needs)
 
 same-length : tie.Need-same-length
 same-length c = search (namings, needs)
 
-returns-2 : tie.Need-returns-2
-returns-2 c = search (namings, needs)
+returns-3 : tie.Need-returns-3
+returns-3 c = search (namings, needs)
 
 pub mark-key-spec : {M : Type 1} → statement M
 mark-key-spec =
     tie.close
     (tie.spec
-    line-part-requires
-    is-map-ahead-requires
+    is-sort-noted-requires
     returns
     key-hash-requires
     under-hash-requires
+    is-hash-noted-requires
+    returns-2
     meet-hash-requires
     same-length
-    returns-2)
+    returns-3)

@@ -14,7 +14,7 @@ use records::record::{MapRecord, RecordRead};
 use values::utf8;
 
 // A map; a record without fields, with the length of its key; or refusal 29.
-#[derive(Drop)]
+#[derive(Clone, Copy)]
 pub enum Alone {
     Map(MapRecord),
     Plain(usize),

@@ -20,7 +20,7 @@ use records::refusal::Refusal;
 // version in force and the number of samples; how many bytes are held, where the next line begins, how many lines were read and entries
 // kept. Where `over` is not 0 the four numbers after it are the final answer.
 #[repr(C)]
-#[derive(Drop)]
+#[derive(Clone, Copy)]
 pub struct VcfhFeed {
     pub imposed: u64,
     pub imposed_major: u32,
@@ -42,7 +42,7 @@ pub struct VcfhFeed {
 
 // An answer, and the state for the next call.
 #[repr(C)]
-#[derive(Drop)]
+#[derive(Clone, Copy)]
 pub struct VcfhFed {
     pub number: u64,
     pub line: u64,
@@ -51,20 +51,20 @@ pub struct VcfhFed {
     pub state: VcfhFeed,
 }
 
-#[derive(Drop)]
+#[derive(Clone, Copy)]
 enum PhaseRead {
     Is(Phase),
     Unknown,
 }
 
-#[derive(Drop)]
+#[derive(Clone, Copy)]
 struct ImposedParts {
     imposed: u64,
     major: u32,
     minor: u32,
 }
 
-#[derive(Drop)]
+#[derive(Clone, Copy)]
 struct PhaseParts {
     phase: u64,
     major: u32,
@@ -72,7 +72,7 @@ struct PhaseParts {
     samples: u64,
 }
 
-#[derive(Drop)]
+#[derive(Clone, Copy)]
 struct EndParts {
     over: u64,
     number: u64,

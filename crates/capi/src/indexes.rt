@@ -10,7 +10,7 @@ use index::{build, find};
 
 // Document 02's number, 0 if the index is built, and how many entries were placed, 0 if refused.
 #[repr(C)]
-#[derive(Drop)]
+#[derive(Clone, Copy)]
 pub struct VcfhIndexed {
     pub number: u64,
     pub placed: u64,
@@ -18,7 +18,7 @@ pub struct VcfhIndexed {
 
 // 1 and the entry's number, or 0 and 0 if nothing is found; how many places were looked at.
 #[repr(C)]
-#[derive(Drop)]
+#[derive(Clone, Copy)]
 pub struct VcfhFound {
     pub found: u64,
     pub entry: u64,

@@ -36,7 +36,7 @@ use turning::turn::TurnAnswer;
 // Document 01's number, 0 if accepted; the line and its start; how many entries the table keeps; of an accepted header the number of
 // samples and the version in force, all 0 if refused.
 #[repr(C)]
-#[derive(Drop)]
+#[derive(Clone, Copy)]
 pub struct VcfhAnswer {
     pub number: u64,
     pub line: u64,
@@ -47,7 +47,7 @@ pub struct VcfhAnswer {
     pub minor: u32,
 }
 
-#[derive(Drop)]
+#[derive(Clone, Copy)]
 struct Told {
     samples: u64,
     major: u32,
@@ -56,7 +56,7 @@ struct Told {
 
 // Number, line, start and entries as there, and the length of the form, 0 if refused.
 #[repr(C)]
-#[derive(Drop)]
+#[derive(Clone, Copy)]
 pub struct VcfhForm {
     pub number: u64,
     pub line: u64,
@@ -67,7 +67,7 @@ pub struct VcfhForm {
 
 // The same, and how many pairs were written of strings and of contigs, 0 if refused.
 #[repr(C)]
-#[derive(Drop)]
+#[derive(Clone, Copy)]
 pub struct VcfhDictionaries {
     pub number: u64,
     pub line: u64,
@@ -79,7 +79,7 @@ pub struct VcfhDictionaries {
 
 // Document 02's number, 0 if the entries are listed, and how many there are, 0 if refused.
 #[repr(C)]
-#[derive(Drop)]
+#[derive(Clone, Copy)]
 pub struct VcfhOdd {
     pub number: u64,
     pub listed: u64,
@@ -87,7 +87,7 @@ pub struct VcfhOdd {
 
 // Document 02's number, 0 if the entries are turned, and how many there are, 0 if refused.
 #[repr(C)]
-#[derive(Drop)]
+#[derive(Clone, Copy)]
 pub struct VcfhTurned {
     pub number: u64,
     pub entries: u64,
@@ -95,7 +95,7 @@ pub struct VcfhTurned {
 
 // The number, the line and its start, how many contigs were written and in how many bytes, both 0 if refused.
 #[repr(C)]
-#[derive(Drop)]
+#[derive(Clone, Copy)]
 pub struct VcfhContigs {
     pub number: u64,
     pub line: u64,
@@ -106,7 +106,7 @@ pub struct VcfhContigs {
 
 // Number 0 and a part of the header, or number 29 and no part.
 #[repr(C)]
-#[derive(Drop)]
+#[derive(Clone, Copy)]
 pub struct VcfhPart {
     pub number: u64,
     pub start: u64,
@@ -115,7 +115,7 @@ pub struct VcfhPart {
 
 // Number 0, a key as a part of the header and how many fields its record has; or number 29 and nothing.
 #[repr(C)]
-#[derive(Drop)]
+#[derive(Clone, Copy)]
 pub struct VcfhKey {
     pub number: u64,
     pub start: u64,
@@ -125,7 +125,7 @@ pub struct VcfhKey {
 
 // The same as a read answer, and the constants of W01 to W40 in whole hundredths, all 0 if refused.
 #[repr(C)]
-#[derive(Drop)]
+#[derive(Clone, Copy)]
 pub struct VcfhRegister {
     pub number: u64,
     pub line: u64,
@@ -136,7 +136,7 @@ pub struct VcfhRegister {
 
 // How many wells differ; then, lowest first, each well's number, what it had and what it has; 0 past these.
 #[repr(C)]
-#[derive(Drop)]
+#[derive(Clone, Copy)]
 pub struct VcfhDifferences {
     pub count: u64,
     pub wells: [u64; 40],
@@ -526,7 +526,7 @@ pub extern "C" fn vcfh_to_first(header: &[u8], second: &[u64], first: &mut [u64]
 
 // An answer as of a reading; 1 if the header is its own house form, else 0; and where an accepted one and its form first differ.
 #[repr(C)]
-#[derive(Drop)]
+#[derive(Clone, Copy)]
 pub struct VcfhVerdict {
     pub number: u64,
     pub line: u64,

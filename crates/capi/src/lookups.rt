@@ -28,7 +28,7 @@ use values::{bytes, string};
 // Number 0, the kind, and the line, the key and the ID as parts of the header, with 1 if there is an ID and 1 if it stands between
 // quotes; or number 29 and nothing.
 #[repr(C)]
-#[derive(Drop)]
+#[derive(Clone, Copy)]
 pub struct VcfhDescribed {
     pub number: u64,
     pub kind: u64,
@@ -44,7 +44,7 @@ pub struct VcfhDescribed {
 
 // Number 0, a field's key and its value's text as parts of the header, and 1 if that stands between quotes; or number 29 and nothing.
 #[repr(C)]
-#[derive(Drop)]
+#[derive(Clone, Copy)]
 pub struct VcfhField {
     pub number: u64,
     pub key_start: u64,
@@ -56,7 +56,7 @@ pub struct VcfhField {
 
 // The same of a value alone.
 #[repr(C)]
-#[derive(Drop)]
+#[derive(Clone, Copy)]
 pub struct VcfhValue {
     pub number: u64,
     pub start: u64,
@@ -66,7 +66,7 @@ pub struct VcfhValue {
 
 // Number 0 and an entry's number, or number 29 and 0.
 #[repr(C)]
-#[derive(Drop)]
+#[derive(Clone, Copy)]
 pub struct VcfhUnder {
     pub number: u64,
     pub entry: u64,
@@ -74,7 +74,7 @@ pub struct VcfhUnder {
 
 // Number 0 and how many bytes were written; or number 28 where they do not fit, 29 where there is nothing to write, and 0.
 #[repr(C)]
-#[derive(Drop)]
+#[derive(Clone, Copy)]
 pub struct VcfhMeaning {
     pub number: u64,
     pub length: u64,

@@ -10,14 +10,14 @@ use season::{add, merge};
 
 // 39 totals: place 0 is headers read, 1 accepted, 1 and n refused by n, 28 and k entries of kind k.
 #[repr(C)]
-#[derive(Drop)]
+#[derive(Clone, Copy)]
 pub struct VcfhSheet {
     pub totals: [u64; 39],
 }
 
 // The same as a read answer, or 30, and the sheet after it: as it was, if that is 30.
 #[repr(C)]
-#[derive(Drop)]
+#[derive(Clone, Copy)]
 pub struct VcfhAdded {
     pub number: u64,
     pub line: u64,
@@ -28,7 +28,7 @@ pub struct VcfhAdded {
 
 // 0 or 30, and the sheet after it: the first one as it was, if that is 30.
 #[repr(C)]
-#[derive(Drop)]
+#[derive(Clone, Copy)]
 pub struct VcfhMerged {
     pub number: u64,
     pub sheet: VcfhSheet,

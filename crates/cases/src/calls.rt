@@ -20,7 +20,7 @@ fn empty_table() -> [u64; 64]
 }
 
 // The form of the table, the version under which fields are read, and the field that is asked for.
-#[derive(Drop)]
+#[derive(Clone, Copy)]
 struct Shows {
     form: Form,
     version: FileFormat,

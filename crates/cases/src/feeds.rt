@@ -33,7 +33,7 @@ fn put_answer(out: &mut [u8], at: usize, answer: FeedAnswer) -> usize {
 }
 
 // How an input is cut: its first piece, the most bytes of a later one, and where these are no even ones the number that they come from.
-#[derive(Drop)]
+#[derive(Clone, Copy)]
 struct Cuts {
     first: usize,
     most: usize,
@@ -255,7 +255,7 @@ fn put_cut(
 }
 
 // Where a list of things to do stands: the state, how much of the input is sent, and where the next answer is put.
-#[derive(Drop)]
+#[derive(Clone, Copy)]
 struct Doing {
     state: FeedState,
     sent: usize,

@@ -8,7 +8,7 @@ use records::file_format::FileFormatRead;
 use values::bytes;
 
 // What goes to the library as a version and a form: where none is imposed, numbers that are to be overlooked.
-#[derive(Drop)]
+#[derive(Clone, Copy)]
 pub struct Imposed {
     pub imposed: u64,
     pub major: u32,

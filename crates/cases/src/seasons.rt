@@ -8,7 +8,7 @@ use season::{add, merge};
 use values::{bytes, output};
 
 // Where the output goes on, and the sheet.
-#[derive(Drop)]
+#[derive(Clone, Copy)]
 struct Counted {
     next: usize,
     sheet: [u64; 39],

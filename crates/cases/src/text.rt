@@ -5,7 +5,7 @@ use values::integer::IntegerRead;
 use values::{bytes, integer, output};
 
 // What stands in an escaped text up to `next`: a byte, or the last 512 bytes over and over, `again` of them.
-#[derive(Drop)]
+#[derive(Clone, Copy)]
 struct Piece {
     byte: u8,
     again: usize,

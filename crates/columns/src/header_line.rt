@@ -23,7 +23,7 @@ const NAMES_START: usize = 46;
 const NAMES: usize = 262144;
 
 // Whether FORMAT stood, and how many samples there are.
-#[derive(Drop)]
+#[derive(Clone, Copy)]
 pub enum ColumnsRead {
     Columns(bool, usize),
     WrongColumn,

@@ -11,14 +11,14 @@ use values::integer::IntegerRead;
 use values::{bytes, integer, string};
 
 // FILTER, INFO and FORMAT lines; contig lines.
-#[derive(Drop)]
+#[derive(Clone, Copy)]
 pub enum Dictionary {
     Strings,
     Contigs,
 }
 
 // The IDX that a line carries.
-#[derive(Drop)]
+#[derive(Clone, Copy)]
 pub enum IdxRead {
     Idx(u64),
     Missing,

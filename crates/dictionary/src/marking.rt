@@ -17,7 +17,7 @@ use entries::{part, table};
 use values::bits;
 
 // What is looked for.
-#[derive(Drop)]
+#[derive(Clone, Copy)]
 pub enum Sought {
     Ids,
     Numbers,

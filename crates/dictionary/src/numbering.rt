@@ -14,7 +14,7 @@ use entries::form::Form;
 use entries::table;
 
 // Whether some lines carry IDX, whether some don't, and how many lines there are.
-#[derive(Drop)]
+#[derive(Clone, Copy)]
 pub struct Carried {
     pub given: bool,
     pub missing: bool,
@@ -22,21 +22,21 @@ pub struct Carried {
 }
 
 // How many pairs there are so far, and the number that the next ID is due.
-#[derive(Drop)]
+#[derive(Clone, Copy)]
 pub struct Count {
     pub pairs: usize,
     pub next: u64,
 }
 
 // One line further, or a clash.
-#[derive(Drop)]
+#[derive(Clone, Copy)]
 pub enum Turn {
     Next(Count),
     Clash,
 }
 
 // How many pairs a dictionary has, or a clash.
-#[derive(Drop)]
+#[derive(Clone, Copy)]
 pub enum Numbering {
     Pairs(usize),
     Clash,

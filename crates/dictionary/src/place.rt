@@ -16,7 +16,7 @@ use entries::{part, table};
 use values::{bits, string};
 
 // The form of the entries, the dictionary whose lines are numbered, whether these carry IDX, and how many they are.
-#[derive(Drop)]
+#[derive(Clone, Copy)]
 pub struct Asked {
     pub form: Form,
     pub dictionary: Dictionary,
@@ -25,7 +25,7 @@ pub struct Asked {
 }
 
 // What a line is beside those before it: of a new ID; of one that was met, with the same number; or it clashes with one of them.
-#[derive(Drop)]
+#[derive(Clone, Copy)]
 pub enum Beside {
     New,
     Again,
@@ -33,14 +33,14 @@ pub enum Beside {
 }
 
 // A line before with the same ID.
-#[derive(Drop)]
+#[derive(Clone, Copy)]
 pub enum Earlier {
     Found(Entry),
     Missing,
 }
 
 // A line's ID is new, with its number, or due the next one; it was met with the same number; or the line clashes with one before.
-#[derive(Drop)]
+#[derive(Clone, Copy)]
 pub enum Placed {
     Numbered(u64),
     Due,

@@ -12,7 +12,7 @@ use entries::{part, table};
 use values::{hash, string};
 
 // What is looked for is in a slot, or the slot is open that it is due.
-#[derive(Drop)]
+#[derive(Clone, Copy)]
 pub enum Looked {
     Found(Entry),
     Open(usize),
@@ -20,7 +20,7 @@ pub enum Looked {
 }
 
 // One class of so many, in which hashes fall.
-#[derive(Drop)]
+#[derive(Clone, Copy)]
 pub struct Class {
     pub of: u64,
     pub at: u64,

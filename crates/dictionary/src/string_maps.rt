@@ -22,7 +22,7 @@ use records::refusal::Refusal;
 
 // What came of a call: the version in force and the number of samples; the reading's refusal; or IDX on some lines only, a clash of
 // numbers, a slice too small.
-#[derive(Drop)]
+#[derive(Clone, Copy)]
 pub enum DictionaryOutcome {
     Accepted(FileFormat, usize),
     Refused(Refusal),
@@ -47,7 +47,7 @@ impl DictionaryOutcome {
 }
 
 // The outcome, the line and its start, how many entries the table keeps, and how many pairs were written of each dictionary.
-#[derive(Drop)]
+#[derive(Clone, Copy)]
 pub struct DictionaryAnswer {
     pub outcome: DictionaryOutcome,
     pub line: usize,
@@ -58,7 +58,7 @@ pub struct DictionaryAnswer {
 }
 
 // What becomes of both dictionaries: how many pairs they have, or why not.
-#[derive(Drop)]
+#[derive(Clone, Copy)]
 enum Judged {
     Whole(usize, usize),
     PartlyIndexed,

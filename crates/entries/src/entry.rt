@@ -5,7 +5,7 @@ ghost use Rattle.entries.specs.Values.{entry_of};
 
 // Its kind, where its line stands, and where in the line the ID's text stands, without quotes; which name stands for the ID; where
 // these are counted, the length of its key and the number of its fields.
-#[derive(Drop)]
+#[derive(Clone, Copy)]
 pub struct Entry {
     pub kind: u8,
     pub start: usize,

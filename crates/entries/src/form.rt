@@ -7,7 +7,7 @@ ghost use Rattle.entries.specs.Words.{word_count};
 use crate::limits::Limits;
 
 // A header of up to a megabyte; one of up to sixteen.
-#[derive(Drop)]
+#[derive(Clone, Copy)]
 pub enum Form {
     First,
     Second,

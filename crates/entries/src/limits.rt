@@ -1,6 +1,6 @@
 // What a form of entries sets: how long a header and a line may be, in bytes, a line without its ending; whether an entry tells the
 // length of its key and the number of its fields.
-#[derive(Drop)]
+#[derive(Clone, Copy)]
 pub struct Limits {
     pub header: usize,
     pub line: usize,

@@ -14,14 +14,14 @@ use values::cursor::Cursor;
 use values::field::{FieldRead, Separator};
 
 // A part of the header, or refusal 29: no such entry, no such field, or an entry that is not well formed.
-#[derive(Drop)]
+#[derive(Clone, Copy)]
 pub enum Shown {
     Part { start: usize, end: usize },
     Refused,
 }
 
 // The part of a key, and how many fields follow it; or refusal 29.
-#[derive(Drop)]
+#[derive(Clone, Copy)]
 pub enum KeyShown {
     Key {
         start: usize,
@@ -31,7 +31,7 @@ pub enum KeyShown {
     Refused,
 }
 
-#[derive(Drop)]
+#[derive(Clone, Copy)]
 pub enum EntryRead {
     Entry(Entry),
     Missing,

@@ -16,7 +16,7 @@ use lines::line;
 use records::file_format::FileFormat;
 use records::refusal::Refusal;
 
-#[derive(Drop)]
+#[derive(Clone, Copy)]
 pub enum Ended {
     No,
     Yes(ReadAnswer),
@@ -24,7 +24,7 @@ pub enum Ended {
 
 // Between two calls: the version imposed, how far the lines are read, how many bytes of the buffer are held, and the final answer once
 // there is one.
-#[derive(Drop)]
+#[derive(Clone, Copy)]
 pub struct FeedState {
     pub imposed: FileFormatOption,
     pub parser: Parser,
@@ -33,7 +33,7 @@ pub struct FeedState {
 }
 
 // So far no line is refused; or as a reading ends. A broken state is refused as an entry is that is not well formed.
-#[derive(Drop)]
+#[derive(Clone, Copy)]
 pub enum FeedOutcome {
     More,
     Accepted(FileFormat, usize),
@@ -54,7 +54,7 @@ impl FeedOutcome {
 }
 
 // The state for the next call; the outcome, with the line and its start, or the lines and bytes so far, and how many entries the table keeps.
-#[derive(Drop)]
+#[derive(Clone, Copy)]
 pub struct FeedAnswer {
     pub state: FeedState,
     pub outcome: FeedOutcome,

@@ -20,7 +20,7 @@ use values::{bytes, integer};
 
 // Past a field that stands as the form writes it: where the next one stands, or it was the last one. Or the field has another name, or
 // does not stand so.
-#[derive(Drop)]
+#[derive(Clone, Copy)]
 enum Passed {
     More(Cursor),
     Done,

@@ -17,7 +17,7 @@ use values::string::Text;
 use values::{bytes, sink};
 
 // The place after a line's text, and the place after its ending: what does not fit is counted and not written.
-#[derive(Drop)]
+#[derive(Clone, Copy)]
 pub struct LineWritten {
     pub end: usize,
     pub next: Sink,

@@ -1,7 +1,7 @@
 // The version that the caller imposes, or none.
 use records::file_format::FileFormat;
 
-#[derive(Drop)]
+#[derive(Clone, Copy)]
 pub enum FileFormatOption {
     None,
     Some(FileFormat),

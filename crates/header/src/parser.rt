@@ -20,14 +20,14 @@ use records::refusal::Refusal;
 use values::{bytes, utf8};
 
 // What a header is found to be: accepted, with the version in force and the number of samples, or refused.
-#[derive(Drop)]
+#[derive(Clone, Copy)]
 pub enum Outcome {
     Accepted(FileFormat, usize),
     Refused(Refusal),
 }
 
 // The outcome, the line and its start, and how many entries the table keeps.
-#[derive(Drop)]
+#[derive(Clone, Copy)]
 pub struct ReadAnswer {
     pub outcome: Outcome,
     pub line: usize,
@@ -36,7 +36,7 @@ pub struct ReadAnswer {
 }
 
 // How far a header is read: the phase, how many lines were read, where the next one begins, and how many entries were kept.
-#[derive(Drop)]
+#[derive(Clone, Copy)]
 pub struct Parser {
     pub phase: Phase,
     pub line: usize,
@@ -45,21 +45,21 @@ pub struct Parser {
 }
 
 // How far it is read after some lines: all of them, or up to one that is refused.
-#[derive(Drop)]
+#[derive(Clone, Copy)]
 pub enum Advance {
     Ended(Parser),
     Stopped(Parser, Refusal),
 }
 
 // The version imposed, the form of the entries, and whether the header is known to be ASCII.
-#[derive(Drop)]
+#[derive(Clone, Copy)]
 struct Options {
     imposed: FileFormatOption,
     form: Form,
     ascii: bool,
 }
 
-#[derive(Drop)]
+#[derive(Clone, Copy)]
 enum Partial {
     Next(Parser),
     Refused(Refusal),

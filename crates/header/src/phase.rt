@@ -5,7 +5,7 @@ ghost use Rattle.header.specs.Verdicts.{is_done_phase};
 use records::file_format::FileFormat;
 
 // Before the fileformat line; after it, with the version in force; after the column line, with the number of samples too.
-#[derive(Drop)]
+#[derive(Clone, Copy)]
 pub enum Phase {
     Empty,
     Ready(FileFormat),

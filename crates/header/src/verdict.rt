@@ -22,14 +22,14 @@ use records::refusal::Refusal;
 use values::{bytes, utf8};
 
 // Where a line stands, and where it ends, without its ending.
-#[derive(Drop)]
+#[derive(Clone, Copy)]
 pub struct Place {
     pub start: usize,
     pub end: usize,
 }
 
 // What a line is judged by: the phase, the version imposed, the form of the entries, and whether the header is known to be ASCII.
-#[derive(Drop)]
+#[derive(Clone, Copy)]
 pub struct Given {
     pub phase: Phase,
     pub imposed: FileFormatOption,
@@ -38,7 +38,7 @@ pub struct Given {
 }
 
 // A fileformat line, with the version in force; a record, with its entry; a column line, with the number of its samples.
-#[derive(Drop)]
+#[derive(Clone, Copy)]
 pub enum Verdict {
     Begin(FileFormat),
     Entry(Entry),
@@ -104,7 +104,7 @@ fn judge_id(
 }
 
 // What a line is by itself: a record, with its entry and where its value stands; or a refusal.
-#[derive(Drop)]
+#[derive(Clone, Copy)]
 pub enum Met {
     New(Entry, usize),
     Refused(Refusal),

@@ -26,7 +26,7 @@ use records::refusal::Refusal;
 use values::sink::Sink;
 
 // The outcome, the line and its start, how many entries the table keeps, and the form's length, 0 if none was written.
-#[derive(Drop)]
+#[derive(Clone, Copy)]
 pub struct HouseAnswer {
     pub outcome: Outcome,
     pub line: usize,
@@ -37,7 +37,7 @@ pub struct HouseAnswer {
 
 // The outcome, the line and its start, and how many entries the table keeps, as `house_form` gives them where the output is large enough;
 // whether the header is its house form, and if it is accepted and is not, the first place where the two differ, or the shorter one's length.
-#[derive(Drop)]
+#[derive(Clone, Copy)]
 pub struct IsHouseAnswer {
     pub outcome: Outcome,
     pub line: usize,
@@ -48,7 +48,7 @@ pub struct IsHouseAnswer {
 }
 
 // What came of a form: its length; or it is too long, or a line of it, with the line's number and start, or it does not fit.
-#[derive(Drop)]
+#[derive(Clone, Copy)]
 enum FormOutcome {
     Whole(usize),
     TooLong,
@@ -57,7 +57,7 @@ enum FormOutcome {
 }
 
 // What came of a form that was held against the header, and the first place where it is not the header: the largest number if it all is.
-#[derive(Drop)]
+#[derive(Clone, Copy)]
 struct Compared {
     outcome: FormOutcome,
     differs: usize,

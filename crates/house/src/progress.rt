@@ -14,7 +14,7 @@ use values::sink::Sink;
 
 // How long a line may be; where the writing stands, the number of lines, and the first line that was too long: its number, 0 if
 // none was, and its start. `formed`: the line of each entry stands as the form writes it.
-#[derive(Drop)]
+#[derive(Clone, Copy)]
 pub struct Progress {
     pub limit: usize,
     pub next: Sink,

@@ -11,7 +11,7 @@ use entries::{part, table};
 use forms::line;
 
 // The number after that of its last entry, and where the line of this one ends.
-#[derive(Drop)]
+#[derive(Clone, Copy)]
 pub struct Run {
     pub end: usize,
     pub stop: usize,

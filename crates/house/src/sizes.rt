@@ -12,7 +12,7 @@ use records::file_format::FileFormat;
 use values::sink::Sink;
 
 // Whether all lines stand as the form writes them, and their size there; the largest number if one of them is too long.
-#[derive(Drop)]
+#[derive(Clone, Copy)]
 pub struct Sum {
     pub formed: bool,
     pub size: usize,

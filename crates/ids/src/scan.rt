@@ -16,7 +16,7 @@ use entries::form::Form;
 use entries::{kind, part, table};
 use values::{bytes, marks, string};
 
-#[derive(Drop)]
+#[derive(Clone, Copy)]
 pub enum Clash {
     Free,
     TypedId,
@@ -25,7 +25,7 @@ pub enum Clash {
 }
 
 // What is looked for: the kind, the last byte of the ID's text, and whether that stands between quotes.
-#[derive(Drop)]
+#[derive(Clone, Copy)]
 struct Wanted {
     kind: u8,
     last: u8,

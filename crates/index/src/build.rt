@@ -9,7 +9,7 @@ use entries::form::Form;
 use entries::shown::EntryRead;
 use entries::{part, shown, table};
 
-#[derive(Drop)]
+#[derive(Clone, Copy)]
 pub enum BuildOutcome {
     Built,
     NotWellFormed,
@@ -17,7 +17,7 @@ pub enum BuildOutcome {
 }
 
 // How many entries were placed; none if the call is refused.
-#[derive(Drop)]
+#[derive(Clone, Copy)]
 pub struct BuildAnswer {
     pub outcome: BuildOutcome,
     pub placed: usize,
@@ -37,7 +37,7 @@ impl BuildOutcome {
 }
 
 // How many entries are to be placed, and the number plus 1 of the last.
-#[derive(Drop)]
+#[derive(Clone, Copy)]
 enum Tallied {
     Count(usize, usize),
     Refused,

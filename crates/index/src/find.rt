@@ -10,14 +10,14 @@ use entries::form::Form;
 use entries::table;
 use values::string;
 
-#[derive(Drop)]
+#[derive(Clone, Copy)]
 pub enum Found {
     Entry(usize),
     Nothing,
 }
 
 // What was found, and how many places were looked at.
-#[derive(Drop)]
+#[derive(Clone, Copy)]
 pub struct Search {
     pub found: Found,
     pub looked: usize,

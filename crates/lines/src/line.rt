@@ -6,7 +6,7 @@ ghost use Rattle.lines.specs.Lines.{last_end, LineIs};
 use values::bytes;
 
 // Where the line that was asked for ends, and where the next one stands.
-#[derive(Drop)]
+#[derive(Clone, Copy)]
 pub struct Line {
     pub end: usize,
     pub next: usize,

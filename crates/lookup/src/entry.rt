@@ -12,7 +12,7 @@ use entries::{kind, part, shown};
 use values::{bytes, string};
 
 // Its kind, its line, its key after the `##` and its ID without quotes, all as parts of the header; 0 and 0 where it has no key or no ID.
-#[derive(Drop)]
+#[derive(Clone, Copy)]
 pub struct Described {
     pub kind: u8,
     pub start: usize,
@@ -26,7 +26,7 @@ pub struct Described {
 }
 
 // Refused: there is no such entry, or it is not well formed.
-#[derive(Drop)]
+#[derive(Clone, Copy)]
 pub enum Description {
     Entry(Described),
     Refused,

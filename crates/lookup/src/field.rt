@@ -19,7 +19,7 @@ use values::bytes;
 use values::string::Text;
 
 // A field as it is written: the length of its key, and where its value's text stands, without quotes.
-#[derive(Drop)]
+#[derive(Clone, Copy)]
 struct Cut {
     key_length: usize,
     start: usize,
@@ -28,7 +28,7 @@ struct Cut {
 }
 
 // The key and the value's text, without quotes, as parts of the header.
-#[derive(Drop)]
+#[derive(Clone, Copy)]
 pub struct FieldParts {
     pub key_start: usize,
     pub key_length: usize,
@@ -37,7 +37,7 @@ pub struct FieldParts {
     pub quoted: bool,
 }
 
-#[derive(Drop)]
+#[derive(Clone, Copy)]
 pub enum FieldShown {
     Field(FieldParts),
     Refused,

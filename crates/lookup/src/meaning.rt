@@ -9,7 +9,7 @@ use values::sink::Sink;
 use values::string;
 
 // How many bytes were written, or that the output is too small for them.
-#[derive(Drop)]
+#[derive(Clone, Copy)]
 pub enum Written {
     Bytes(usize),
     NoRoom,

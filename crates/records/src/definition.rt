@@ -11,7 +11,7 @@ use crate::key::MapKey;
 use crate::number::{Number, ValueType};
 use values::bytes;
 
-#[derive(Drop)]
+#[derive(Clone, Copy)]
 pub enum Definition {
     Of(Number, ValueType),
     Unreserved,

@@ -7,7 +7,7 @@ use values::field::{FieldRead, Separator};
 use values::string::Text;
 
 // The value of a field.
-#[derive(Drop)]
+#[derive(Clone, Copy)]
 pub enum FieldFound {
     Found(Text),
     Missing,

@@ -6,7 +6,7 @@ ghost use Rattle.records.specs.Formats.{version_of, format_read};
 use values::integer::IntegerRead;
 use values::{bytes, integer};
 
-#[derive(Drop)]
+#[derive(Clone, Copy)]
 pub struct FileFormat {
     pub major: u32,
     pub minor: u32,
@@ -41,7 +41,7 @@ impl FileFormat {
     }
 }
 
-#[derive(Drop)]
+#[derive(Clone, Copy)]
 pub enum FileFormatRead {
     Version(FileFormat),
     Refused,

@@ -9,7 +9,7 @@ ghost use Rattle.rules.specs.Entry.{map_kind};
 use crate::file_format::FileFormat;
 use values::bytes;
 
-#[derive(Drop)]
+#[derive(Clone, Copy)]
 pub enum MapKey {
     Info,
     Filter,
@@ -57,7 +57,7 @@ pub fn map_key_of(s: &[u8]) -> MapKey
 
 // What the fields of a map are read by: its key, the version, whether the value of Values may be bracketed, and where the first
 // field stands.
-#[derive(Drop)]
+#[derive(Clone, Copy)]
 pub struct MapContext {
     pub key: MapKey,
     pub version: FileFormat,

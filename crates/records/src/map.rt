@@ -26,7 +26,7 @@ use values::string::Text;
 use values::{bytes, integer};
 
 // A text that was read, and which name stood for the ID.
-#[derive(Drop)]
+#[derive(Clone, Copy)]
 pub enum Slot {
     Empty,
     Filled(Text, u8),
@@ -34,7 +34,7 @@ pub enum Slot {
 
 // The fields that are kept while a map is read; `plain`: each field so far is one of them; `odd`: a number so far was not plainly
 // spelled.
-#[derive(Drop)]
+#[derive(Clone, Copy)]
 pub struct Slots {
     pub id: Slot,
     pub number: Slot,
@@ -45,20 +45,20 @@ pub struct Slots {
 }
 
 // What passed says whether it is a number that was not plainly spelled.
-#[derive(Drop)]
+#[derive(Clone, Copy)]
 pub enum Check {
     Passed(bool),
     Refused(Refusal),
 }
 
-#[derive(Drop)]
+#[derive(Clone, Copy)]
 pub enum Prefix {
     Consumed(Cursor),
     Missing,
 }
 
 // What follows a value.
-#[derive(Drop)]
+#[derive(Clone, Copy)]
 pub enum After {
     More(Cursor),
     Closed,
@@ -67,14 +67,14 @@ pub enum After {
 
 // A field: its tag, where its text starts and ends, whether it is quoted, which name stood for the ID, whether a number up to it was not
 // plainly spelled, and past it. A text that is handed on whole is copied, and the processor waits for the copy where it is read.
-#[derive(Drop)]
+#[derive(Clone, Copy)]
 pub enum FieldTaken {
     Field(Tag, usize, usize, bool, u8, bool, Cursor),
     Refused(Refusal),
 }
 
 // The same after where the next field stands; after the last field, what is kept of all.
-#[derive(Drop)]
+#[derive(Clone, Copy)]
 pub enum FieldStep {
     Next(Cursor, Tag, usize, usize, bool, u8, bool),
     Last(Slots),
@@ -82,27 +82,27 @@ pub enum FieldStep {
 }
 
 // What the fields of a map tell together: whether a number among them was not plainly spelled, and how many they are.
-#[derive(Drop)]
+#[derive(Clone, Copy)]
 pub struct Tally {
     pub odd: bool,
     pub fields: usize,
 }
 
-#[derive(Drop)]
+#[derive(Clone, Copy)]
 pub enum FieldsRead {
     Fields(Slots, Tally),
     Refused(Refusal),
 }
 
 // The ID of a map, which name stands for it, and what its fields tell together.
-#[derive(Drop)]
+#[derive(Clone, Copy)]
 pub enum MapRead {
     Map(Text, u8, Tally),
     Refused(Refusal),
 }
 
 // The ID of an INFO or FORMAT map, which name stands for it, its Number and its Type, and what its fields tell together.
-#[derive(Drop)]
+#[derive(Clone, Copy)]
 pub enum TypedRead {
     Typed(Text, u8, Text, Text, Tally),
     Refused(Refusal),

@@ -10,21 +10,21 @@ use values::integer::IntegerRead;
 use values::{integer, string};
 
 // What a reserved ID asks of a Number: a count, or a letter of two bytes, of which the second is a blank where it has one.
-#[derive(Drop)]
+#[derive(Clone, Copy)]
 pub enum Number {
     Count(u64),
     Letter(u8, u8),
 }
 
 // The letters that a Number may be: those of every version, those of FORMAT in 4.4, and from 4.5 on.
-#[derive(Drop)]
+#[derive(Clone, Copy)]
 pub enum Letters {
     Common,
     Phased,
     Local,
 }
 
-#[derive(Drop)]
+#[derive(Clone, Copy)]
 pub enum ValueType {
     Integer,
     Float,

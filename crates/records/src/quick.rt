@@ -13,28 +13,28 @@ use values::integer::IntegerRead;
 use values::{bytes, integer, string};
 
 // Whether it is a contig, where its value stands, where its ID ends, and how many fields it has.
-#[derive(Drop)]
+#[derive(Clone, Copy)]
 pub enum QuickRead {
     Map(bool, usize, usize, usize),
     Unusual,
 }
 
 // Where the ID of a map ends, and how many fields it has.
-#[derive(Drop)]
+#[derive(Clone, Copy)]
 enum QuickMap {
     Map(usize, usize),
     Unusual,
 }
 
 // The place of a field's `=`, and past its bare value.
-#[derive(Drop)]
+#[derive(Clone, Copy)]
 enum PlainField {
     Field(usize, usize),
     Unusual,
 }
 
 // Whether a key under which the ID alone is required is `contig`, and where the value stands.
-#[derive(Drop)]
+#[derive(Clone, Copy)]
 enum QuickKey {
     Key(bool, usize),
     Unusual,

@@ -17,7 +17,7 @@ use values::cursor::Cursor;
 use values::string::Text;
 
 // The key, and past its `=`.
-#[derive(Drop)]
+#[derive(Clone, Copy)]
 pub enum KeyParsed {
     FileFormat(Cursor),
     Map(MapKey, Cursor),
@@ -25,7 +25,7 @@ pub enum KeyParsed {
 }
 
 // A map: its key, where its value stands, its ID and which name stands for that, and what its fields tell together.
-#[derive(Drop)]
+#[derive(Clone, Copy)]
 pub struct MapRecord {
     pub key: MapKey,
     pub value: usize,
@@ -35,7 +35,7 @@ pub struct MapRecord {
 }
 
 // A text has the place of its value.
-#[derive(Drop)]
+#[derive(Clone, Copy)]
 pub enum RecordRead {
     FileFormat(FileFormat),
     Map(MapRecord),

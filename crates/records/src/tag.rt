@@ -13,7 +13,7 @@ use crate::key::MapKey;
 use values::bytes;
 
 // Other: the field is no known one.
-#[derive(Drop)]
+#[derive(Clone, Copy)]
 pub enum Tag {
     Id,
     Number,

@@ -17,7 +17,7 @@ use values::cursor::Cursor;
 use values::string::Text;
 
 // A map has its ID, which name stands for it, and what its fields tell together.
-#[derive(Drop)]
+#[derive(Clone, Copy)]
 pub enum ValueParsed {
     Map(Text, u8, Tally),
     Text,

@@ -16,7 +16,7 @@ use values::bytes;
 const FIELDS: usize = 8;
 
 // The line of the lowest well whose constant is none, 0 if all have one, and the constants in well order, all 0 if one has none.
-#[derive(Drop)]
+#[derive(Clone, Copy)]
 pub struct Plate {
     pub fault: usize,
     pub constants: [u64; 40],

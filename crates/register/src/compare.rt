@@ -4,7 +4,7 @@ ghost use Rattle.register.specs.Compare.{differing};
 ghost use Rattle.register.specs.Compared.{listed_in_arrays};
 
 // How many differ; then, lowest first, each well's number, 1 to 40, what it had and what it has; 0 past these.
-#[derive(Drop)]
+#[derive(Clone, Copy)]
 pub struct Differences {
     pub count: usize,
     pub wells: [u64; 40],

@@ -14,7 +14,7 @@ use records::file_format::FileFormat;
 use records::refusal::Refusal;
 
 // What a header's register is found to be. Unread: the header itself is refused.
-#[derive(Drop)]
+#[derive(Clone, Copy)]
 pub enum RegisterOutcome {
     Accepted,
     Unread(Refusal),
@@ -41,7 +41,7 @@ impl RegisterOutcome {
 
 // The outcome, the line and its start, how many entries the table keeps, and the constants of W01 to W40 in whole hundredths, all 0 if
 // the register is refused.
-#[derive(Drop)]
+#[derive(Clone, Copy)]
 pub struct RegisterRead {
     pub outcome: RegisterOutcome,
     pub line: usize,

@@ -4,7 +4,7 @@ ghost use Rattle.register.specs.Cells.{in_range, hundredths};
 ghost use Rattle.register.specs.Wells.{digit_of, WellTold, constant_read};
 
 // A constant in whole hundredths, or none.
-#[derive(Drop)]
+#[derive(Clone, Copy)]
 pub enum Constant {
     Hundredths(u64),
     Invalid,

@@ -9,7 +9,7 @@ use crate::{name, sequence, written};
 use lines::line;
 use values::bytes;
 
-#[derive(Drop)]
+#[derive(Clone, Copy)]
 pub enum ContigsOutcome {
     Accepted,
     Refused(SamRefusal),
@@ -28,7 +28,7 @@ impl ContigsOutcome {
 }
 
 // The outcome; the line and its start, or how many lines and bytes there are; how many contigs were written, and in how many bytes.
-#[derive(Drop)]
+#[derive(Clone, Copy)]
 pub struct ContigsAnswer {
     pub outcome: ContigsOutcome,
     pub line: usize,
@@ -39,7 +39,7 @@ pub struct ContigsAnswer {
 
 // What came of a walk over the lines: how many lines and contigs there are and the place after what was written; or why not, with the
 // line and its start.
-#[derive(Drop)]
+#[derive(Clone, Copy)]
 enum Walked {
     Whole(usize, usize, usize),
     Refused(SamRefusal, usize, usize),

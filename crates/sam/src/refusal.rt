@@ -3,7 +3,7 @@ ghost use Rattle.std.specs.Prelude.{◌≡◌};
 ghost use Rattle.sam.specs.Lines.{sam_number};
 
 // InvalidSequence: SN or LN missing or out of range.
-#[derive(Drop)]
+#[derive(Clone, Copy)]
 pub enum SamRefusal {
     LineTooLong,
     InvalidUtf8,

@@ -16,7 +16,7 @@ use values::{bytes, integer, utf8};
 const LARGEST: u64 = 2147483647;
 
 // The contig of a line by its length; the other values are the line's.
-#[derive(Drop)]
+#[derive(Clone, Copy)]
 pub enum SequenceRead {
     Contig(u64),
     Refused(SamRefusal),

@@ -12,7 +12,7 @@ use header::parser;
 use header::parser::{Outcome, ReadAnswer};
 
 // Added: the header's own outcome, accepted or refused.
-#[derive(Drop)]
+#[derive(Clone, Copy)]
 pub enum AddOutcome {
     Added(Outcome),
     TotalTooLarge,
@@ -34,7 +34,7 @@ impl AddOutcome {
 }
 
 // The outcome, the line and its start, how many entries the table keeps, and the sheet after it: as it was, if a total would overflow.
-#[derive(Drop)]
+#[derive(Clone, Copy)]
 pub struct AddAnswer {
     pub outcome: AddOutcome,
     pub line: usize,

@@ -2,7 +2,7 @@
 ghost use Rattle.std.specs.Prelude.{◌≡◌};
 ghost use Rattle.season.specs.Answers.{merge_number, total_of, merge_answer};
 
-#[derive(Drop)]
+#[derive(Clone, Copy)]
 pub enum MergeOutcome {
     Merged,
     TotalTooLarge,
@@ -21,13 +21,13 @@ impl MergeOutcome {
 }
 
 // The sheet after it: the first one as it was, if the call is refused.
-#[derive(Drop)]
+#[derive(Clone, Copy)]
 pub struct MergeAnswer {
     pub outcome: MergeOutcome,
     pub sheet: [u64; 39],
 }
 
-#[derive(Drop)]
+#[derive(Clone, Copy)]
 enum Total {
     Sum(u64),
     TooLarge,

@@ -17,20 +17,20 @@ use entries::{kind, shown, table};
 use records::file_format::FileFormat;
 
 // How the numbers of an entry were spelled.
-#[derive(Drop)]
+#[derive(Clone, Copy)]
 enum Spelling {
     Plain,
     Odd,
     Refused,
 }
 
-#[derive(Drop)]
+#[derive(Clone, Copy)]
 enum Counted {
     Count(usize),
     Refused,
 }
 
-#[derive(Drop)]
+#[derive(Clone, Copy)]
 pub enum OddOutcome {
     Listed,
     NotWellFormed,
@@ -38,7 +38,7 @@ pub enum OddOutcome {
 }
 
 // How many entries were listed; none if the call is refused.
-#[derive(Drop)]
+#[derive(Clone, Copy)]
 pub struct OddAnswer {
     pub outcome: OddOutcome,
     pub listed: usize,

@@ -15,7 +15,7 @@ use entries::{kind, part, shown, table};
 use records::file_format::FileFormat;
 use records::record;
 
-#[derive(Drop)]
+#[derive(Clone, Copy)]
 pub enum TurnOutcome {
     Turned,
     NotWellFormed,
@@ -24,7 +24,7 @@ pub enum TurnOutcome {
 }
 
 // How many entries were turned; none if the call is refused.
-#[derive(Drop)]
+#[derive(Clone, Copy)]
 pub struct TurnAnswer {
     pub outcome: TurnOutcome,
     pub entries: usize,
@@ -45,7 +45,7 @@ impl TurnOutcome {
 }
 
 // Into which form: the second one tells of a line's key and fields, so the line is read again under a version.
-#[derive(Drop)]
+#[derive(Clone, Copy)]
 enum Into {
     First,
     Second(FileFormat),
@@ -72,7 +72,7 @@ impl Into {
 }
 
 // Of all entries of a table: they fit a form, one does not, or one is refused.
-#[derive(Drop)]
+#[derive(Clone, Copy)]
 enum Judged {
     Fit,
     Unfit,

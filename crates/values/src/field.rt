@@ -9,21 +9,21 @@ use crate::cursor::{ByteRead, Cursor};
 use crate::string::{Text, ValueRead};
 
 // The place of the key's `=`, and past it.
-#[derive(Drop)]
+#[derive(Clone, Copy)]
 pub enum KeyRead {
     Key(usize, Cursor),
     Refused,
 }
 
 // The place of the key's `=`, the value's text, and past the value.
-#[derive(Drop)]
+#[derive(Clone, Copy)]
 pub enum FieldRead {
     Field(usize, Text, Cursor),
     Refused,
 }
 
 // Past a `,`.
-#[derive(Drop)]
+#[derive(Clone, Copy)]
 pub enum Separator {
     Comma(Cursor),
     Other,

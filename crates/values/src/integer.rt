@@ -3,7 +3,7 @@ ghost use Rattle.std.specs.Prelude.{◌≡◌};
 ghost use Rattle.values.specs.Integer.{is_plain, unsigned_read, integer_read, u32_read, u64_read};
 
 // The number, and whether it was plainly spelled.
-#[derive(Drop)]
+#[derive(Clone, Copy)]
 pub enum IntegerRead {
     Value(u64, bool),
     Refused,

@@ -5,7 +5,7 @@ ghost use Rattle.values.specs.Integer.{decimal};
 ghost use Rattle.values.specs.Written.{onward, differing, sooner, Puts};
 
 // The place after what was put, and the first place where it is not what is given: the largest number if none was met.
-#[derive(Drop)]
+#[derive(Clone, Copy)]
 pub struct Sink {
     pub at: usize,
     pub differs: usize,

@@ -11,21 +11,21 @@ use crate::{bytes, sink};
 
 // A text without its quotes. Where it is handed on at each field it is copied field by field: a copy of the whole drags its padding along, and
 // reading that back stalls the processor. So are a `Tally`, a version and an entry in `records` and `header`.
-#[derive(Drop)]
+#[derive(Clone, Copy)]
 pub struct Text {
     pub start: usize,
     pub end: usize,
     pub quoted: bool,
 }
 
-#[derive(Drop)]
+#[derive(Clone, Copy)]
 pub enum ValueRead {
     Value(Text, Cursor),
     Refused,
 }
 
 // The place of the `"` that ends a quoted value, and past it.
-#[derive(Drop)]
+#[derive(Clone, Copy)]
 enum Closing {
     At(usize, Cursor),
     Missing,

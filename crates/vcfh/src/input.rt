@@ -7,7 +7,7 @@ fn is_packed(s: &[u8]) -> bool {
 }
 
 // Begun: only the first bytes were taken of a text that is read as it comes.
-#[derive(Drop)]
+#[derive(Clone, Copy)]
 pub enum Start {
     Packed,
     Begun(usize),

@@ -36,7 +36,7 @@ use stream::Streamed;
 use values::{bytes, output};
 
 // The number of the argument that is the command, the input's descriptor, and the version that is imposed.
-#[derive(Drop)]
+#[derive(Clone, Copy)]
 struct Task {
     command: usize,
     fd: i32,
@@ -571,7 +571,7 @@ fn read_case(task: Task, streamed: bool, had: &mut [u64; 40]) {
     }
 }
 
-#[derive(Drop)]
+#[derive(Clone, Copy)]
 enum Imposed {
     Version(FileFormatOption),
     Refused,

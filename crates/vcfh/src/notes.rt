@@ -12,7 +12,7 @@ use values::{bytes, hash};
 const MOST: u32 = 0xFF_FFFF;
 
 // How many there are, and the lines of the first one and of its fellow, which are their entries' numbers counted from 1.
-#[derive(Drop)]
+#[derive(Clone, Copy)]
 struct Found {
     count: u32,
     line: u32,

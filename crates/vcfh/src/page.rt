@@ -129,7 +129,7 @@ pub fn say_page(kept: &[u64; 40]) {
 }
 
 // What a line of a page says: a total and its place.
-#[derive(Drop)]
+#[derive(Clone, Copy)]
 enum Line {
     Total(usize, u64),
     Wrong,
@@ -250,7 +250,7 @@ fn merge_page(page: [u64; 39], kept: &mut [u64; 40]) -> bool {
     }
 }
 
-#[derive(Drop)]
+#[derive(Clone, Copy)]
 enum Merged {
     Whole,
     NoPage,

@@ -8,14 +8,14 @@ use records::refusal::Refusal;
 use values::{bytes, output};
 
 // What came of the bytes so far: the buffer is full, an answer, or a read failed.
-#[derive(Drop)]
+#[derive(Clone, Copy)]
 pub enum Streamed {
     Full(FeedState),
     Answered(FeedAnswer),
     Failed,
 }
 
-#[derive(Drop)]
+#[derive(Clone, Copy)]
 enum Step {
     Next(FeedState),
     Over(Streamed),

@@ -6,21 +6,21 @@ use entries::form::Form;
 use header::shown;
 use header::shown::Shown;
 
-#[derive(Drop)]
+#[derive(Clone, Copy)]
 pub struct View<'a> {
     pub header: &'a [u8],
     pub at: usize,
 }
 
 // What a step shows, and the number of the next entry.
-#[derive(Drop)]
+#[derive(Clone, Copy)]
 pub struct Stepped {
     pub found: Shown,
     pub at: usize,
 }
 
 // The view handed back, with what the step shows.
-#[derive(Drop)]
+#[derive(Clone, Copy)]
 pub struct Moved<'a> {
     pub view: View<'a>,
     pub found: Shown,

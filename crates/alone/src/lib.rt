@@ -1,2 +1,4 @@
 // An entry's line, read again by itself.
+#![tactic(auto)]
+
 pub mod read;

@@ -1,4 +1,6 @@
 // The library for programs in C, Rust or Python: answers are structs of 64-bit numbers, slices pass as pointer and length.
+#![tactic(auto)]
+
 pub mod feeds;
 pub mod indexes;
 pub mod lookups;

@@ -1,5 +1,7 @@
 // Replays recorded cases. Each argument names a file of them, a line a case: its name, what is asked, the input and what must
 // come, parted by tabs and escaped. A case that comes out otherwise is named, with what came; each file's cases are counted.
+#![tactic(auto)]
+
 mod calls;
 mod contigs;
 mod dictionaries;

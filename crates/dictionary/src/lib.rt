@@ -1,4 +1,6 @@
 // The dictionaries of BCF: a number for each string and each contig.
+#![tactic(auto)]
+
 mod line;
 mod marking;
 mod numbering;

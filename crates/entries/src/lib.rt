@@ -1,4 +1,6 @@
 // Entries of a table: what they say, how they are stored, and what they show of the header.
+#![tactic(auto)]
+
 pub mod entry;
 pub mod form;
 pub mod formed;

@@ -1,2 +1,4 @@
 // Headers that come in pieces.
+#![tactic(auto)]
+
 pub mod cable;

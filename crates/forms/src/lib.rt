@@ -1,4 +1,6 @@
 // Lines of the house form, each written from one line of a header.
+#![tactic(auto)]
+
 mod field;
 pub mod formed;
 mod known;

@@ -1,4 +1,6 @@
 // The reading of a whole header, line by line, and the calls on its entries.
+#![tactic(auto)]
+
 mod ahead;
 pub mod file_format_option;
 pub mod parser;

@@ -1,4 +1,6 @@
 // The house form of a header.
+#![tactic(auto)]
+
 mod chains;
 mod copying;
 pub mod form;

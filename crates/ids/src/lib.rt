@@ -1,4 +1,6 @@
 // IDs that stand twice, and keys that mix texts and maps.
+#![tactic(auto)]
+
 pub mod ahead;
 mod names;
 mod notes;

@@ -1,2 +1,4 @@
 // How a header falls into lines.
+#![tactic(auto)]
+
 pub mod line;

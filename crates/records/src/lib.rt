@@ -1,4 +1,6 @@
 // The records of a header: one line at a time.
+#![tactic(auto)]
+
 mod alternative_allele;
 mod contig;
 pub mod definition;

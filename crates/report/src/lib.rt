@@ -1,4 +1,6 @@
 // The check program between its input and its output.
+#![tactic(auto)]
+
 ghost use Rattle.std.specs.Prelude.{◌≡◌, ◌++◌, length};
 ghost use Rattle.values.specs.Integer.{decimal};
 ghost use Rattle.values.specs.Written.{Wrote};

@@ -1,4 +1,6 @@
 // Contig lines from the header of an alignment file.
+#![tactic(auto)]
+
 pub mod contigs;
 mod name;
 pub mod refusal;

@@ -1,4 +1,6 @@
 // The sheet of a season: what was read, accepted and refused, and the entries of each kind.
+#![tactic(auto)]
+
 pub mod add;
 pub mod merge;
 pub mod place;

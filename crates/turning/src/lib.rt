@@ -1,2 +1,4 @@
 // Entries turned from one form into the other.
+#![tactic(auto)]
+
 pub mod turn;

@@ -1,4 +1,6 @@
 // UTF-8, integers and values: the layer below the header reader.
+#![tactic(auto)]
+
 pub mod bits;
 pub mod bytes;
 pub mod cursor;

@@ -2,6 +2,8 @@
 // file's name (`-`: standard input). The command find- has what is looked for behind it; cells-new compares with the file of the cells-old before it.
 // The commands of a season go over any number of files, and then its sheet is printed.
 // What came of a case is told on descriptor 3, by which bin/vcfh goes; sentences and notes stand on standard error.
+#![tactic(auto)]
+
 mod asked;
 mod cells;
 mod contigs;

@@ -1,4 +1,6 @@
 // The check program: reads a header from standard input and prints what `report::print` makes of it.
+#![tactic(auto)]
+
 ghost use Rattle.std.specs.Prelude.{◌≡◌, length};
 
 use values::bytes;

@@ -1,4 +1,6 @@
 // Reads a header from standard input and writes its house form to standard output, or its refusal to standard error.
+#![tactic(auto)]
+
 use entries::form::Form;
 use header::file_format_option::FileFormatOption;
 use header::parser::Outcome;

@@ -1,4 +1,6 @@
 // A header view: the lent bytes and the number of the next entry. Each step hands the view back with what it shows.
+#![tactic(auto)]
+
 ghost use Rattle.std.specs.Prelude.{◌≡◌, length};
 ghost use Rattle.view.specs.Steps.{step_at, moved_to, shown_from};
 

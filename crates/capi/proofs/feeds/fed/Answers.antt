@@ -1,0 +1,6 @@
+use Rattle.capi.proofs.Pieces.{tos}
+use Rattle.std.proofs.Common.{rules}
+use Rattle.capi.proofs.feeds.fed.Goals as goal
+
+pub returns : goal.returns
+returns c = search (tos, rules)

@@ -1,0 +1,6 @@
+use Rattle.dictionary.proofs.Markings.{lent}
+use Rattle.std.proofs.Common.{rules}
+use Rattle.dictionary.proofs.string_maps.mark_contigs.Goals as goal
+
+pub returns : goal.returns
+returns c = (search (lent, rules), search (lent, rules))

@@ -1,0 +1,11 @@
+use native.Mathlib.Omega.{arith}
+use Rattle.entries.specs.Words.{word_one}
+use Rattle.entries.proofs.word.word_one.Goals as goal
+
+pub returns-in-First : goal.returns-in-First
+unfolding word_one
+returns-in-First c = rw c.in-First.is (omega arith)
+
+pub returns-in-Second : goal.returns-in-Second
+unfolding word_one
+returns-in-Second c = rw c.in-Second.is (omega arith)

@@ -1,0 +1,69 @@
+use Rattle.header.proofs.Aheads.{aheads}
+use Rattle.std.proofs.Common.{rules}
+use Rattle.header.proofs.ahead.mark_ahead.Goals as goal
+
+pub count-requires : goal.count-requires
+count-requires c = search (aheads, rules)
+
+pub overflow_sub-h : goal.overflow_sub-h
+overflow_sub-h c = search (aheads, rules)
+
+pub overflow_add-h : goal.overflow_add-h
+overflow_add-h c = search (aheads, rules)
+
+pub slice_bounds-mark_noted-end : goal.slice_bounds-mark_noted-end
+slice_bounds-mark_noted-end c = search (aheads, rules)
+
+pub mark_noted-requires : goal.mark_noted-requires
+mark_noted-requires c = search (aheads, rules)
+
+pub shape_of-marks-then-count-h : goal.shape_of-marks-then-count-h
+shape_of-marks-then-count-h c = search (aheads, rules)
+
+pub returns-then-count-h : goal.returns-then-count-h
+returns-then-count-h c = search (aheads, rules)
+
+pub enum_told-1 : goal.enum_told-1
+enum_told-1 c = search (aheads, rules)
+
+pub slice_bounds-mark_noted-end-in-Empty : goal.slice_bounds-mark_noted-end-in-Empty
+slice_bounds-mark_noted-end-in-Empty c = search (aheads, rules)
+
+pub mark_noted-requires-in-Empty : goal.mark_noted-requires-in-Empty
+mark_noted-requires-in-Empty c = search (aheads, rules)
+
+pub enum_known-phase : goal.enum_known-phase
+enum_known-phase c = search (aheads, rules)
+
+pub slice_bounds-mark_lent-end : goal.slice_bounds-mark_lent-end
+slice_bounds-mark_lent-end c = search (aheads, rules)
+
+pub mark_lent-requires : goal.mark_lent-requires
+mark_lent-requires c = search (aheads, rules)
+
+pub enum_told-in-Done : goal.enum_told-in-Done
+enum_told-in-Done c = search (aheads, rules)
+
+pub slice_bounds-mark_noted-end-in-Done : goal.slice_bounds-mark_noted-end-in-Done
+slice_bounds-mark_noted-end-in-Done c = search (aheads, rules)
+
+pub mark_noted-requires-in-Done : goal.mark_noted-requires-in-Done
+mark_noted-requires-in-Done c = search (aheads, rules)
+
+pub shape_of-marks-in-Empty : goal.shape_of-marks-in-Empty
+shape_of-marks-in-Empty c = search (aheads, rules)
+
+pub returns-in-Empty : goal.returns-in-Empty
+returns-in-Empty c = search (aheads, rules)
+
+pub shape_of-marks-in-Ready : goal.shape_of-marks-in-Ready
+shape_of-marks-in-Ready c = search (aheads, rules)
+
+pub returns-in-Ready : goal.returns-in-Ready
+returns-in-Ready c = search (aheads, rules)
+
+pub shape_of-marks-in-Done : goal.shape_of-marks-in-Done
+shape_of-marks-in-Done c = search (aheads, rules)
+
+pub returns-in-Done : goal.returns-in-Done
+returns-in-Done c = search (aheads, rules)

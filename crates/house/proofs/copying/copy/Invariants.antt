@@ -1,0 +1,10 @@
+use Rattle.house.proofs.Copies.{Copying}
+use lib.ListN.{length}
+use Prim.Native.Nat.{◌-◌}
+use Rattle.house.proofs.copying.copy.Given as goal
+
+abbrev pub invariant-loop-i : goal.invariant-loop-i
+invariant-loop-i l = Copying l.initial.out l.text l.out l.at l.i
+
+abbrev pub decreases-loop-i : goal.decreases-loop-i
+decreases-loop-i l = length l.text - l.i

@@ -1,0 +1,24 @@
+use Rattle.lookup.proofs.Fields.{moved_texts}
+use Rattle.std.proofs.Common.{rules}
+use Rattle.lookup.proofs.field.text_at.Goals as goal
+
+pub line_text-requires : goal.line_text-requires
+line_text-requires c = search (moved_texts, rules)
+
+pub enum_known-text : goal.enum_known-text
+enum_known-text c = search (moved_texts, rules)
+
+pub overflow_add-result : goal.overflow_add-result
+overflow_add-result c = search (moved_texts, rules)
+
+pub overflow_add-result-in-Found : goal.overflow_add-result-in-Found
+overflow_add-result-in-Found c = search (moved_texts, rules)
+
+pub enum_told-1 : goal.enum_told-1
+enum_told-1 c = search (moved_texts, rules)
+
+pub returns-in-Found : goal.returns-in-Found
+returns-in-Found c = search (moved_texts, rules)
+
+pub returns-in-Missing : goal.returns-in-Missing
+returns-in-Missing c = search (moved_texts, rules)

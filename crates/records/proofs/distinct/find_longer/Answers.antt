@@ -1,0 +1,6 @@
+use Rattle.records.proofs.Distincts.{clear_and_doubted}
+use Rattle.std.proofs.Common.{rules}
+use Rattle.records.proofs.distinct.find_longer.Goals as goal
+
+pub returns : goal.returns
+returns c = search (clear_and_doubted, rules)

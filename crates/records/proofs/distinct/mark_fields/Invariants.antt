@@ -1,0 +1,10 @@
+use Prim.Native.Nat.{◌-◌}
+use lib.ListN.{length}
+use Rattle.records.proofs.Distincts.{Seeking}
+use Rattle.records.proofs.distinct.mark_fields.Given as goal
+
+abbrev pub invariant-loop-equals : goal.invariant-loop-equals
+invariant-loop-equals l = Seeking l.map l.s l.doubts l.initial.marks l.marks l.c.at
+
+abbrev pub decreases-loop-equals : goal.decreases-loop-equals
+decreases-loop-equals l = length l.s - l.c.at

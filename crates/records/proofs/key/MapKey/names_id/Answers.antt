@@ -1,0 +1,21 @@
+use Rattle.records.proofs.Tags.{id_names}
+use Rattle.std.proofs.Common.{rules}
+use Rattle.records.proofs.key.MapKey.names_id.Goals as goal
+
+pub same-requires : goal.same-requires
+same-requires c = search (id_names, rules)
+
+pub returns-then-same : goal.returns-then-same
+returns-then-same c = search (id_names, rules)
+
+pub has_lineage-requires : goal.has_lineage-requires
+has_lineage-requires c = search (id_names, rules)
+
+pub returns-then-not-has_lineage : goal.returns-then-not-has_lineage
+returns-then-not-has_lineage c = search (id_names, rules)
+
+pub id_tag-requires : goal.id_tag-requires
+id_tag-requires c = search (id_names, rules)
+
+pub returns : goal.returns
+returns c = search (id_names, rules)

@@ -1,0 +1,10 @@
+use Prim.Native.Nat.{◌-◌}
+use lib.ListN.{length}
+use mathlib.Core.Path.{◌≡◌}
+use Rattle.vcfh.proofs.stream.read_on.Given as goal
+
+abbrev pub invariant-loop-k : goal.invariant-loop-k
+invariant-loop-k l = (length l.piece ≡ length l.initial.piece) × ((length l.buffer ≡ length l.initial.buffer) × (length l.table ≡ length l.initial.table))
+
+abbrev pub decreases-loop-k : goal.decreases-loop-k
+decreases-loop-k l = 0x100000000 - l.k

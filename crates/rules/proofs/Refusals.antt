@@ -62,6 +62,7 @@ text_beside_lem v k gs s b t = elim (test (same (key_of s) k)) [
 textless : (v : Version) (k : Bytes) (gs : List Field) (rs : List Record) → Among (fields k gs) rs → Apart v rs → All (Textless k) rs
 textless v k gs (_ ∷ rs) first_one p = ((λ t. absurd (true≢false t)), all_map (λ s. beside v s (fields k gs) ≡ 0) (Textless k) rs (text_beside_lem v k gs) p.0)
 textless v k gs (s ∷ rs) (later_one a) p = (beside_text v k gs s (all_among (λ x. beside v x s ≡ 0) a p.0), textless v k gs rs a p.1)
+textless v k gs [] x'' p = elim x'' [ ]
 
 -- beside any of them, a map is refused as a second one or not at all
 beside_maps : (v : Version) (k : Bytes) (fs : List Field) (s : Record) → Textless k s → (beside v (fields k fs) s ≡ 0) ⊎ (beside v (fields k fs) s ≡ second k)
@@ -81,6 +82,7 @@ clash_second : (v : Version) (r : Record) (n : ℕ) (rs : List Record) {x : Reco
 unfolding clash first
 clash_second v r n (x ∷ rs) first_one e h = rw e
 clash_second v r n (s ∷ rs) (later_one a) e h = ⊎_elim (λ z. rw z (rw (clash_second v r n rs a e h.1))) (λ z. rw z) h.0
+clash_second v r n [] x5 e h = elim x5 [ ]
 
 abbrev second_of : Bool → ℕ
 second_of true = 19

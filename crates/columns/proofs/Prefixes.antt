@@ -1,6 +1,6 @@
 -- Columns that stand first, against the bytes that they are written with. Assumes nothing.
 use native.Mathlib.Omega.{arith}
-use mathlib.Core.Path.{◌≡◌, refl, sym, ap, ◌∙◌}
+use mathlib.Core.Path.{◌≡◌, refl, sym, ap, ◌∙◌, subst}
 use mathlib.Core.Bool.{true, false}
 use mathlib.Core.List.{List, [], ◌∷◌, ◌++◌, append_assoc, append-nil}
 use mathlib.Core.Option.{Option, none, some}
@@ -66,7 +66,7 @@ starts_first n (y ∷ xs) = starts_self n (TAB ∷ parted (y ∷ xs))
 columns_differ : (n : Bytes) (ns : List Bytes) (x : Bytes) (xs : List Bytes) → starts (parted (n ∷ ns)) (parted (x ∷ xs)) ≡ false → after_columns (n ∷ ns) (x ∷ xs) ≡ none
 unfolding parted starts after_columns
 columns_differ n [] x xs h = elim (test (same x n)) [
-  | pass e ↦ both (starts_first n xs) (rw (same_sound x n e) at h)
+  | pass e ↦ both (starts_first n xs) (subst (λ z. starts (parted (n ∷ [])) (parted (z ∷ xs)) ≡ false) (same_sound x n e) h)
   | fail e ↦ after_miss n x [] xs e
 ]
 columns_differ n (m ∷ ns) x [] h = elim (test (same x n)) [

@@ -1,6 +1,6 @@
 -- The table of known fields: the code's tests of a field's key, and what its tag says of its name. Assumes nothing.
 use Prim.Native.Nat.{ℕ}
-use mathlib.Core.Path.{◌≡◌, refl, sym, ap, ◌∙◌}
+use mathlib.Core.Path.{◌≡◌, refl, sym, ap, ◌∙◌, ap₂}
 use mathlib.Core.Bool.{Bool, true, false, not, ◌||◌, ◌&&◌, and_assoc, false≢true}
 use mathlib.Core.List.{List, [], ◌∷◌}
 use mathlib.Core.Option.{Option, none, some}
@@ -108,13 +108,14 @@ module _ (v : Version) (key : MapKey) (field : Bytes) {q : Bool} (a : q ≡ same
   tag_named_id e = rw (← same_sound (ascii "ID") (name_of v (case_bytes key) field) (sym a ∙ e)) (sym (id_row (kind_of (case_bytes key))))
 
   pub tag_after_id : q ≡ false → {o : Option KnownField} → o ≡ row_named field (after_id (kind_by key)) → o ≡ known_named v (case_bytes key) field
-  unfolding row_named
+  unfolding row_named same
   tag_after_id e f =
       let n : name_of v (case_bytes key) field ≡ field = elim (test (names_id v (case_bytes key) field)) [
         | pass g ↦ both (same_self (ascii "ID")) (rw (name_id v (case_bytes key) field g) at (sym a ∙ e))
         | fail g ↦ name_other v (case_bytes key) field g
       ] in
-      rw (n, kind_by_case key, id_first (kind_by key), row_named, rw n at (sym a ∙ e)) f
+      let skip : row_named field (id_field ∷ after_id (kind_by key)) ≡ row_named field (after_id (kind_by key)) = rw (rw n at (sym a ∙ e)) in
+      f ∙ sym (ap₂ row_named n (ap rows (kind_by_case key) ∙ id_first (kind_by key)) ∙ skip)
 
 pub ruleset names = (tag_named_id, tag_after_id)
 

@@ -22,13 +22,11 @@ pub returns-then-not-has_id : goal.returns-then-not-has_id
 returns-then-not-has_id c = search (shown_ids, rules)
 
 pub overflow_add-start : goal.overflow_add-start
-overflow_add-start c = let k = c.before.before.before in
-    let i = found_inside _ _ _ _ k.before.before.before.entry_at.ensures k.before.e.given.1 in
+overflow_add-start c = let i = found_inside _ _ _ _ c.entry_at.ensures c.in-Entry.is in
     omega arith
 
 pub overflow_add-end : goal.overflow_add-end
-overflow_add-end c = let k = c.before.before.before.before in
-    let i = found_inside _ _ _ _ k.before.before.before.entry_at.ensures k.before.e.given.1 in
+overflow_add-end c = let i = found_inside _ _ _ _ c.entry_at.ensures c.in-Entry.is in
     omega arith
 
 pub returns : goal.returns

@@ -33,9 +33,7 @@ pub overflow_add-start : goal.overflow_add-start
 overflow_add-start c = search (shown_keys, rules)
 
 pub overflow_add-end : goal.overflow_add-end
-overflow_add-end c = let k = c.before.before in
-    let m = k.before.before.before.before.before.before.before in
-    key_end_fits _ _ _ _ m.before.before.entry_at.ensures m.e.given.1 (search rules) k.before.lies-inside.ensures k.if3.false
+overflow_add-end c = key_end_fits _ _ _ _ c.entry_at.ensures c.in-Entry.is (search rules) c.lies_inside.ensures (rw c.if-not-lies_inside.false)
 
 pub returns : goal.returns
 returns c = search (shown_keys, rules)

@@ -52,9 +52,9 @@ bounds-table-at-in-Second c = let i = third_inside _ _ _ c.count.ensures c.words
 pub returns-in-First : goal.returns-in-First
 returns-in-First c = let i = words_inside _ _ _ c.count.ensures c.words.ensures c.if-count-n.false in
     let s = some_words c.args.form in
-    (search (puts, rules), (search (puts, rules), some_next _ (omega arith)))
+    record { room = search (puts, rules); table = search (puts, rules); next = some_next _ (omega arith) }
 
 pub returns-in-Second : goal.returns-in-Second
 returns-in-Second c = let i = words_inside _ _ _ c.count.ensures c.words.ensures c.if-count-n.false in
     let s = some_words c.args.form in
-    (search (puts, rules), (search (puts, rules), some_next _ (omega arith)))
+    record { room = search (puts, rules); table = search (puts, rules); next = some_next _ (omega arith) }

@@ -9,7 +9,7 @@ pub is_known-requires : goal.is_known-requires
 is_known-requires c = search (other_put, rules)
 
 pub returns-then-is_known : goal.returns-then-is_known
-returns-then-is_known c = other_known _ _ _ c.tag-tag.result c.tag-tag.ensures c.is_Known.ensures c.if-is_known.true (search rules) (search rules)
+returns-then-is_known c = other_known _ _ _ c.tag-tag.result c.tag-tag.ensures c.is_known.ensures c.if-is_known.true (search rules) (search rules)
 
 pub put_byte-next-requires : goal.put_byte-next-requires
 put_byte-next-requires c = search (other_put, rules)

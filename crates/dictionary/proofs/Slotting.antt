@@ -18,6 +18,7 @@ use Rattle.values.proofs.Sames.{same_sound, same_self}
 use Rattle.values.proofs.Lists.{none_not}
 use Rattle.rules.specs.Map.{is_some}
 use Rattle.rules.specs.Shown.{id_in}
+use Rattle.rules.specs.Entry.{Entry}
 use Rattle.entries.specs.declared.entry.Entry.{Entry as CodeEntry}
 use Rattle.entries.specs.declared.form.Form.{Form}
 use Rattle.entries.specs.Values.{entry_of}
@@ -149,7 +150,7 @@ module _ (form : Form) (h : Bytes) (t slots : List ℕ) {p : ℕ} (l : p < lengt
   module _ (y : CodeEntry) (g : Passed is_named id_slot form h t slots (id_at h y) p) {a : Bytes} (ea : a ≡ id_in h (entry_of x)) {b : Bytes} (eb : b ≡ id_in h (entry_of y))
       {s : Bool} (es : s ≡ same (meaning x.quoted a) (meaning y.quoted b)) where
     id_tested : s ≡ is_named (id_at h y) (line_at form h t (word - 1))
-    id_tested = let i : s ≡ same (id_at h x) (id_at h y) = es ∙ rw (ea, eb) in i ∙ rw ex
+    id_tested = let i : s ≡ same (id_at h x) (id_at h y) = es ∙ rw (ea, eb) in i ∙ ap (λ (e : Entry). same (meaning e.quoted (id_in h e)) (id_at h y)) ex
 
     pub id_other : s ≡ false → Passed is_named id_slot form h t slots (id_at h y) (p + 1)
     id_other f = pass_other is_named id_slot form h t slots (id_at h y) g l ew z id_tested f

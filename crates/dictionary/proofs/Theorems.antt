@@ -30,6 +30,7 @@ Member x (y ∷ ys) = (x ≡ y) ⊎ Member x ys
 member_map : {A B : Type 0} (f : A → B) (x : A) (xs : List A) → Member x xs → Member (f x) (map f xs)
 member_map f x (y ∷ ys) (inl e) = inl (ap f e)
 member_map f x (y ∷ ys) (inr m) = inr (member_map f x ys m)
+member_map {A = A} {B = B} f x [] x'' = elim x'' [ ]
 
 member_right : {A : Type 0} (x : A) (xs ys : List A) → Member x ys → Member x (xs ++ ys)
 member_right x [] ys m = m
@@ -44,11 +45,13 @@ any_member : {A : Type 0} (t : A → Bool) (x : A) (xs : List A) → any_of t xs
 unfolding any_of
 any_member t x (y ∷ ys) h (inl e) = ap t e ∙ or_l (t y) (any_of t ys) h
 any_member t x (y ∷ ys) h (inr m) = any_member t x ys (or_r (t y) (any_of t ys) h) m
+any_member {A = A} t x [] h x3 = elim x3 [ ]
 
 pub id_member : (l : Line) (ls : List Line) → Member l ls → is_in l.id (ids ls) ≡ true
 unfolding is_in
 id_member l (m ∷ ls) (inl e) = in_same l.id m.id (ids ls) (rw e (same_self m.id))
 id_member l (m ∷ ls) (inr h) = or_on (same m.id l.id) (id_member l ls h)
+id_member l [] x' = elim x' [ ]
 
 -- a line with this ID
 pub record LineWith (x : Bytes) (ls : List Line) : Type 0 where
@@ -70,6 +73,7 @@ first_member l seen (m ∷ ls) h = elim (test (is_in m.id seen)) [
   | pass e ↦ inr (first_member l (m.id ∷ seen) ls (subst (Member l) (first_old seen m ls e) h))
   | fail e ↦ elim (subst (Member l) (first_new seen m ls e) h) [ inl i ↦ inl i | inr k ↦ inr (first_member l (m.id ∷ seen) ls k) ]
 ]
+first_member l seen [] h = elim h [ ]
 
 -- Where nothing clashes
 
@@ -77,6 +81,7 @@ clash_between : (seen ps : List Numbered) → clashed seen ps ≡ false → (p q
 unfolding clashed
 clash_between seen (r ∷ ps) h p q (inl e) m = any_member (clashes p) q seen (rw e (or_l (any_of (clashes r) seen) (clashed (r ∷ seen) ps) h)) m
 clash_between seen (r ∷ ps) h p q (inr k) m = clash_between (r ∷ seen) ps (or_r (any_of (clashes r) seen) (clashed (r ∷ seen) ps) h) p q k (inr m)
+clash_between seen [] h p q x3 m = elim x3 [ ]
 
 clash_self : (p : Numbered) → clashes p p ≡ false
 clash_self p = clash_equal p p (same_self p.0) ∙ ap not (eq-eqb p.1 p.1 refl)
@@ -88,6 +93,7 @@ clash_among seen (r ∷ ps) h p q (inl e) (inr n) =
     clash_sym p q ∙ clash_between (r ∷ seen) ps (or_r (any_of (clashes r) seen) (clashed (r ∷ seen) ps) h) q p n (inl e)
 clash_among seen (r ∷ ps) h p q (inr m) (inl f) = clash_between (r ∷ seen) ps (or_r (any_of (clashes r) seen) (clashed (r ∷ seen) ps) h) p q m (inl f)
 clash_among seen (r ∷ ps) h p q (inr m) (inr n) = clash_among (r ∷ seen) ps (or_r (any_of (clashes r) seen) (clashed (r ∷ seen) ps) h) p q m n
+clash_among seen [] h p q x3 _ = elim x3 [ ]
 
 same_number : (p q : Numbered) → clashes p q ≡ false → p.0 ≡ q.0 → p.1 ≡ q.1
 same_number p q h e = eqb-true p.1 q.1 (not_false (eqb p.1 q.1) (sym (clash_equal p q (rw e (same_self q.0))) ∙ h))
@@ -119,6 +125,7 @@ module _ (d : Dictionary) (ls : List Line) (free : dictionary_clash d ls ≡ fal
       | inl i ↦ inl i
       | inr k ↦ inr (numbered_first p (m.id ∷ seen) ms k)
     ]
+  numbered_first p seen [] h = elim h [ ]
   ]
 
   source : (p : Numbered) → Member p (dictionary d ls) → Source p
@@ -159,6 +166,7 @@ module _ (d : Dictionary) (ls : List Line) (free : dictionary_clash d ls ≡ fal
   member_left : (p : Numbered) (xs ys : List Numbered) → Member p xs → Member p (xs ++ ys)
   member_left p (x ∷ xs) ys (inl e) = inl e
   member_left p (x ∷ xs) ys (inr m) = inr (member_left p xs ys m)
+  member_left p [] ys x' = elim x' [ ]
 
   -- and each line's ID has the number of that line
   pub has_number : (l : Line) → Member l ls → Member (l.id, id_number d ls l) (dictionary d ls)

@@ -13,7 +13,7 @@ pub is_in-requires : goal.is_in-requires
 is_in-requires c = search (lines, slotting, twice, rules)
 
 pub find_earlier-earlier-requires : goal.find_earlier-earlier-requires
-find_earlier-earlier-requires c = (search id_hash_is, (search (class_is, id_hash_is), (search stands_id, search rules)))
+find_earlier-earlier-requires c = record { hash_value = search id_hash_is; e_value = search (class_is, id_hash_is); stands = search stands_id; held_at = search rules }
 
 pub mark_met-requires : goal.mark_met-requires
 mark_met-requires c = search (lines, slotting, twice, rules)
@@ -25,7 +25,7 @@ pub shape_of-slots : goal.shape_of-slots
 shape_of-slots c = search (lines, slotting, twice, rules)
 
 pub returns-then-is_in : goal.returns-then-is_in
-returns-then-is_in c = (search (lines, slotting, twice, rules), search (lines, slotting, twice, rules))
+returns-then-is_in c = record { marks = search (lines, slotting, twice, rules); slots = search (lines, slotting, twice, rules) }
 
 pub returns-else-is_in : goal.returns-else-is_in
-returns-else-is_in c = (search (lines, slotting, twice, rules), search (lines, slotting, twice, rules))
+returns-else-is_in c = record { marks = search (lines, slotting, twice, rules); slots = search (lines, slotting, twice, rules) }

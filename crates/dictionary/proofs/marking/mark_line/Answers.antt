@@ -21,7 +21,7 @@ pub shape_of-slots-in-Ids : goal.shape_of-slots-in-Ids
 shape_of-slots-in-Ids c = search (soughts, rules)
 
 pub returns-in-Ids : goal.returns-in-Ids
-returns-in-Ids c = (search (soughts, rules), search (soughts, rules))
+returns-in-Ids c = record { marks = search (soughts, rules); slots = search (soughts, rules) }
 
 pub shape_of-marks-in-Numbers : goal.shape_of-marks-in-Numbers
 shape_of-marks-in-Numbers c = search (soughts, rules)
@@ -30,4 +30,4 @@ pub shape_of-slots-in-Numbers : goal.shape_of-slots-in-Numbers
 shape_of-slots-in-Numbers c = search (soughts, rules)
 
 pub returns-in-Numbers : goal.returns-in-Numbers
-returns-in-Numbers c = (search (soughts, rules), search (soughts, rules))
+returns-in-Numbers c = record { marks = search (soughts, rules); slots = search (soughts, rules) }

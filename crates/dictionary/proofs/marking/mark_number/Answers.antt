@@ -34,7 +34,7 @@ pub shape_of-slots-then-is_taken : goal.shape_of-slots-then-is_taken
 shape_of-slots-then-is_taken c = search (lines, slotting, twice, rules)
 
 pub returns-then-is_taken : goal.returns-then-is_taken
-returns-then-is_taken c = (search (lines, slotting, twice, rules), search (lines, slotting, twice, rules))
+returns-then-is_taken c = record { marks = search (lines, slotting, twice, rules); slots = search (lines, slotting, twice, rules) }
 
 pub clashes_implied-requires : goal.clashes_implied-requires
 clashes_implied-requires c = search (lines, slotting, twice, rules)
@@ -58,22 +58,22 @@ pub shape_of-slots-then-clashes_implied : goal.shape_of-slots-then-clashes_impli
 shape_of-slots-then-clashes_implied c = search (lines, slotting, twice, rules)
 
 pub returns-then-clashes_implied : goal.returns-then-clashes_implied
-returns-then-clashes_implied c = (search (lines, slotting, twice, rules), search (lines, slotting, twice, rules))
+returns-then-clashes_implied c = record { marks = search (lines, slotting, twice, rules); slots = search (lines, slotting, twice, rules) }
 
 pub shape_of-slots-else-clashes_implied : goal.shape_of-slots-else-clashes_implied
 shape_of-slots-else-clashes_implied c = search (lines, slotting, twice, rules)
 
 pub returns-else-clashes_implied : goal.returns-else-clashes_implied
-returns-else-clashes_implied c = (search (lines, slotting, twice, rules), search (lines, slotting, twice, rules))
+returns-else-clashes_implied c = record { marks = search (lines, slotting, twice, rules); slots = search (lines, slotting, twice, rules) }
 
 pub returns-else-is_in : goal.returns-else-is_in
-returns-else-is_in c = (search (lines, slotting, twice, rules), search (lines, slotting, twice, rules))
+returns-else-is_in c = record { marks = search (lines, slotting, twice, rules); slots = search (lines, slotting, twice, rules) }
 
 pub shape_of-marks-then-is_in-2 : goal.shape_of-marks-then-is_in-2
 shape_of-marks-then-is_in-2 c = search (lines, slotting, twice, rules)
 
 pub returns-then-is_in-2 : goal.returns-then-is_in-2
-returns-then-is_in-2 c = (search (lines, slotting, twice, rules), search (lines, slotting, twice, rules))
+returns-then-is_in-2 c = record { marks = search (lines, slotting, twice, rules); slots = search (lines, slotting, twice, rules) }
 
 pub returns-else-is_in-2 : goal.returns-else-is_in-2
-returns-else-is_in-2 c = (search (lines, slotting, twice, rules), search (lines, slotting, twice, rules))
+returns-else-is_in-2 c = record { marks = search (lines, slotting, twice, rules); slots = search (lines, slotting, twice, rules) }

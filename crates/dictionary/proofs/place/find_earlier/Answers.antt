@@ -9,7 +9,7 @@ pub find_id-requires : goal.find_id-requires
 find_id-requires c = search (meets, rules)
 
 pub returns-then-k-gt4294967294 : goal.returns-then-k-gt4294967294
-returns-then-k-gt4294967294 c = (search (meets, rules), search (meets, rules))
+returns-then-k-gt4294967294 c = record { earlier = search (meets, rules); ids = search (meets, rules) }
 
 pub look_id-requires : goal.look_id-requires
 look_id-requires c = search (meets, rules)
@@ -45,16 +45,16 @@ pub shape_of-ids-in-Found : goal.shape_of-ids-in-Found
 shape_of-ids-in-Found c = search (meets, rules)
 
 pub returns-in-Found : goal.returns-in-Found
-returns-in-Found c = (search (meets, rules), search (meets, rules))
+returns-in-Found c = record { earlier = search (meets, rules); ids = search (meets, rules) }
 
 pub shape_of-ids-in-Open : goal.shape_of-ids-in-Open
 shape_of-ids-in-Open c = search (meets, rules)
 
 pub returns-in-Open : goal.returns-in-Open
-returns-in-Open c = (search (meets, rules), search (held_open, named_sole))
+returns-in-Open c = record { earlier = search (meets, rules); ids = search (held_open, named_sole) }
 
 pub shape_of-ids-in-Full : goal.shape_of-ids-in-Full
 shape_of-ids-in-Full c = search (meets, rules)
 
 pub returns-in-Full : goal.returns-in-Full
-returns-in-Full c = (search (meets, rules), search (meets, rules))
+returns-in-Full c = record { earlier = search (meets, rules); ids = search (meets, rules) }

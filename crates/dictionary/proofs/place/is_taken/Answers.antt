@@ -9,7 +9,7 @@ pub has_number-requires : goal.has_number-requires
 has_number-requires c = search (meets, rules)
 
 pub returns-then-k-gt4294967294 : goal.returns-then-k-gt4294967294
-returns-then-k-gt4294967294 c = (search (meets, rules), search (meets, rules))
+returns-then-k-gt4294967294 c = record { taken = search (meets, rules); numbers = search (meets, rules) }
 
 pub look_number-requires : goal.look_number-requires
 look_number-requires c = search (meets, rules)
@@ -45,16 +45,16 @@ pub shape_of-numbers-in-Found : goal.shape_of-numbers-in-Found
 shape_of-numbers-in-Found c = search (meets, rules)
 
 pub returns-in-Found : goal.returns-in-Found
-returns-in-Found c = (search (meets, rules), search (meets, rules))
+returns-in-Found c = record { taken = search (meets, rules); numbers = search (meets, rules) }
 
 pub shape_of-numbers-in-Open : goal.shape_of-numbers-in-Open
 shape_of-numbers-in-Open c = search (meets, rules)
 
 pub returns-in-Open : goal.returns-in-Open
-returns-in-Open c = (search (meets, rules), search (meets, rules))
+returns-in-Open c = record { taken = search (meets, rules); numbers = search (meets, rules) }
 
 pub shape_of-numbers-in-Full : goal.shape_of-numbers-in-Full
 shape_of-numbers-in-Full c = search (meets, rules)
 
 pub returns-in-Full : goal.returns-in-Full
-returns-in-Full c = (search (meets, rules), search (meets, rules))
+returns-in-Full c = record { taken = search (meets, rules); numbers = search (meets, rules) }

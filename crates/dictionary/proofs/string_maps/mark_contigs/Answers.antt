@@ -3,4 +3,4 @@ use Rattle.std.proofs.Common.{rules}
 use Rattle.dictionary.proofs.string_maps.mark_contigs.Goals as goal
 
 pub returns : goal.returns
-returns c = (search (lent, rules), search (lent, rules))
+returns c = record { marked = search (lent, rules); others = search (lent, rules) }

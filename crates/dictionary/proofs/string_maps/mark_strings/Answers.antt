@@ -6,7 +6,7 @@ pub slice_bounds-mark_any-end-2 : goal.slice_bounds-mark_any-end-2
 slice_bounds-mark_any-end-2 c = search (lent, rules)
 
 pub mark_any-requires : goal.mark_any-requires
-mark_any-requires c = (search rules, search (lent, rules))
+mark_any-requires c = record { carried_value = search rules; all_open = search (lent, rules) }
 
 pub returns : goal.returns
-returns c = (search (lent, rules), search (lent, rules))
+returns c = record { marked = search (lent, rules); others = search (lent, rules) }

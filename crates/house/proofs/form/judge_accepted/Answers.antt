@@ -3,4 +3,4 @@ use Rattle.std.proofs.Common.{rules}
 use Rattle.house.proofs.form.judge_accepted.Goals as goal
 
 pub returns : goal.returns
-returns c = search (comparison_answered, c.well-formed.1.1.1.1.0, rules)
+returns c = search (comparison_answered, c.well_formed.1.1.1.1.0, rules)

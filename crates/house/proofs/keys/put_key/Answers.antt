@@ -42,8 +42,7 @@ pub loop-k-smaller : goal.loop-k-smaller
 loop-k-smaller c = search (picks, runs, rules)
 
 pub loop-k-preserved : goal.loop-k-preserved
-loop-k-preserved c = let x = c.before.before in
-    pick_other x.before.before.before.loop.invariant x.before.before.count.ensures x.before.if1.true x.get.ensures c.is_under.ensures c.if-is_under.false
+loop-k-preserved c = pick_other c.loop-k.invariant c.count.ensures c.loop-k-test.true c.get-e.ensures c.is_under.ensures c.if-is_under.false
 
 pub shape_of-out : goal.shape_of-out
 shape_of-out c = search (picks, runs, rules)

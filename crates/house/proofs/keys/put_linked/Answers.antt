@@ -30,20 +30,10 @@ pub put_entry-progress-requires : goal.put_entry-progress-requires
 put_entry-progress-requires c = search (puttings, rules)
 
 pub loop-k-smaller-then-near-next : goal.loop-k-smaller-then-near-next
-loop-k-smaller-then-near-next c = let p = c.before.before in
-    let l = p.before.before in
-    let n = l.before.before in
-    let w = n.before in
-    let x = w.before.before in
-    one_less (run_here _ _ x.before.before.count.ensures x.before.if1.true) n.next_of.ensures
+loop-k-smaller-then-near-next c = one_less (run_here _ _ c.count.ensures c.loop-k-test.true) c.next_of-next.ensures
 
 pub loop-k-preserved-then-near-next : goal.loop-k-preserved-then-near-next
-loop-k-preserved-then-near-next c = let p = c.before.before in
-    let l = p.before.before in
-    let n = l.before.before in
-    let w = n.before in
-    let x = w.before.before in
-    put_one x.before.before.before.loop.invariant x.before.before.count.ensures x.before.if1.true x.get.ensures w.before.is-under.ensures w.if2.true l.line-part.ensures p.put-entry.ensures (search rules) n.next_of.ensures
+loop-k-preserved-then-near-next c = put_one c.loop-k.invariant c.count.ensures c.loop-k-test.true c.get-e.ensures c.is_under.ensures c.if-is_under.true c.line_part-line.ensures c.put_entry-progress.ensures (search rules) c.next_of-next.ensures
 
 pub find_run-run-requires : goal.find_run-run-requires
 find_run-run-requires c = search (puttings, rules)
@@ -61,30 +51,20 @@ pub next_of-k-requires : goal.next_of-k-requires
 next_of-k-requires c = search (puttings, rules)
 
 pub loop-k-smaller-else-near-next : goal.loop-k-smaller-else-near-next
-loop-k-smaller-else-near-next c = let p = c.before.before.before in
-    let t = p.before.before.before in
-    let w = t.before.before.before.before in
-    let x = w.before.before in
-    next_less t.before.find-run.ensures (run_here _ _ x.before.before.count.ensures x.before.if1.true) c.next_of-k.ensures
+loop-k-smaller-else-near-next c = next_less c.find_run-run.ensures (run_here _ _ c.count.ensures c.loop-k-test.true) c.next_of-k.ensures
 
 pub loop-k-preserved-else-near-next : goal.loop-k-preserved-else-near-next
-loop-k-preserved-else-near-next c = let p = c.before.before.before in
-    let t = p.before.before.before in
-    let w = t.before.before.before.before in
-    let x = w.before.before in
-    put_more x.before.before.before.loop.invariant x.before.before.count.ensures x.before.if1.true x.get.ensures w.before.is-under.ensures w.if2.true t.before.find-run.ensures t.part.ensures
-    p.put-run.ensures (search rules) c.next_of-k.ensures
+loop-k-preserved-else-near-next c = put_more c.loop-k.invariant c.count.ensures c.loop-k-test.true c.get-e.ensures c.is_under.ensures c.if-is_under.true c.find_run-run.ensures c.part-text.ensures
+    c.put_run-progress.ensures (search rules) c.next_of-k.ensures
 
 pub pass_other-k-requires : goal.pass_other-k-requires
 pass_other-k-requires c = search (puttings, rules)
 
 pub loop-k-smaller : goal.loop-k-smaller
-loop-k-smaller c = let x = c.before.before.before in
-    see_less (run_here _ _ x.before.before.count.ensures x.before.if1.true) c.pass_other-k.ensures
+loop-k-smaller c = see_less (run_here _ _ c.count.ensures c.loop-k-test.true) c.pass_other-k.ensures
 
 pub loop-k-preserved : goal.loop-k-preserved
-loop-k-preserved c = let x = c.before.before.before in
-    put_other x.before.before.before.loop.invariant x.before.before.count.ensures x.before.if1.true x.get.ensures c.is_under.ensures c.if-is_under.false c.pass_other-k.ensures
+loop-k-preserved c = put_other c.loop-k.invariant c.count.ensures c.loop-k-test.true c.get-e.ensures c.is_under.ensures c.if-is_under.false c.pass_other-k.ensures
 
 pub shape_of-out : goal.shape_of-out
 shape_of-out c = search (puttings, rules)

@@ -14,7 +14,7 @@ pub put_if_first-progress-requires : goal.put_if_first-progress-requires
 put_if_first-progress-requires c = search (others, rules)
 
 pub skip_same-k-requires : goal.skip_same-k-requires
-skip_same-k-requires c = let x = c.before.before.before.before in place_inside _ _ x.before.count.ensures x.if1.true
+skip_same-k-requires c = place_inside _ _ c.count.ensures c.loop-k-test.true
 
 pub loop-k-smaller : goal.loop-k-smaller
 loop-k-smaller c = search (others, rules)

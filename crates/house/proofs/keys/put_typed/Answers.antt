@@ -7,7 +7,7 @@ pub has_typed-requires : goal.has_typed-requires
 has_typed-requires c = search (typed_keys_lem, typed_none, rules)
 
 pub returns-then-not-has_typed : goal.returns-then-not-has_typed
-returns-then-not-has_typed c = typed_none _ _ c.has_typed.ensures c.if-not-has_typed.true _ _ _ (search rules) (search rules) (search rules)
+returns-then-not-has_typed c = typed_none _ _ c.has_typed.ensures (rw c.if-not-has_typed.true) _ _ _ (search rules) (search rules) (search rules)
 
 pub put_key-info-requires : goal.put_key-info-requires
 put_key-info-requires c = search (typed_keys_lem, typed_none, rules)

@@ -47,11 +47,7 @@ pub loop-n-smaller : goal.loop-n-smaller
 loop-n-smaller c = search (copies, next_fits, rules)
 
 pub loop-n-preserved : goal.loop-n-preserved
-loop-n-preserved c = let p = c.before.before.before in
-    let g = p.before in
-    let t = g.before.before.before.before.before in
-    let o = t.before.before in
-    copy_next o.loop.invariant o.before.before.source.ensures o.before.count.ensures t.before.loop-test.true (search (met, rules)) g.target.ensures p.put.ensures.0 p.put.ensures.1.0 c.if-not-put.false (search rules)
+loop-n-preserved c = copy_next c.loop-n.invariant c.source.ensures c.count-count.ensures c.loop-n-test.true (search (met, rules)) c.target.ensures c.put.ensures.room c.put.ensures.table (rw c.if-not-put.false) (search rules)
 
 pub shape_of-target : goal.shape_of-target
 shape_of-target c = search (copies, next_fits, rules)

@@ -7,7 +7,7 @@ use mathlib.Core.List.{List, [], ◌∷◌, ◌++◌, tail, append_assoc}
 use mathlib.Core.Option.{Option, some}
 use lib.ListN.{length, take, drop}
 use Rattle.values.specs.Bytes.{Bytes, ascii, same}
-use Rattle.values.specs.Value.{Value, quoted, is_quoted, text_of, meaning_of}
+use Rattle.values.specs.Value.{Value, is_quoted, text_of, meaning_of}
 use Rattle.values.specs.Field.{Field, written_field}
 use Rattle.values.specs.Places.{field_at, separator_at}
 use Rattle.values.specs.declared.cursor.Cursor.{Cursor}

@@ -9,7 +9,7 @@ use lib.ListN.{length, drop, get_or, drop_of_length-le, length-append}
 use borrow.Author.Tests.{eqb-true}
 use mir.Syntax.{w64}
 use mir.Val.{Fits}
-use Rattle.values.specs.Bytes.{Bytes, is, empty, begins}
+use Rattle.values.specs.Bytes.{Bytes, empty, begins}
 use Rattle.values.specs.Field.{Field}
 use Rattle.values.specs.declared.cursor.Cursor.{Cursor}
 use Rattle.values.proofs.Tests.{and_r, not_true, not_false}

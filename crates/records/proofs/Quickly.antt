@@ -1,18 +1,18 @@
 -- Records of one or two bare fields: what the quick reader saw is what the rules read. Assumes nothing.
-use Prim.Native.Nat.{ℕ, suc, ◌+◌, ◌*◌, ◌-◌, ◌^◌, ◌≤◌, ◌<◌}
+use Prim.Native.Nat.{ℕ, ◌+◌, ◌*◌, ◌-◌, ◌^◌, ◌≤◌, ◌<◌}
 use mir.Syntax.{w64}
 use mir.Val.{Fits}
 use native.Mathlib.Omega.{arith}
 use mathlib.Core.Path.{◌≡◌, refl, sym, ap, subst, ◌∙◌}
-use mathlib.Core.Bool.{Bool, true, false, not, ◌||◌, ◌&&◌, false≢true}
-use mathlib.Core.List.{List, [], ◌∷◌, ◌++◌}
+use mathlib.Core.Bool.{Bool, true, false, not, ◌||◌, false≢true}
+use mathlib.Core.List.{[], ◌∷◌}
 use lib.ListN.{length, take, drop, get_or, length-drop}
 use lib.Seq.{drop-drop}
-use borrow.Author.Tests.{eqb-true, eq-eqb, ne_eqb}
+use borrow.Author.Tests.{eqb-true, ne_eqb}
 use Rattle.values.specs.Bytes.{Bytes, ascii, is, empty, begins, any, before, from, starts, same, part}
 use Rattle.values.specs.Integer.{u64_read}
 use Rattle.values.specs.Value.{is_stop}
-use Rattle.values.specs.Field.{is_forbidden, read_key}
+use Rattle.values.specs.Field.{read_key}
 use Rattle.values.specs.Places.{cursor_at, key_placed, key_at, field_at}
 use Rattle.values.specs.declared.cursor.Cursor.{Cursor}
 use Rattle.values.specs.declared.integer.IntegerRead.{IntegerRead}
@@ -20,7 +20,7 @@ use Rattle.values.specs.declared.integer.IntegerRead.TheVariants as integer
 use Rattle.values.specs.declared.field.KeyRead.{KeyRead}
 use Rattle.values.specs.declared.field.KeyRead.TheVariants as keys
 use Rattle.values.specs.declared.field.FieldRead.TheVariants as field
-use Rattle.values.proofs.Tests.{pass, fail, test, and_l, and_r, not_true, not_false}
+use Rattle.values.proofs.Tests.{pass, fail, test, and_l, not_true, not_false}
 use Rattle.values.proofs.Sames.{same_self}
 use Rattle.values.proofs.Lists.{here, rest}
 use Rattle.values.proofs.Fields.{bare_field}
@@ -29,17 +29,17 @@ use Rattle.rules.specs.Answer.{unless}
 use Rattle.rules.specs.Spelling.{is_odd, odd_value}
 use Rattle.records.specs.Numbers.{is_count}
 use Rattle.rules.specs.Version.{Version, v4_3, since}
-use Rattle.rules.specs.Known.{contig, other, is_in, row_named, name_of, tag_of, always_map, is_typed}
-use Rattle.rules.specs.Map.{done, after, is_meta, known_named}
+use Rattle.rules.specs.Known.{contig, other, is_in, row_named, tag_of, always_map, is_typed}
+use Rattle.rules.specs.Map.{after, is_meta}
 use Rattle.rules.specs.Record.{looks_map, is_map}
 use Rattle.rules.specs.Claims.{key_in}
 use Rattle.rules.proofs.Records.{starts_is}
 use Rattle.records.specs.Formats.{version_of}
 use Rattle.records.specs.Keys.{case_bytes, kind_by, key_named}
 use Rattle.records.specs.Tags.{tag_row, is_kept, after_id}
-use Rattle.records.specs.Maps.{raw_refusal, Checked, after_placed, closes_as_map, closes_at, after_at, no_slots, slots_of, filled_as, fields_of, put_slot, TakesField, ReadsField, WalksFields, tallied, Identified, bare_at, opens_at}
+use Rattle.records.specs.Maps.{raw_refusal, Checked, after_placed, closes_as_map, closes_at, after_at, no_slots, slots_of, filled_as, fields_of, put_slot, TakesField, WalksFields, tallied, Identified, bare_at, opens_at}
 use Rattle.records.specs.Records.{ParsesValue, KeyedIs, ParsesRecord}
-use Rattle.records.specs.Quick.{quick_key, quick_context, is_plainly, PlainIs, ReadsPlain, Follows, FitsContig, LastRead, IsLast, IsFollowed, id_from, MapQuick, ReadsQuickMap, KeyQuick, ReadsQuickKey, quick_record, RecordQuick, ReadsQuick}
+use Rattle.records.specs.Quick.{quick_key, quick_context, is_plainly, PlainIs, ReadsPlain, Follows, FitsContig, LastRead, IsLast, IsFollowed, id_from, MapQuick, ReadsQuickMap, KeyQuick, ReadsQuickKey, RecordQuick, ReadsQuick}
 use Rattle.records.specs.declared.file_format.FileFormat.{FileFormat}
 use Rattle.records.specs.declared.key.MapKey.{MapKey}
 use Rattle.records.specs.declared.key.MapKey.TheVariants as case
@@ -53,11 +53,7 @@ use Rattle.records.specs.declared.map.Slot.{Slot}
 use Rattle.records.specs.declared.map.Slot.TheVariants as slot
 use Rattle.records.specs.declared.map.Slots.{Slots}
 use Rattle.records.specs.declared.map.FieldTaken.TheVariants as taken
-use Rattle.records.specs.declared.map.FieldStep.TheVariants as step
-use Rattle.records.specs.declared.map.FieldsRead.TheVariants as fields
-use Rattle.records.specs.declared.map.MapRead.TheVariants as maps
 use Rattle.records.specs.declared.record.KeyParsed.TheVariants as key
-use Rattle.records.specs.declared.record.RecordRead.{RecordRead}
 use Rattle.records.specs.declared.record.RecordRead.TheVariants as read
 use Rattle.records.specs.declared.value.ValueParsed.TheVariants as value
 use Rattle.records.specs.declared.quick.PlainField.{PlainField}

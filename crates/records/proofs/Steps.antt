@@ -29,7 +29,6 @@ use Rattle.rules.specs.Spelling.{odd_value, is_odd_field, has_odd}
 use Rattle.rules.proofs.Names.{name_id, name_other}
 use Rattle.rules.proofs.Fields.{SeenAfter, was_more, was_done, was_wrong, see_after, SeenField, no_field, a_field, see_field}
 use Rattle.rules.proofs.Scans.{after_more, scan_none, scan_wrong, scan_done, scan_first}
-use Rattle.records.specs.Refusals.{number}
 use Rattle.records.specs.Keys.{kind_by, version_in, key_bytes}
 use Rattle.records.specs.Tags.{tag_row, tag_name, is_required, is_kept}
 use Rattle.records.specs.Maps.{raw_refusal, check_number, OddIs, Checked, filled_as, get, put_slot, slotted, FieldsFrom, keys_of, names_of, HasKey, Distinct, Held, all_kept, Walk, Repeats, scan_refusal, scanned_from, RefusedFrom, Taken, TakenIs, TakenMoves, TakesField, ReadsField, after_at}

@@ -7,7 +7,7 @@ use mathlib.Core.List.{List, [], ◌∷◌, ◌++◌, tail, append_assoc}
 use mathlib.Core.Option.{Option, none, some}
 use lib.ListN.{length, length-append}
 use borrow.Author.Tests.{eqb-true}
-use Rattle.values.specs.Bytes.{Bytes, ascii, is, empty, begins, any, before, from}
+use Rattle.values.specs.Bytes.{Bytes, is, empty, begins, any, before, from}
 use Rattle.values.specs.Value.{Value, bare, text_of, written, meaning_of, is_stop, in_quotes, quoted_text, is_bracketed, read_bare, read_values, read_unquoted, read_value, escape, value_of}
 use Rattle.values.specs.Field.{Field, written_field, is_forbidden, is_key, read_key, with_value, may_bracket, with_key, read_field}
 use Rattle.values.proofs.Tests.{pass, fail, test, or_l, or_r, and_l, and_r, and_off, not_true, both}

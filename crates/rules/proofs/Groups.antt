@@ -7,7 +7,6 @@ use mathlib.Core.List.{List, [], ◌∷◌, ◌++◌, map, append_assoc, append-
 use lib.ListN.{length, length-append, length-map}
 use Rattle.values.specs.Bytes.{Bytes, same}
 use Rattle.values.proofs.Tests.{pass, fail, test, or_l, or_r, or_on, both}
-use Rattle.rules.specs.Answer.{first}
 use Rattle.rules.specs.Version.{Version}
 use Rattle.rules.specs.Known.{is_in, is_typed, typed_keys}
 use Rattle.rules.specs.Record.{Record, fileformat, fields, text, key_of}

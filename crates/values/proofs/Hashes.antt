@@ -8,7 +8,7 @@ use lib.ListN.{length, drop}
 use Rattle.values.specs.Bytes.{Bytes}
 use Rattle.values.specs.Value.{meaning}
 use Rattle.values.specs.Places.{unescaped_at}
-use Rattle.values.specs.Hash.{offset_basis, hash_byte, hashed, hash_of, wide_basis, wide_step, wide_from}
+use Rattle.values.specs.Hash.{offset_basis, hash_byte, hashed, hash_of, wide_step, wide_from}
 use Rattle.values.specs.declared.cursor.Cursor.{Cursor}
 use Rattle.values.specs.declared.cursor.ByteRead.{ByteRead}
 use Rattle.values.specs.declared.cursor.ByteRead.TheVariants.{Byte, End}

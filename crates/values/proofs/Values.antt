@@ -10,7 +10,7 @@ use lib.ListN.{length, get_or, take, drop, length-append, length-take, length-dr
 use lib.Seq.{drop-drop}
 use borrow.Author.Tests.{eq-eqb, ne_eqb}
 use Rattle.values.specs.Bytes.{Bytes, is, any, begins, before, from}
-use Rattle.values.specs.Value.{quoted, written, prepend, is_escapable, quoted_text, in_quotes, read_quoted, is_stop, read_bare, is_bracketed, read_bracketed, read_values, read_unquoted, read_value}
+use Rattle.values.specs.Value.{written, prepend, is_escapable, quoted_text, in_quotes, read_quoted, is_stop, read_bare, is_bracketed, read_bracketed, read_values, read_unquoted, read_value}
 use Rattle.values.specs.Places.{cursor_at, byte_at, closing_at, value_placed, escaped_from, value_at}
 use Rattle.values.specs.declared.cursor.Cursor.{Cursor}
 use Rattle.values.specs.declared.cursor.ByteRead.{ByteRead}

@@ -4,7 +4,7 @@ use Rattle.values.specs.Bytes.{Bytes, ascii, begins, any, before, from, same}
 use Rattle.values.specs.Utf8.{is_utf8, is_ascii, completes, followers}
 use Rattle.values.specs.Fitting.{all_fit, byte_before, part_fits, is_cut}
 use Rattle.values.specs.Integer.{u32_read, u64_read, unsigned_read, without_sign, number_of, decimal, digits_of}
-use Rattle.values.specs.Value.{Value, written, quoted_text, read_values, read_value, unescaped, meaning, escape, write_value}
+use Rattle.values.specs.Value.{written, quoted_text, read_values, read_value, unescaped, meaning, escape, write_value}
 use Rattle.values.specs.Field.{read_key, read_field, written_field}
 use Rattle.values.specs.Hash.{offset_basis, hash_byte, hashed, hash_of}
 use Rattle.values.specs.Places.{cursor_at, unescaped_at, field_at}

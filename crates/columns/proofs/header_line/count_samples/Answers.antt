@@ -1,4 +1,3 @@
-use Prim.Native.Nat.{◌-◌}
 use Rattle.columns.proofs.Names.{counts}
 use Rattle.std.proofs.Common.{rules}
 use Rattle.columns.proofs.header_line.count_samples.Goals as goal

@@ -1,4 +1,3 @@
-use Prim.Native.Nat.{◌-◌}
 use Rattle.columns.proofs.Classes.{classings}
 use Rattle.std.proofs.Common.{rules}
 use Rattle.columns.proofs.header_line.doubt_classes.Goals as goal

@@ -1,4 +1,3 @@
-use Prim.Native.Nat.{◌-◌}
 use Rattle.columns.proofs.Names.{doubts}
 use Rattle.std.proofs.Common.{rules}
 use Rattle.columns.proofs.header_line.doubt_names.Goals as goal

@@ -1,6 +1,6 @@
 use Prim.Native.Nat.{◌-◌}
 use lib.ListN.{length}
-use Rattle.columns.proofs.Names.{Doubting, doubts}
+use Rattle.columns.proofs.Names.{Doubting}
 use Rattle.columns.proofs.header_line.doubt_names.Given as goal
 
 abbrev pub invariant-loop-classes : goal.invariant-loop-classes

@@ -1,4 +1,3 @@
-use Prim.Native.Nat.{◌-◌}
 use Rattle.columns.proofs.Names.{looks}
 use Rattle.std.proofs.Common.{rules}
 use Rattle.columns.proofs.header_line.is_among.Goals as goal

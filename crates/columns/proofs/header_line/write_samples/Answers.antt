@@ -1,5 +1,4 @@
 use Rattle.entries.proofs.Tables.{next_fits}
-use Prim.Native.Nat.{◌-◌}
 use Rattle.columns.proofs.Stores.{stores}
 use Rattle.std.proofs.Common.{rules}
 use Rattle.columns.proofs.header_line.write_samples.Goals as goal

@@ -1,5 +1,4 @@
 use Rattle.entries.proofs.Plains.{blockings}
-use Prim.Native.Nat.{◌-◌}
 use Rattle.std.proofs.Common.{rules}
 use Rattle.entries.proofs.formed.all_formed.Goals as goal
 

@@ -1,5 +1,4 @@
 use Rattle.entries.proofs.Plains.{formings}
-use Prim.Native.Nat.{◌-◌}
 use Rattle.std.proofs.Common.{rules}
 use Rattle.entries.proofs.formed.are_formed.Goals as goal
 

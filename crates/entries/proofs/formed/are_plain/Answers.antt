@@ -1,5 +1,4 @@
 use Rattle.entries.proofs.Plains.{plains}
-use Prim.Native.Nat.{◌-◌}
 use Rattle.std.proofs.Common.{rules}
 use Rattle.entries.proofs.formed.are_plain.Goals as goal
 

@@ -1,4 +1,3 @@
-use Prim.Native.Nat.{◌-◌}
 use Rattle.std.proofs.Common.{rules}
 use Rattle.entries.proofs.Noted.{clearings}
 use Rattle.entries.proofs.notes.clear.Goals as goal

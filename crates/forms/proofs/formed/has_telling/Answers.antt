@@ -1,4 +1,3 @@
-use Prim.Native.Nat.{◌-◌}
 use Rattle.std.proofs.Common.{rules}
 use Rattle.forms.proofs.Bares.{looks}
 use Rattle.forms.proofs.formed.has_telling.Goals as goal

@@ -1,5 +1,4 @@
 use Rattle.std.proofs.Common.{rules}
-use Prim.Native.Nat.{◌-◌}
 use Rattle.forms.proofs.Stands.{passings}
 use Rattle.forms.proofs.formed.pass_others.Goals as goal
 

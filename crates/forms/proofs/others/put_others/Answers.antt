@@ -1,4 +1,3 @@
-use Prim.Native.Nat.{◌-◌}
 use Rattle.forms.proofs.Copies.{copy_all, copies}
 use Rattle.std.proofs.Common.{rules}
 use Rattle.forms.proofs.others.put_others.Goals as goal

@@ -1,4 +1,3 @@
-use Prim.Native.Nat.{◌-◌}
 use Rattle.forms.proofs.Quotes.{stops}
 use Rattle.std.proofs.Common.{rules}
 use Rattle.forms.proofs.quoting.has_stop.Goals as goal

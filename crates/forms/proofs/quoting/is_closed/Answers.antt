@@ -1,4 +1,3 @@
-use Prim.Native.Nat.{◌-◌}
 use Rattle.forms.proofs.Quotes.{closings}
 use Rattle.std.proofs.Common.{rules}
 use Rattle.forms.proofs.quoting.is_closed.Goals as goal

@@ -1,4 +1,3 @@
-use Prim.Native.Nat.{◌-◌}
 use Rattle.ids.proofs.Seen.{ids}
 use Rattle.std.proofs.Common.{rules}
 use Rattle.ids.proofs.scan.id_seen.Goals as goal

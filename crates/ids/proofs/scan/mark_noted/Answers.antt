@@ -1,4 +1,3 @@
-use Prim.Native.Nat.{◌-◌}
 use Rattle.std.proofs.Common.{rules}
 use Rattle.ids.proofs.Markings.{noting_next, notings}
 use Rattle.ids.proofs.scan.mark_noted.Goals as goal

@@ -1,4 +1,3 @@
-use Prim.Native.Nat.{◌-◌}
 use Rattle.std.proofs.Common.{rules}
 use Rattle.ids.proofs.Markings.{nexts}
 use Rattle.ids.proofs.scan.next_near.Goals as goal

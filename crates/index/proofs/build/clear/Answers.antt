@@ -1,5 +1,4 @@
 use Rattle.std.proofs.Common.{rules}
-use Prim.Native.Nat.{◌-◌}
 use Rattle.index.proofs.Building.{clears}
 use Rattle.index.proofs.build.clear.Goals as goal
 

@@ -1,5 +1,4 @@
 use Rattle.std.proofs.Common.{rules}
-use Prim.Native.Nat.{◌-◌}
 use Rattle.index.proofs.Building.{places}
 use Rattle.index.proofs.build.place_all.Goals as goal
 

@@ -1,5 +1,4 @@
 use Rattle.std.proofs.Common.{rules}
-use Prim.Native.Nat.{◌-◌}
 use Rattle.index.proofs.Building.{puts}
 use Rattle.index.proofs.build.put.Goals as goal
 

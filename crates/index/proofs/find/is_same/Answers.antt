@@ -1,5 +1,4 @@
 use Rattle.std.proofs.Common.{rules}
-use Prim.Native.Nat.{◌-◌}
 use Rattle.index.proofs.Finding.{compares}
 use Rattle.index.proofs.find.is_same.Goals as goal
 

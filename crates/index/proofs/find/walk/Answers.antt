@@ -1,4 +1,3 @@
-use Prim.Native.Nat.{◌-◌}
 use Rattle.std.proofs.Common.{rules}
 use Rattle.index.proofs.Finding.{walks}
 use Rattle.index.proofs.find.walk.Goals as goal

@@ -1,6 +1,5 @@
 use Rattle.std.proofs.Common.{rules}
 use Rattle.lines.proofs.Ends.{seeks}
-use Prim.Native.Nat.{◌-◌}
 use Rattle.lines.proofs.line.last_end.Goals as goal
 
 pub returns-then-h-at : goal.returns-then-h-at

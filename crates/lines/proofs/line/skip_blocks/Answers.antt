@@ -1,5 +1,4 @@
 use Rattle.std.proofs.Common.{rules}
-use Prim.Native.Nat.{◌-◌}
 use Rattle.lines.proofs.Blocks.{skips}
 use Rattle.lines.proofs.line.skip_blocks.Goals as goal
 

@@ -1,6 +1,5 @@
 use Rattle.std.proofs.Common.{rules}
 use Rattle.records.proofs.Definitions.{looking}
-use Prim.Native.Nat.{◌-◌}
 use Rattle.records.proofs.definition.row_in.Goals as goal
 
 pub loop-at-init : goal.loop-at-init

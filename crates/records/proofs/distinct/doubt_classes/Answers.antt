@@ -1,4 +1,3 @@
-use Prim.Native.Nat.{◌-◌}
 use Rattle.records.proofs.Distincts.{classings}
 use Rattle.std.proofs.Common.{rules}
 use Rattle.records.proofs.distinct.doubt_classes.Goals as goal

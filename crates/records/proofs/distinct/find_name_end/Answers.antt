@@ -1,4 +1,3 @@
-use Prim.Native.Nat.{◌-◌}
 use Rattle.values.proofs.Scans.{turns}
 use Rattle.std.proofs.Common.{rules}
 use Rattle.records.proofs.distinct.find_name_end.Goals as goal

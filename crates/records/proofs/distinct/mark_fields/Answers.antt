@@ -1,4 +1,3 @@
-use Prim.Native.Nat.{◌-◌}
 use Rattle.std.proofs.Common.{rules}
 use Rattle.records.proofs.Distincts.{seekings}
 use Rattle.records.proofs.distinct.mark_fields.Goals as goal

@@ -1,5 +1,4 @@
 use Rattle.records.proofs.Fields.{seeks}
-use Prim.Native.Nat.{◌-◌}
 use Rattle.std.proofs.Common.{rules}
 use Rattle.records.proofs.field.find_field.Goals as goal
 

@@ -1,5 +1,4 @@
 use Rattle.std.proofs.Common.{rules}
-use Prim.Native.Nat.{◌-◌}
 use Rattle.records.proofs.Lists.{lists}
 use Rattle.records.proofs.list.is_listed.Goals as goal
 

@@ -1,5 +1,4 @@
 use Rattle.records.proofs.Loops.{walks, walk_id, walk_number, walk_type, walk_description, walk_length, walk_md5, walk_url, walk_idx, walk_other}
-use Prim.Native.Nat.{◌-◌}
 use Rattle.std.proofs.Common.{rules}
 use Rattle.records.proofs.map.walk_fields.Goals as goal
 

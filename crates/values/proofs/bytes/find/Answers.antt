@@ -1,5 +1,4 @@
 use Rattle.std.proofs.Common.{rules}
-use Prim.Native.Nat.{◌-◌}
 use Rattle.values.proofs.Scans.{finds}
 use Rattle.values.proofs.bytes.find.Goals as goal
 

@@ -1,5 +1,4 @@
 use Rattle.std.proofs.Common.{rules}
-use Prim.Native.Nat.{◌-◌}
 use Rattle.values.proofs.Seeks.{seeks_byte}
 use Rattle.values.proofs.bytes.has.Goals as goal
 

@@ -1,5 +1,4 @@
 use Rattle.std.proofs.Common.{rules}
-use Prim.Native.Nat.{◌-◌}
 use Rattle.values.proofs.Sames.{prefixes}
 use Rattle.values.proofs.bytes.starts_with.Goals as goal
 

@@ -1,5 +1,4 @@
 use Rattle.std.proofs.Common.{rules}
-use Prim.Native.Nat.{◌-◌}
 use Rattle.values.proofs.Scans.{hit, miss, ended, turns}
 use Rattle.values.proofs.field.find_key_end.Goals as goal
 

@@ -1,4 +1,3 @@
-use Prim.Native.Nat.{◌-◌}
 use Rattle.values.proofs.Hashes.{hashes}
 use Rattle.std.proofs.Common.{rules}
 use Rattle.values.proofs.hash.hash_of.Goals as goal

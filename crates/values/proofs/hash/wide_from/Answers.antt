@@ -1,4 +1,3 @@
-use Prim.Native.Nat.{◌-◌}
 use Rattle.values.proofs.Hashes.{wides}
 use Rattle.std.proofs.Common.{rules}
 use Rattle.values.proofs.hash.wide_from.Goals as goal

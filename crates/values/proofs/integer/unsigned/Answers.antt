@@ -1,5 +1,4 @@
 use Rattle.std.proofs.Common.{rules}
-use Prim.Native.Nat.{◌-◌}
 use Rattle.values.proofs.Integers.{turns}
 use Rattle.values.proofs.integer.unsigned.Goals as goal
 

@@ -1,5 +1,4 @@
 use Rattle.std.proofs.Common.{rules}
-use Prim.Native.Nat.{◌-◌}
 use Rattle.values.proofs.Outputs.{started, more, ended}
 use Rattle.values.proofs.sink.put_each.Goals as goal
 

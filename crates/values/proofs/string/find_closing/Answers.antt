@@ -1,5 +1,4 @@
 use Rattle.std.proofs.Common.{rules}
-use Prim.Native.Nat.{◌-◌}
 use Rattle.values.proofs.Values.{closes}
 use Rattle.values.proofs.string.find_closing.Goals as goal
 

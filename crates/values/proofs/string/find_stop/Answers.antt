@@ -1,6 +1,4 @@
 use Rattle.std.proofs.Common.{rules}
-use Prim.Native.Nat.{◌-◌}
-use Rattle.values.specs.Value.{is_stop}
 use Rattle.values.proofs.Scans.{hit, miss, ended, turns}
 use Rattle.values.proofs.string.find_stop.Goals as goal
 

@@ -1,5 +1,4 @@
 use Rattle.std.proofs.Common.{rules}
-use Prim.Native.Nat.{◌-◌}
 use Rattle.values.proofs.Seeks.{seeks}
 use Rattle.values.proofs.string.has_escapable.Goals as goal
 

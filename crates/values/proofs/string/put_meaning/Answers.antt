@@ -1,5 +1,4 @@
 use Rattle.std.proofs.Common.{rules}
-use Prim.Native.Nat.{◌-◌}
 use Rattle.values.proofs.Meanings.{write, writes}
 use Rattle.values.proofs.string.put_meaning.Goals as goal
 

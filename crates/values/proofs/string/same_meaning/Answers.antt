@@ -1,5 +1,4 @@
 use Rattle.std.proofs.Common.{rules}
-use Prim.Native.Nat.{◌-◌}
 use Rattle.values.proofs.Meanings.{compares}
 use Rattle.values.proofs.string.same_meaning.Goals as goal
 

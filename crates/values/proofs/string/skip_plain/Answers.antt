@@ -1,5 +1,4 @@
 use Rattle.std.proofs.Common.{rules}
-use Prim.Native.Nat.{◌-◌}
 use Rattle.values.proofs.Values.{plains}
 use Rattle.values.proofs.string.skip_plain.Goals as goal
 

@@ -1,5 +1,4 @@
 use Rattle.std.proofs.Common.{rules}
-use Prim.Native.Nat.{◌-◌}
 use Rattle.values.proofs.Blocks.{walks}
 use Rattle.values.proofs.utf8.all_fit.Goals as goal
 

@@ -1,5 +1,4 @@
 use Rattle.std.proofs.Common.{rules}
-use Prim.Native.Nat.{◌-◌}
 use Rattle.values.proofs.Ascii.{rises}
 use Rattle.values.proofs.utf8.is_ascii.Goals as goal
 

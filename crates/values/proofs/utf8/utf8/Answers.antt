@@ -1,5 +1,4 @@
 use Rattle.std.proofs.Common.{rules}
-use Prim.Native.Nat.{◌-◌}
 use Rattle.values.proofs.Blocks.{blocks}
 use Rattle.values.proofs.utf8.utf8.Goals as goal
 

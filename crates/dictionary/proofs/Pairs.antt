@@ -114,7 +114,7 @@ module _ {form : Form} {t : List ℕ} {n : ℕ} (g : Ending form t n) (l : 0 < n
       record {
         inside = omega (arith, i);
         ends = record {
-          is = λ d h. elim d [
+          is = λ d h. elim d as (λ k. lines_before k form h t (n - 1) ≡ table_lines k form h t) [
             | Strings ↦ sym (before_skip Strings form h t (n - 1) i ee ep fp) ∙ rw k (g.ends.is Strings h)
             | Contigs ↦ sym (before_skip Contigs form h t (n - 1) i ee eq fq) ∙ rw k (g.ends.is Contigs h)
           ];

@@ -125,8 +125,8 @@ module _ (d : Dictionary) (ls : List Line) (free : dictionary_clash d ls ≡ fal
       | inl i ↦ inl i
       | inr k ↦ inr (numbered_first p (m.id ∷ seen) ms k)
     ]
-  numbered_first p seen [] h = elim h [ ]
   ]
+  numbered_first p seen [] h = elim h [ ]
 
   source : (p : Numbered) → Member p (dictionary d ls) → Source p
   source p m = elim (member_append p (implied_numbers d) (numbered_lines d ls (first_lines (implied d) ls)) m) [
@@ -137,6 +137,9 @@ module _ (d : Dictionary) (ls : List Line) (free : dictionary_clash d ls ≡ fal
   implied_apart : (d : Dictionary) (p q : Numbered) → Member p (implied_numbers d) → Member q (implied_numbers d) → clashes p q ≡ false
   unfolding same
   implied_apart Strings p q (inl e) (inl f) = rw (e, f) (clash_self (ascii "PASS", 0))
+  implied_apart Contigs p q x3 _ = elim x3 [ ]
+  implied_apart Strings p q (inr x5) _ = elim x5 [ ]
+  implied_apart Strings p q (inl e) (inr x5) = elim x5 [ ]
 
   apart : (p q : Numbered) → Member p (dictionary d ls) → Member q (dictionary d ls) → clashes p q ≡ false
   apart p q m n = go (source p m) (source q n)

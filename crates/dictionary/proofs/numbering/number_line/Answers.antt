@@ -12,4 +12,4 @@ pub shape_of-out : goal.shape_of-out
 shape_of-out c = search (placings, rules)
 
 pub returns : goal.returns
-returns c = (search (placings, rules), search (placings, rules))
+returns c = record { turn = search (placings, rules); out = search (placings, rules) }

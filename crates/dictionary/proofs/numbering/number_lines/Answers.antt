@@ -25,7 +25,7 @@ pub overflow_add-lines : goal.overflow_add-lines
 overflow_add-lines c = search (progresses, rules)
 
 pub number_line-requires : goal.number_line-requires
-number_line-requires c = (search (progresses, rules), (search (progresses, rules), (search (progresses, rules), search (progresses, rules))))
+number_line-requires c = record { counts = search (progresses, rules); stands_at = search (progresses, rules); line_value = search (progresses, rules); tells = search (progresses, rules) }
 
 pub enum_known-c : goal.enum_known-c
 enum_known-c c = search (progresses, rules)

@@ -194,6 +194,7 @@ pub data Added : List Bytes → List Bytes → Type 0 where
 still_there : (v : Version) (ps qs : List Bytes) (rs xs : List Record) → Added ps qs → Reads v ps rs → Reads v qs xs → (i : ℕ) {r : Record} → nth rs i ≡ some r → (j : ℕ) × (nth xs j ≡ some r)
 still_there v [] [] [] xs as_was a b i e = none_not e
 still_there v [] [] (r ∷ rs) xs as_was a b i e = absurd a
+still_there v (p ∷ ps) [] rs xs x a b i e = elim x [ ]
 still_there v (p ∷ ps) (_ ∷ qs) [] xs (kept _ x) a b i e = absurd a
 still_there v (p ∷ ps) (_ ∷ qs) (r ∷ rs) [] (kept _ x) a b i e = absurd b
 still_there v (p ∷ ps) (_ ∷ qs) (r ∷ rs) (y ∷ xs) (kept _ x) a b zero e = (0, sym (ok_is (sym a.0 ∙ b.0)) ∙ e)

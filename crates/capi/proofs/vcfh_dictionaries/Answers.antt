@@ -2,4 +2,4 @@ use Rattle.capi.proofs.Dictionaries.{dictionary_answers, dictionary_stored, stri
 use Rattle.capi.proofs.vcfh_dictionaries.Goals as goal
 
 pub returns : goal.returns
-returns c = (search dictionary_answers, (search dictionary_stored, (search strings_written, search contigs_written)))
+returns c = record { answer = search dictionary_answers; table = search dictionary_stored; strings = search strings_written; contigs = search contigs_written }

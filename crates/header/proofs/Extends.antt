@@ -10,7 +10,7 @@ use lib.Dec.{leb, ltb}
 use lib.ListN.{length, take, drop, length-drop}
 use lib.Seq.{take-append-le, drop-append-le}
 use borrow.Author.Tests.{ltb-true, ltb-false, lt-ltb}
-use Rattle.values.specs.Bytes.{Bytes, is}
+use Rattle.values.specs.Bytes.{Bytes}
 use Rattle.values.specs.Value.{meaning}
 use Rattle.values.proofs.Tests.{pass, fail, test}
 use Rattle.rules.specs.Answer.{judged}

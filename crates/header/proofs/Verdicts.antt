@@ -8,7 +8,7 @@ use mathlib.Core.Option.{Option, none, some}
 use lib.ListN.{length, take, drop, length-take, length-drop}
 use lib.Seq.{take-append-add}
 use borrow.Author.Tests.{eq-eqb, le-leb, lt-leb}
-use Rattle.values.specs.Bytes.{Bytes, ascii, is, starts, part}
+use Rattle.values.specs.Bytes.{Bytes, ascii, starts, part}
 use Rattle.values.specs.Utf8.{is_utf8}
 use Rattle.values.specs.Field.{Field}
 use Rattle.values.specs.declared.string.Text.{Text}

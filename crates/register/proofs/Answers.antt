@@ -36,7 +36,7 @@ use Rattle.register.specs.Answers.{register_number, RegisterMeaning, register_an
 use Rattle.register.proofs.Listed.{Seen, there, gone, see, faulty_here, faulty_later}
 use Rattle.register.proofs.Walk.{from_entry}
 use Rattle.register.proofs.Bridge.{header_cells}
-use Rattle.rules.specs.Claims.{Sized, Accepted}
+use Rattle.rules.specs.Claims.{Sized}
 
 -- what answers the needs of `number`
 pub number_told : (o : RegisterOutcome) {x : Refusal} → o ≡ Unread x → {r : ℕ} → r ≡ number x → r ≡ register_number o

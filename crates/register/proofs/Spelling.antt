@@ -8,7 +8,7 @@ use mathlib.Core.Option.{none, some}
 use lib.Dec.{eqb, leb}
 use lib.ListN.{length}
 use borrow.Author.Tests.{eqb-true, leb-true, ne_eqb, le-leb, lt-leb, leb-false, eq-eqb}
-use Rattle.values.specs.Bytes.{Bytes, is}
+use Rattle.values.specs.Bytes.{Bytes}
 use Rattle.values.proofs.Tests.{Test, pass, fail, test, and_l, and_r, and_off}
 use Rattle.register.specs.Cells.{nth_byte, is_between, spells_well, well_in, well_of, spells_constant, hundredths_in, in_range, hundredths}
 use Rattle.values.specs.Integer.{is_digit}

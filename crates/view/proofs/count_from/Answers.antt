@@ -1,4 +1,3 @@
-use Prim.Native.Nat.{◌-◌}
 use Rattle.view.proofs.Walks.{counts}
 use Rattle.std.proofs.Common.{rules}
 use Rattle.view.proofs.count_from.Goals as goal

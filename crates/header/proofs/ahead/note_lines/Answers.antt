@@ -1,4 +1,3 @@
-use Prim.Native.Nat.{◌-◌}
 use Rattle.std.proofs.Common.{rules}
 use Rattle.header.proofs.Aheads.{notings}
 use Rattle.header.proofs.ahead.note_lines.Goals as goal

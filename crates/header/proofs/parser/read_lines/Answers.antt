@@ -1,5 +1,4 @@
 use Rattle.std.proofs.Common.{rules}
-use Prim.Native.Nat.{◌-◌}
 use Rattle.header.proofs.Parsers.{goings}
 use Rattle.header.proofs.parser.read_lines.Goals as goal
 

@@ -1,5 +1,4 @@
 use Rattle.std.proofs.Common.{rules}
-use Prim.Native.Nat.{◌-◌}
 use Rattle.header.proofs.Parts.{partings}
 use Rattle.header.proofs.parser.read_parts.Goals as goal
 

@@ -1,4 +1,3 @@
-use Prim.Native.Nat.{◌-◌}
 use Rattle.std.proofs.Common.{rules}
 use Rattle.register.proofs.Walk.{fills}
 use Rattle.register.proofs.cells.constants.Goals as goal

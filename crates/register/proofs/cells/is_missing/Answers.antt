@@ -1,4 +1,3 @@
-use Prim.Native.Nat.{◌-◌}
 use Rattle.std.proofs.Common.{rules}
 use Rattle.register.proofs.Walk.{missings}
 use Rattle.register.proofs.cells.is_missing.Goals as goal

@@ -1,4 +1,3 @@
-use Prim.Native.Nat.{◌-◌}
 use Rattle.std.proofs.Common.{rules}
 use Rattle.register.proofs.Differ.{compares}
 use Rattle.register.proofs.compare.compare.Goals as goal

@@ -1,6 +1,5 @@
 use Rattle.std.proofs.Common.{rules}
 use Rattle.spelling.proofs.Listing.{walking}
-use Prim.Native.Nat.{◌-◌}
 use Rattle.spelling.proofs.odd.walk.Goals as goal
 
 pub loop-n-init : goal.loop-n-init

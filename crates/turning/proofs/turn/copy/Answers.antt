@@ -1,5 +1,4 @@
 use Rattle.std.proofs.Common.{rules}
-use Prim.Native.Nat.{◌-◌}
 use Rattle.entries.proofs.Tables.{next_fits}
 use Rattle.turning.proofs.Turns.{copies, copy_next, met}
 use Rattle.turning.proofs.turn.copy.Goals as goal

@@ -1,5 +1,4 @@
 use Rattle.std.proofs.Common.{rules}
-use Prim.Native.Nat.{◌-◌}
 use Rattle.turning.proofs.Turns.{judges}
 use Rattle.turning.proofs.turn.judge.Goals as goal
 

@@ -23,6 +23,10 @@ mod words;
 ghost use Rattle.std.specs.Prelude.{◌≡◌, length};
 
 use entries::form::Form;
+use std::env::FillError;
+use std::fs::File;
+use std::os::fd::AsRawFd;
+use std::rt::Env;
 use text::nth;
 use values::bytes;
 
@@ -168,28 +172,50 @@ fn replay(name: &[u8], file: &[u8], input: &mut [u8], form: &mut [u8]) {
     say_counts(name, cases, wrong);
 }
 
-fn replay_file(number: usize, file: &mut [u8], input: &mut [u8], form: &mut [u8]) {
-    let mut name = io::buffer();
-    let end = os::arg(number, &mut name);
-    let fd = os::open_read(&name[..end]);
-    if fd < 0 {
-        say(&name[..end]);
-        say(b" is missing\n");
-        return;
-    }
-    let n = io::read_full(fd, file);
-    libc::close(fd);
-    replay(&name[..end], bytes::part(file, 0, n), input, form);
+// A file's name is UTF-8, as those of std are.
+fn open(rt: HostRuntime, name: &[u8]) -> Option<File> {
+    let Ok(path) = str::from_utf8(name) else {
+        return None;
+    };
+    let Ok(file) = File::open(&rt, path) else {
+        return None;
+    };
+    Some(file)
 }
 
-fn main() {
+// Answers whether there is an argument of this number.
+fn replay_file(
+    rt: HostRuntime,
+    number: usize,
+    file: &mut [u8],
+    input: &mut [u8],
+    form: &mut [u8],
+) -> bool {
+    let mut name = io::buffer();
+    let end = match rt.arg(number, &mut name) {
+        Ok(n) => n,
+        Err(FillError::TooLong) => 0,
+        Err(FillError::NotPresent) => return false,
+    };
+    let Some(opened) = open(rt, &name[..end]) else {
+        say(&name[..end]);
+        say(b" is missing\n");
+        return true;
+    };
+    let n = io::read_full(opened.as_raw_fd(), file);
+    replay(&name[..end], bytes::part(file, 0, n), input, form);
+    true
+}
+
+fn main(rt: HostRuntime) {
     let mut file = longest_buffer();
     let mut input = longest_buffer();
     let mut form = longest_buffer();
-    let count = os::arg_count();
     let mut i = 1;
-    while i < count {
-        replay_file(i, &mut file, &mut input, &mut form);
+    while i < 0x1_0000_0000 {
+        if !replay_file(rt, i, &mut file, &mut input, &mut form) {
+            return;
+        }
         i += 1;
     }
 }

@@ -2,7 +2,7 @@
 ghost use Rattle.std.specs.Prelude.{◌≡◌, length};
 
 use crate::form::FORM;
-use crate::{say, spelled};
+use crate::{arguments, say, spelled};
 use entries::{kind, table};
 use header::shown;
 use index::find::Found;
@@ -123,7 +123,7 @@ fn look_all_apart(turns: usize, header: &[u8], table: &[u64], asked: &[u8], plac
 }
 
 // With as many places as twice the table's entries, of which there are 1,000,000 at most.
-fn look(header: &[u8], table: &[u64], asked: &[u8]) {
+fn look(rt: HostRuntime, turns: usize, header: &[u8], table: &[u64], asked: &[u8]) {
     let entries = table::count(table, FORM);
     if 1000000 < entries {
         return;
@@ -133,16 +133,16 @@ fn look(header: &[u8], table: &[u64], asked: &[u8]) {
         look_few(header, table, asked, places);
     } else if places <= 131072 {
         look_many(header, table, asked, places);
-    } else if crate::may_be_large() {
-        look_all_apart(os::arg_count(), header, table, asked, places);
+    } else if crate::may_be_large(rt) {
+        look_all_apart(turns, header, table, asked, places);
     } else {
         say::tell(b"i");
     }
 }
 
 // Among these entries; the argument of this number says what is looked for.
-pub fn say_found(header: &[u8], table: &[u64], number: usize) {
+pub fn say_found(rt: HostRuntime, count: usize, header: &[u8], table: &[u64], number: usize) {
     let mut word = argument_buffer();
-    let end = os::arg(number, &mut word);
-    look(header, table, &word[..end]);
+    let end = arguments::arg(rt, number, &mut word);
+    look(rt, count, header, table, &word[..end]);
 }

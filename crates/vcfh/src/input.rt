@@ -1,5 +1,58 @@
 // What stands in an input: packed bytes, a VCF, or the text of a BCF.
+ghost use Rattle.std.specs.Prelude.{◌≤◌, length, IfOk};
+
+use std::fs::File;
+use std::io::{Read, Result, Stdin};
+use std::os::fd::AsRawFd;
 use values::{bytes, output};
+
+// Where the bytes of an input come from.
+#[derive(Drop)]
+pub enum Source {
+    Input(Stdin),
+    Named(File),
+}
+
+impl Source {
+    // Whether this is what stands at descriptor 0.
+    pub fn is_input(&self) -> bool {
+        match self {
+            Source::Input(_) => true,
+            Source::Named(file) => file.as_raw_fd() == 0,
+        }
+    }
+
+    // What is there now, no more than there is room for.
+    pub fn read_some(&self, buffer: &mut [u8]) -> Result<usize>
+        ensures { IfOk result (λ n. n ≤ length buffer.new) }
+    {
+        match self {
+            Source::Input(stdin) => {
+                let mut from = stdin;
+                from.read(buffer)
+            }
+            Source::Named(file) => {
+                let mut from = file;
+                from.read(buffer)
+            }
+        }
+    }
+
+    // Reads until the buffer is full or the input ends.
+    fn read_full(&self, buffer: &mut [u8]) -> Result<usize>
+        ensures { IfOk result (λ n. n ≤ length buffer.new) }
+    {
+        let mut done = 0;
+        while done < buffer.len() {
+            let n = self.read_some(&mut buffer[done..])?;
+            if n == 0 {
+                break;
+            }
+            done += n;
+        }
+        Ok(done)
+    }
+}
 
 // The first bytes of what gzip packed.
 fn is_packed(s: &[u8]) -> bool {
@@ -15,31 +68,32 @@ pub enum Start {
 }
 
 // Reads on from a place; answers where the input or the buffer ends.
-pub fn fill(fd: i32, buffer: &mut [u8], from: usize) -> usize {
+pub fn fill(source: &Source, buffer: &mut [u8], from: usize) -> Result<usize> {
     if buffer.len() <= from {
-        return from;
+        return Ok(from);
     }
-    from + io::read_full(fd, &mut buffer[from..])
+    let n = source.read_full(&mut buffer[from..])?;
+    Ok(from + n)
 }
 
 // Fills the buffer, but takes only the first two bytes of a packed input, so that bin/vcfh can hand all of it to gzip, and of a text
 // that is `streamed`.
-pub fn read_start(fd: i32, buffer: &mut [u8], streamed: bool) -> Start {
+pub fn read_start(source: &Source, buffer: &mut [u8], streamed: bool) -> Result<Start> {
     let mut two = [0u8; 2];
-    let k = io::read_full(fd, &mut two);
+    let k = source.read_full(&mut two)?;
     if is_packed(&two) {
-        return Start::Packed;
+        return Ok(Start::Packed);
     }
     let next = output::put_bytes(buffer, 0, bytes::part(&two, 0, k));
     if k < 2 {
-        return Start::Bytes(k);
+        return Ok(Start::Bytes(k));
     }
     if streamed {
         if two[0] != b'B' {
-            return Start::Begun(k);
+            return Ok(Start::Begun(k));
         }
     }
-    Start::Bytes(fill(fd, buffer, next))
+    Ok(Start::Bytes(fill(source, buffer, next)?))
 }
 
 // A number of 32 bits, from its lowest byte on.

@@ -4,6 +4,7 @@
 // What came of a case is told on descriptor 3, by which bin/vcfh goes; sentences and notes stand on standard error.
 #![tactic(auto)]
 
+mod arguments;
 mod asked;
 mod cells;
 mod contigs;
@@ -30,18 +31,21 @@ use feed::cable::{FeedAnswer, FeedState};
 use form::FORM;
 use header::file_format_option::FileFormatOption;
 use header::parser::{Outcome, ReadAnswer};
-use input::Start;
+use input::{Source, Start};
 use lookup::end;
 use records::file_format;
 use records::file_format::FileFormatRead;
+use std::fs::File;
 use stream::Streamed;
 use values::{bytes, output};
 
-// The number of the argument that is the command, the input's descriptor, and the version that is imposed.
+// The number of arguments, the number of the one that is the command, the input, and the version that is imposed.
 #[derive(Clone, Copy)]
-struct Task {
+struct Task<'a> {
+    rt: HostRuntime,
+    arguments: usize,
     command: usize,
-    fd: i32,
+    source: &'a Source,
     imposed: FileFormatOption,
 }
 
@@ -168,13 +172,20 @@ fn odd(header: &[u8], imposed: FileFormatOption, table: &mut [u64], list: &mut [
     }
 }
 
-// The argument of this number says what is looked for.
-fn find(number: usize, header: &[u8], imposed: FileFormatOption, table: &mut [u64]) {
+// The command says what is looked for.
+fn find(task: Task<'_>, header: &[u8], table: &mut [u64]) {
+    let imposed = task.imposed;
     let answer = header::parser::read(header, imposed, FORM, table);
     let outcome = answer.outcome;
     match outcome {
         Outcome::Accepted(version, _) => {
-            finding::say_found(header, table::kept(table, FORM, answer.entries), number);
+            finding::say_found(
+                task.rt,
+                task.arguments,
+                header,
+                table::kept(table, FORM, answer.entries),
+                task.command,
+            );
             notes::say_notes(header, table, answer.entries, version);
         }
         Outcome::Refused(refusal) => {
@@ -268,6 +279,7 @@ fn run(
 
 // `had` is what the cases before left: the constants that a comparison goes from, or a season's sheet.
 fn run_after(
+    arguments: usize,
     command: &[u8],
     header: &[u8],
     imposed: FileFormatOption,
@@ -285,7 +297,7 @@ fn run_after(
         page::count_header(header, imposed, table, had);
     } else if bytes::same(command, b"season-shown") {
         page::count_header(header, imposed, table, had);
-        page::say_progress(had);
+        page::say_progress(arguments, had);
     } else if bytes::same(command, b"season-merge") {
         page::merge_pages(header, had);
     } else {
@@ -295,7 +307,7 @@ fn run_after(
 
 // `full`: there may be more of the input than these bytes.
 fn run_command(
-    task: Task,
+    task: Task<'_>,
     text: &[u8],
     full: bool,
     table: &mut [u64],
@@ -306,7 +318,7 @@ fn run_command(
 ) {
     let imposed = task.imposed;
     let mut buffer = io::buffer();
-    let end = os::arg(task.command, &mut buffer);
+    let end = arguments::arg(task.rt, task.command, &mut buffer);
     let word = bytes::part(&buffer, 0, end);
     if bytes::same(word, b"contigs") {
         contigs::say_contigs(text, full, form);
@@ -315,21 +327,30 @@ fn run_command(
     let header = bytes::part(text, 0, end::header_end(text));
     // Where the ID is too long for the buffer, the argument's first bytes stand there.
     if bytes::starts_with(&buffer, b"find-") {
-        find(task.command, header, imposed, table);
+        find(task, header, table);
         return;
     }
-    run_after(word, header, imposed, table, form, strings, contigs, had);
+    run_after(
+        task.arguments,
+        word,
+        header,
+        imposed,
+        table,
+        form,
+        strings,
+        contigs,
+        had,
+    );
 }
 
 // A case whose header may go on after these first bytes, which are all that a long one has.
-fn large_case(task: Task, first: &[u8], had: &mut [u64; 40]) {
+fn large_case(task: Task<'_>, first: &[u8], had: &mut [u64; 40]) {
     let mut buffer = large_buffer();
     let next = output::put_bytes(&mut buffer, 0, first);
-    let end = input::fill(task.fd, &mut buffer, next);
-    if os::errno() != 0 {
+    let Ok(end) = input::fill(task.source, &mut buffer, next) else {
         say::tell(b"r");
         return;
-    }
+    };
     let mut table = large_table();
     let mut form = large_buffer();
     let mut strings = large_pairs();
@@ -350,7 +371,7 @@ fn large_case(task: Task, first: &[u8], had: &mut [u64; 40]) {
 
 // The same, as a function that calls itself: the compiler keeps such a one apart, where it would else make one function of all cases
 // and take the memory of a large case in every short one. `turns` is the number of arguments, so that the call inside does nothing.
-fn large_case_apart(turns: usize, task: Task, first: &[u8], had: &mut [u64; 40]) {
+fn large_case_apart(turns: usize, task: Task<'_>, first: &[u8], had: &mut [u64; 40]) {
     if turns == 0 {
         return;
     }
@@ -359,30 +380,29 @@ fn large_case_apart(turns: usize, task: Task, first: &[u8], had: &mut [u64; 40])
 }
 
 // Whether the stack has room for a large case, as the first argument says.
-fn may_be_large() -> bool {
+fn may_be_large(rt: HostRuntime) -> bool {
     let mut word = io::buffer();
-    let end = os::arg(1, &mut word);
+    let end = arguments::arg(rt, 1, &mut word);
     bytes::same(&word[..end], b"large")
 }
 
 // A case whose header goes on after what was read.
-fn larger_case(task: Task, first: &[u8], had: &mut [u64; 40]) {
-    if !may_be_large() {
+fn larger_case(task: Task<'_>, first: &[u8], had: &mut [u64; 40]) {
+    if !may_be_large(task.rt) {
         say::tell(b"m");
         return;
     }
-    large_case_apart(os::arg_count(), task, first, had);
+    large_case_apart(task.arguments, task, first, had);
 }
 
 // A case whose header may go on after these first bytes.
-fn long_case(task: Task, first: &[u8], had: &mut [u64; 40]) {
+fn long_case(task: Task<'_>, first: &[u8], had: &mut [u64; 40]) {
     let mut buffer = long_buffer();
     let next = output::put_bytes(&mut buffer, 0, first);
-    let end = input::fill(task.fd, &mut buffer, next);
-    if os::errno() != 0 {
+    let Ok(end) = input::fill(task.source, &mut buffer, next) else {
         say::tell(b"r");
         return;
-    }
+    };
     let text = input::text(bytes::part(&buffer, 0, end));
     let full = buffer.len() <= end;
     if full {
@@ -407,7 +427,7 @@ fn long_case(task: Task, first: &[u8], had: &mut [u64; 40]) {
     );
 }
 
-fn long_case_apart(turns: usize, task: Task, first: &[u8], had: &mut [u64; 40]) {
+fn long_case_apart(turns: usize, task: Task<'_>, first: &[u8], had: &mut [u64; 40]) {
     if turns == 0 {
         return;
     }
@@ -416,7 +436,7 @@ fn long_case_apart(turns: usize, task: Task, first: &[u8], had: &mut [u64; 40]) 
 }
 
 // A case whose header stands whole in these bytes.
-fn short_case(task: Task, text: &[u8], full: bool, had: &mut [u64; 40]) {
+fn short_case(task: Task<'_>, text: &[u8], full: bool, had: &mut [u64; 40]) {
     let mut table = short_table();
     let mut form = short_form();
     let mut strings = short_pairs();
@@ -453,122 +473,109 @@ fn say_streamed(answer: FeedAnswer, imposed: FileFormatOption, buffer: &[u8], ta
 }
 
 // A header of which these are the first bytes and entries, and that is read as it comes.
-fn large_stream(fd: i32, state: FeedState, first: &[u8], words: &[u64], imposed: FileFormatOption) {
+fn large_stream(task: Task<'_>, state: FeedState, first: &[u8], words: &[u64]) {
     let mut buffer = large_buffer();
     output::put_bytes(&mut buffer, 0, first);
     let mut table = large_table();
     stream::copy_words(words, &mut table);
     let mut piece = long_form();
-    match stream::read_on(fd, state, &mut piece, &mut buffer, &mut table) {
-        Streamed::Answered(answer) => say_streamed(answer, imposed, &buffer, &table),
+    match stream::read_on(task.source, state, &mut piece, &mut buffer, &mut table) {
+        Streamed::Answered(answer) => say_streamed(answer, task.imposed, &buffer, &table),
         Streamed::Full(_) => say::tell(b"r"),
         Streamed::Failed => say::tell(b"r"),
     }
 }
 
-fn large_stream_apart(
-    turns: usize,
-    fd: i32,
-    state: FeedState,
-    first: &[u8],
-    words: &[u64],
-    imposed: FileFormatOption,
-) {
+fn large_stream_apart(turns: usize, task: Task<'_>, state: FeedState, first: &[u8], words: &[u64]) {
     if turns == 0 {
         return;
     }
-    large_stream_apart(turns / 0x1_0000_0000, fd, state, first, words, imposed);
-    large_stream(fd, state, first, words, imposed);
+    large_stream_apart(turns / 0x1_0000_0000, task, state, first, words);
+    large_stream(task, state, first, words);
 }
 
-fn larger_stream(
-    fd: i32,
-    state: FeedState,
-    first: &[u8],
-    words: &[u64],
-    imposed: FileFormatOption,
-) {
-    if !may_be_large() {
+fn larger_stream(task: Task<'_>, state: FeedState, first: &[u8], words: &[u64]) {
+    if !may_be_large(task.rt) {
         say::tell(b"m");
         return;
     }
-    large_stream_apart(os::arg_count(), fd, state, first, words, imposed);
+    large_stream_apart(task.arguments, task, state, first, words);
 }
 
-fn long_stream(fd: i32, state: FeedState, first: &[u8], words: &[u64], imposed: FileFormatOption) {
+fn long_stream(task: Task<'_>, state: FeedState, first: &[u8], words: &[u64]) {
     let mut buffer = long_buffer();
     output::put_bytes(&mut buffer, 0, first);
     let mut table = long_table();
     stream::copy_words(words, &mut table);
     let mut piece = short_form();
-    match stream::read_on(fd, state, &mut piece, &mut buffer, &mut table) {
-        Streamed::Answered(answer) => say_streamed(answer, imposed, &buffer, &table),
-        Streamed::Full(next) => larger_stream(fd, next, &buffer, &table, imposed),
+    match stream::read_on(task.source, state, &mut piece, &mut buffer, &mut table) {
+        Streamed::Answered(answer) => say_streamed(answer, task.imposed, &buffer, &table),
+        Streamed::Full(next) => larger_stream(task, next, &buffer, &table),
         Streamed::Failed => say::tell(b"r"),
     }
 }
 
-fn long_stream_apart(
-    turns: usize,
-    fd: i32,
-    state: FeedState,
-    first: &[u8],
-    words: &[u64],
-    imposed: FileFormatOption,
-) {
+fn long_stream_apart(turns: usize, task: Task<'_>, state: FeedState, first: &[u8], words: &[u64]) {
     if turns == 0 {
         return;
     }
-    long_stream_apart(turns / 0x1_0000_0000, fd, state, first, words, imposed);
-    long_stream(fd, state, first, words, imposed);
+    long_stream_apart(turns / 0x1_0000_0000, task, state, first, words);
+    long_stream(task, state, first, words);
 }
 
 // A header of which these bytes were taken.
-fn short_stream(fd: i32, begun: &[u8], imposed: FileFormatOption) {
+fn short_stream(task: Task<'_>, begun: &[u8]) {
     let mut buffer = stream_buffer();
     let mut table = stream_table();
-    let first = cable::feed(cable::start(imposed), begun, FORM, &mut buffer, &mut table);
+    let first = cable::feed(
+        cable::start(task.imposed),
+        begun,
+        FORM,
+        &mut buffer,
+        &mut table,
+    );
     let mut piece = short_buffer();
-    match stream::read_on(fd, first.state, &mut piece, &mut buffer, &mut table) {
-        Streamed::Answered(answer) => say_streamed(answer, imposed, &buffer, &table),
-        Streamed::Full(next) => {
-            long_stream_apart(os::arg_count(), fd, next, &buffer, &table, imposed)
-        }
+    match stream::read_on(
+        task.source,
+        first.state,
+        &mut piece,
+        &mut buffer,
+        &mut table,
+    ) {
+        Streamed::Answered(answer) => say_streamed(answer, task.imposed, &buffer, &table),
+        Streamed::Full(next) => { long_stream_apart(task.arguments, task, next, &buffer, &table) }
         Streamed::Failed => say::tell(b"r"),
     }
 }
 
 // A case of which these are the first bytes, n of them.
-fn read_bytes(task: Task, first: &[u8], n: usize, had: &mut [u64; 40]) {
+fn read_bytes(task: Task<'_>, first: &[u8], n: usize, had: &mut [u64; 40]) {
     let text = input::text(bytes::part(first, 0, n));
     if n < 16384 {
         short_case(task, text, false, had);
     } else if end::header_end(text) < text.len() {
         short_case(task, text, true, had);
     } else {
-        long_case_apart(os::arg_count(), task, first, had);
+        long_case_apart(task.arguments, task, first, had);
     }
 }
 
-fn is_check(number: usize) -> bool {
+fn is_check(rt: HostRuntime, number: usize) -> bool {
     let mut word = io::buffer();
-    let end = os::arg(number, &mut word);
+    let end = arguments::arg(rt, number, &mut word);
     bytes::same(&word[..end], b"check")
 }
 
-// errno was 0 before the reading, so that another number tells of a read that failed. A text is `streamed` to be answered for as soon as a
-// line is refused.
-fn read_case(task: Task, streamed: bool, had: &mut [u64; 40]) {
-    let imposed = task.imposed;
+// A text is `streamed` to be answered for as soon as a line is refused.
+fn read_case(task: Task<'_>, streamed: bool, had: &mut [u64; 40]) {
     let mut first = short_buffer();
-    let start = input::read_start(task.fd, &mut first, streamed);
-    if os::errno() != 0 {
+    let Ok(start) = input::read_start(task.source, &mut first, streamed) else {
         say::tell(b"r");
         return;
-    }
+    };
     match start {
         Start::Packed => say::tell(b"z"),
-        Start::Begun(n) => short_stream(task.fd, bytes::part(&first, 0, n), imposed),
+        Start::Begun(n) => short_stream(task, bytes::part(&first, 0, n)),
         Start::Bytes(n) => read_bytes(task, &first, n, had),
     }
 }
@@ -580,9 +587,9 @@ enum Imposed {
 }
 
 // The argument of this number, which names a version to impose.
-fn imposed_of(number: usize) -> Imposed {
+fn imposed_of(rt: HostRuntime, number: usize) -> Imposed {
     let mut word = io::buffer();
-    let end = os::arg(number, &mut word);
+    let end = arguments::arg(rt, number, &mut word);
     if bytes::same(&word[..end], b"-") {
         return Imposed::Version(FileFormatOption::None);
     }
@@ -592,63 +599,85 @@ fn imposed_of(number: usize) -> Imposed {
     }
 }
 
-fn open(name: &[u8]) -> i32 {
+// `taken`: an earlier case took standard input, and no other can read it. A file's name is UTF-8, as those of std are.
+fn open(rt: HostRuntime, name: &[u8], taken: bool) -> Option<Source> {
     if bytes::same(name, b"-") {
-        return 0;
+        if taken {
+            return None;
+        }
+        return Some(Source::Input(rt.stdin()));
     }
-    os::open_read(name)
+    let Ok(path) = str::from_utf8(name) else {
+        return None;
+    };
+    let Ok(file) = File::open(&rt, path) else {
+        return None;
+    };
+    Some(Source::Named(file))
 }
 
 // One case: the arguments of these numbers.
-fn case(command: usize, version: usize, file: usize, had: &mut [u64; 40]) {
-    let Imposed::Version(imposed) = imposed_of(version) else {
+fn case(
+    rt: HostRuntime,
+    arguments: usize,
+    command: usize,
+    version: usize,
+    file: usize,
+    taken: &mut bool,
+    had: &mut [u64; 40],
+) {
+    let Imposed::Version(imposed) = imposed_of(rt, version) else {
         say::tell(b"v");
         return;
     };
-    let checks = is_check(command);
-    // This clears errno, which another argument that is longer than its buffer sets.
+    let checks = is_check(rt, command);
     let mut name = io::buffer();
-    let name_end = os::arg(file, &mut name);
-    let fd = open(&name[..name_end]);
-    if fd < 0 {
+    let name_end = arguments::arg(rt, file, &mut name);
+    let Some(source) = open(rt, &name[..name_end], *taken) else {
         say::tell(b"r");
         return;
+    };
+    if source.is_input() {
+        *taken = true;
     }
-    let streamed = if fd == 0 { checks } else { false };
+    let streamed = if *taken { checks } else { false };
     let task = Task {
+        rt,
+        arguments,
         command,
-        fd,
+        source: &source,
         imposed,
     };
     read_case(task, streamed, had);
-    libc::close(fd);
 }
 
 // The same command on all files that are named.
-fn season(count: usize, had: &mut [u64; 40]) {
+fn season(rt: HostRuntime, arguments: usize, had: &mut [u64; 40]) {
+    let mut taken = false;
     let mut file = 4;
-    while file < count {
-        case(2, 3, file, had);
+    while file < arguments {
+        case(rt, arguments, 2, 3, file, &mut taken, had);
         file += 1;
     }
     page::say_page(had);
 }
 
-fn main() {
+fn main(rt: HostRuntime) {
     let mut had = [0u64; 40];
-    let count = os::arg_count();
+    let count = arguments::count(rt);
     if count < 2 {
         return;
     }
-    if page::is_asked() {
-        season(count, &mut had);
+    if page::is_asked(rt) {
+        season(rt, count, &mut had);
         return;
     }
     let cases = (count - 2) / 3;
+    let mut taken = false;
     let mut k = 0;
     while k < cases {
         let i = 3 * k;
-        case(i + 2, i + 3, i + 4, &mut had);
+        case(rt, count, i + 2, i + 3, i + 4, &mut taken, &mut had);
         k += 1;
     }
 }

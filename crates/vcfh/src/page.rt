@@ -1,6 +1,6 @@
 // The sheet of a season, and its pages. What is `kept` from file to file is the sheet, in the first 39 words.
 use crate::form::FORM;
-use crate::say;
+use crate::{arguments, say};
 use header::file_format_option::FileFormatOption;
 use header::parser::Outcome;
 use season::add::AddOutcome;
@@ -60,9 +60,8 @@ pub fn count_header(
 }
 
 // How many of the files that are the last arguments were read, for a terminal.
-pub fn say_progress(kept: &[u64; 40]) {
+pub fn say_progress(count: usize, kept: &[u64; 40]) {
     let read = kept[place::READ];
-    let count = os::arg_count();
     if count < 4 {
         return;
     }
@@ -306,8 +305,8 @@ pub fn merge_pages(text: &[u8], kept: &mut [u64; 40]) {
 }
 
 // Whether the command is one of a season's, which goes over all files that are named after it.
-pub fn is_asked() -> bool {
+pub fn is_asked(rt: HostRuntime) -> bool {
     let mut word = io::buffer();
-    let end = os::arg(2, &mut word);
+    let end = arguments::arg(rt, 2, &mut word);
     bytes::starts_with(&word[..end], b"season")
 }

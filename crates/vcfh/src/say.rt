@@ -1,6 +1,8 @@
 // Writing for people.
 ghost use Rattle.std.specs.Prelude.{◌≤◌};
 
+use std::io::ErrorKind;
+use std_io::io::last_error;
 use values::bytes;
 
 // A word for bin/vcfh, which has no other way to learn what came of a case. `n`: refused; `d`: two headers differ; `r`: the input was
@@ -11,7 +13,8 @@ pub fn tell(word: &[u8]) {
 }
 
 fn tell_failed_write() {
-    if os::errno() == libc::EPIPE {
+    let error = last_error();
+    if error.kind() == ErrorKind::BrokenPipe {
         tell(b"p");
         return;
     }

@@ -1,10 +1,12 @@
 // A header that is read as it comes, so that a refused line is told before the rest of it is there.
 use crate::form::FORM;
+use crate::input::Source;
 use feed::cable;
 use feed::cable::{FeedAnswer, FeedOutcome, FeedState};
 use header::parser::{Outcome, ReadAnswer};
 use lookup::end;
 use records::refusal::Refusal;
+use std::io::Result;
 use values::{bytes, output};
 
 // What came of the bytes so far: the buffer is full, an answer, or a read failed.
@@ -80,18 +82,15 @@ fn most(state: FeedState, piece: &[u8], buffer: &[u8]) -> usize {
 }
 
 // What is there now of the input, no more than so many bytes.
-fn read_some(fd: i32, piece: &mut [u8], most: usize) -> usize {
+fn read_some(source: &Source, piece: &mut [u8], most: usize) -> Result<usize> {
     if piece.len() < most {
-        return 0;
+        return Ok(0);
     }
-    io::count(libc::read(fd, &mut piece[..most]), piece)
+    source.read_some(&mut piece[..most])
 }
 
-// Where nothing was read: at the input's end, unless the reading failed.
+// Where nothing was read: at the input's end.
 fn end_reading(state: FeedState, buffer: &[u8], table: &mut [u64]) -> Streamed {
-    if os::errno() != 0 {
-        return Streamed::Failed;
-    }
     Streamed::Answered(cable::close(state, FORM, buffer, table))
 }
 
@@ -107,7 +106,7 @@ fn feed_piece(state: FeedState, piece: &[u8], buffer: &mut [u8], table: &mut [u6
 
 // What is there of the input is read, once.
 fn read_next(
-    fd: i32,
+    source: &Source,
     state: FeedState,
     piece: &mut [u8],
     buffer: &mut [u8],
@@ -117,7 +116,9 @@ fn read_next(
     if size == 0 {
         return Step::Over(Streamed::Full(state));
     }
-    let n = read_some(fd, piece, size);
+    let Ok(n) = read_some(source, piece, size) else {
+        return Step::Over(Streamed::Failed);
+    };
     if n == 0 {
         return Step::Over(end_reading(state, buffer, table));
     }
@@ -126,7 +127,7 @@ fn read_next(
 
 // Reads on until an answer is there or the buffer is full.
 pub fn read_on(
-    fd: i32,
+    source: &Source,
     from: FeedState,
     piece: &mut [u8],
     buffer: &mut [u8],
@@ -136,7 +137,7 @@ pub fn read_on(
     let mut k: usize = 0;
     while k < 0x1_0000_0000 {
         k += 1;
-        match read_next(fd, state, piece, buffer, table) {
+        match read_next(source, state, piece, buffer, table) {
             Step::Next(next) => state = next,
             Step::Over(streamed) => return streamed,
         }

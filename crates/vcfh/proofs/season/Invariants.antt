@@ -5,4 +5,4 @@ abbrev pub invariant-loop-file : goal.invariant-loop-file
 invariant-loop-file l = Unit {0}
 
 abbrev pub decreases-loop-file : goal.decreases-loop-file
-decreases-loop-file l = l.count - l.file
+decreases-loop-file l = l.arguments - l.file

@@ -7,4 +7,4 @@ abbrev pub invariant-loop-i : goal.invariant-loop-i
 invariant-loop-i l = (1200000 ≡ length l.file) × (1200000 ≡ length l.input) × (1200000 ≡ length l.form)
 
 abbrev pub decreases-loop-i : goal.decreases-loop-i
-decreases-loop-i l = l.count - l.i
+decreases-loop-i l = 4294967296 - l.i

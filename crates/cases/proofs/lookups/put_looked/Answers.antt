@@ -1,6 +1,0 @@
-use lib.Seq.{length-take-le}
-use Rattle.std.proofs.Common.{rules}
-use Rattle.cases.proofs.lookups.put_looked.Goals as goal
-
-pub slice_bounds-put_read_names-end-2 : goal.slice_bounds-put_read_names-end-2
-slice_bounds-put_read_names-end-2 c = search (length-take-le, rules)

@@ -1,5 +1,5 @@
 // What a SAM header's contigs answer, and the lines that were written. Asked: the output's bytes.
-use crate::{forms, text, words};
+use crate::{house_forms, text, words};
 use sam::contigs;
 use sam::contigs::ContigsAnswer;
 
@@ -13,9 +13,9 @@ fn put_answer(out: &mut [u8], answer: ContigsAnswer) -> usize {
 }
 
 fn put_lines(out: &mut [u8], sam: &[u8], form: &mut [u8]) -> usize {
-    forms::blank(form);
+    house_forms::blank(form);
     let at = put_answer(out, contigs::contigs(sam, form));
-    forms::put_written(out, at, form)
+    house_forms::put_written(out, at, form)
 }
 
 pub fn put(out: &mut [u8], sam: &[u8], asked: &[u8], form: &mut [u8]) -> usize {

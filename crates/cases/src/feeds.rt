@@ -2,7 +2,7 @@
 // and in others, and all must come to the same. Asked `feed`: the version imposed, the table's words and the buffer's bytes, then what is
 // done: `+N` the next N bytes of the input are a piece, `c` a close, `held=N`, `at=N`, `line=N`, `count=N`, `phase=P`, `over` and `open`
 // forge the state, `wK=N` a word of the table, `bK=N` a byte of the buffer.
-use crate::{forms, reads, text, words};
+use crate::{house_forms, reads, text, words};
 use entries::form::Form;
 use feed::cable;
 use feed::cable::{Ended, FeedAnswer, FeedOutcome, FeedState};
@@ -462,7 +462,7 @@ fn put_left(out: &mut [u8], done: Doing, buffer: &[u8], table: &[u64]) -> usize 
     let told = put_state(out, done.at, state);
     let tabled = reads::put_table(out, told, table);
     let labelled = output::put_bytes(out, tabled, b" buffer=");
-    let end = forms::output_end(buffer);
+    let end = house_forms::output_end(buffer);
     output::put_bytes(out, labelled, bytes::part(buffer, 0, end))
 }
 
@@ -473,7 +473,7 @@ fn put_done(
     buffer: &mut [u8],
     table: &mut [u64],
 ) -> usize {
-    forms::blank(buffer);
+    house_forms::blank(buffer);
     fill(table);
     let done = do_all(out, input, asked, words::form(asked), buffer, table);
     put_left(out, done, buffer, table)

@@ -1,6 +1,6 @@
 // The same through the library for C, whose numbers are told apart by their order alone. Asked of a reading or a form: as of `reads` and
-// `forms`. Asked of a part: the version under which the field is read, the table's words, the entry and the field.
-use crate::{forms, lookups, reads, text, words};
+// `house_forms`. Asked of a part: the version under which the field is read, the table's words, the entry and the field.
+use crate::{house_forms, lookups, reads, text, words};
 use capi::{VcfhKey, VcfhPart};
 use entries::form::Form;
 use records::file_format;
@@ -85,7 +85,7 @@ fn put_answer(
     if table.len() < room {
         return 0;
     }
-    forms::blank(form);
+    house_forms::blank(form);
     let a = capi::vcfh_house(
         header,
         v.imposed,
@@ -116,7 +116,7 @@ fn put_form(out: &mut [u8], header: &[u8], asked: &[u8], form: &mut [u8]) -> usi
         form,
     );
     let changed = text::put_number(out, at, b" changed=", reads::written_end(&table) as u64);
-    forms::put_written(out, changed, form)
+    house_forms::put_written(out, changed, form)
 }
 
 fn put_sized_form(out: &mut [u8], header: &[u8], asked: &[u8], form: &mut [u8]) -> usize {

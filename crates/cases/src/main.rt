@@ -6,7 +6,7 @@ mod calls;
 mod contigs;
 mod dictionaries;
 mod feeds;
-mod forms;
+mod house_forms;
 mod indexes;
 mod library;
 mod lookups;
@@ -81,7 +81,7 @@ fn answer(asked: &[u8], input: &[u8], form: &mut [u8], out: &mut [u8]) -> usize 
         return reads::put(out, input, asked);
     }
     if words::is_asked(asked, b"form") {
-        return forms::put(out, input, asked, form);
+        return house_forms::put(out, input, asked, form);
     }
     if words::is_asked(asked, b"show") {
         return calls::put(out, input, asked);

@@ -1,7 +1,7 @@
 use Prim.Native.Nat.{◌-◌}
 use lib.ListN.{length}
 use mathlib.Core.Path.{◌≡◌}
-use Rattle.cases.proofs.forms.blank.Given as goal
+use Rattle.cases.proofs.house_forms.blank.Given as goal
 
 abbrev pub invariant-loop-i : goal.invariant-loop-i
 invariant-loop-i l = length l.form ≡ length l.initial.form

@@ -1,6 +1,6 @@
 use lib.ListN.{length}
 use Prim.Native.Nat.{◌≤◌}
-use Rattle.cases.proofs.forms.output_end.Given as goal
+use Rattle.cases.proofs.house_forms.output_end.Given as goal
 
 abbrev pub invariant-loop-end : goal.invariant-loop-end
 invariant-loop-end l = l.end ≤ length l.form

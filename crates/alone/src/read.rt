@@ -10,7 +10,7 @@ use entries::form::Form;
 use entries::{kind, part};
 use records::file_format::FileFormat;
 use records::record;
-use records::record::{MapRecord, RecordRead};
+use records::record::{MapRecord, Record};
 use values::utf8;
 
 // A map; a record without fields, with the length of its key; or refusal 29.
@@ -18,36 +18,34 @@ use values::utf8;
 pub enum Alone {
     Map(MapRecord),
     Plain(usize),
-    Refused,
 }
 
 // A record without fields, if it is of the kind that is asked for.
-fn plain(is_asked: bool, key_length: usize) -> Alone
+fn plain(is_asked: bool, key_length: usize) -> Option<Alone>
     ensures { result ≡ plain_if is_asked key_length }
 {
     if is_asked {
-        return Alone::Plain(key_length);
+        return Some(Alone::Plain(key_length));
     }
-    Alone::Refused
+    None
 }
 
-pub fn read_alone(l: &[u8], kind: u8, version: FileFormat) -> Alone
+pub fn read_alone(l: &[u8], kind: u8, version: FileFormat) -> Option<Alone>
     ensures { ReadsAlone (version_of version) kind l.now result }
 {
     if !utf8::utf8(l) {
-        return Alone::Refused;
+        return None;
     }
     match record::parse_record(l, version) {
-        RecordRead::FileFormat(_) => plain(kind == kind::FILE_FORMAT, 10),
-        RecordRead::Map(map) => {
-            let key = map.key;
-            if key.kind() != kind {
-                return Alone::Refused;
+        Ok(Record::FileFormat(_)) => plain(kind == kind::FILE_FORMAT, 10),
+        Ok(Record::Map(map)) => {
+            if map.key.kind() != kind {
+                return None;
             }
-            Alone::Map(map)
+            Some(Alone::Map(map))
         }
-        RecordRead::Text(value) => plain(kind == kind::OTHER_TEXT, record::key_length(value)),
-        RecordRead::Refused(_) => Alone::Refused,
+        Ok(Record::Text(value)) => plain(kind == kind::OTHER_TEXT, record::key_length(value)),
+        Err(_) => None,
     }
 }
 
@@ -55,25 +53,21 @@ pub fn read_alone(l: &[u8], kind: u8, version: FileFormat) -> Alone
 fn tells(e: Entry, form: Form, key_length: usize, fields: usize) -> bool
     ensures { result ≡ tells (entry_of e) (counts_in (limits_by form).counted key_length fields) }
 {
-    if form.counted(key_length) != e.key_length {
-        return false;
-    }
-    form.counted(fields) == e.field_count
+    form.counted(key_length) == e.key_length && form.counted(fields) == e.field_count
 }
 
-pub fn read_entry(h: &[u8], form: Form, e: Entry, version: FileFormat) -> Alone
+pub fn read_entry(h: &[u8], form: Form, e: Entry, version: FileFormat) -> Option<Alone>
     ensures { ReadsEntry (limits_by form).counted (version_of version) h.now (entry_of e) result }
 {
     let l = part::line_part(h, e);
     match read_alone(l, e.kind, version) {
-        Alone::Map(map) => {
-            let tally = map.tally;
-            if tells(e, form, record::key_length(map.value), tally.fields) {
-                return Alone::Map(map);
+        Some(Alone::Map(map)) => {
+            if tells(e, form, record::key_length(map.value), map.tally.fields) {
+                return Some(Alone::Map(map));
             }
-            Alone::Refused
+            None
         }
-        Alone::Plain(key_length) => plain(tells(e, form, key_length, 0), key_length),
-        Alone::Refused => Alone::Refused,
+        Some(Alone::Plain(key_length)) => plain(tells(e, form, key_length, 0), key_length),
+        None => None,
     }
 }

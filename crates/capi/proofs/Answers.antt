@@ -3,7 +3,7 @@ use Prim.Native.Nat.{ℕ, ◌-◌, ◌≤◌}
 use mathlib.Core.Path.{◌≡◌, refl, sym, ap, ap₂, ◌∙◌, subst, subst₂}
 use mathlib.Core.Bool.{Bool, true, false}
 use mathlib.Core.List.{List}
-use mathlib.Core.Option.{Option, none, some}
+use Rattle.std.specs.Prelude.{Option, None, Some, Result, Ok, Err}
 use lib.ListN.{length}
 use lib.Seq.{sets}
 use borrow.Author.Tests.{eq-eqb, ne_eqb}
@@ -20,15 +20,9 @@ use Rattle.records.specs.declared.refusal.Refusal.TheVariants as refusal
 use Rattle.records.specs.Formats.{version_of}
 use Rattle.records.specs.declared.file_format.FileFormat.{FileFormat}
 use Rattle.entries.specs.Shown.{answered, or_refused, shown_as, Inside, key_answered, key_or_refused, KeyInside}
-use Rattle.entries.specs.declared.shown.KeyShown.{KeyShown}
-use Rattle.entries.specs.declared.shown.KeyShown.TheVariants as key
-use Rattle.entries.specs.declared.shown.Shown.{Shown}
-use Rattle.entries.specs.declared.shown.Shown.TheVariants as shown
 use Rattle.entries.proofs.Calls.{answer_is, key_answered_injective}
 use Rattle.values.proofs.Tests.{never}
 use Rattle.header.specs.Parsers.{AnswerMeaning, outcome_number, outcome_says, read_into, ReadCall}
-use Rattle.header.specs.declared.parser.Outcome.{Outcome}
-use Rattle.header.specs.declared.parser.Outcome.TheVariants as outcome
 use Rattle.header.specs.declared.parser.ReadAnswer.{ReadAnswer}
 use Rattle.house.specs.Answers.{FormMeaning, HouseCall}
 use Rattle.house.specs.declared.form.HouseAnswer.{HouseAnswer}
@@ -55,16 +49,16 @@ use Rattle.capi.specs.declared.VcfhRegister.{VcfhRegister}
 
 -- Parts
 
-pub ordered : (n : ℕ) (s : Shown) → Inside n s → Ordered s
-ordered n (shown.Part start end) i = i.0
-ordered n shown.Refused i = tt
+pub ordered : (n : ℕ) (s : Option (ℕ × ℕ)) → Inside n s → Ordered s
+ordered n (Some (start, end)) i = i.0
+ordered n None i = tt
 
 as_shown : (o : Option Part) → part_as (shown_as o) ≡ part_of o
-as_shown none = refl
-as_shown (some p) = refl
+as_shown None = refl
+as_shown (Some p) = refl
 
 -- the form that the code names, and the one that was asked for
-module _ {f form : Form} (k : f ≡ form) (h t : List ℕ) (n : ℕ) (s : Shown) {r : VcfhPart} where
+module _ {f form : Form} (k : f ≡ form) (h t : List ℕ) (n : ℕ) (s : Option (ℕ × ℕ)) {r : VcfhPart} where
   shows : (o : Form → Option Part) → answered s ≡ or_refused (o f) → r ≡ part_as s → r ≡ part_of (o form)
   shows o a b = b ∙ ap part_as (answer_is s (o f) a) ∙ as_shown (o f) ∙ ap (λ (x : Form). part_of (o x)) k
 
@@ -78,44 +72,44 @@ module _ {f form : Form} (k : f ≡ form) (h t : List ℕ) (n : ℕ) (s : Shown)
     pub shows_field : answered s ≡ or_refused (shown_field f h t n (version_of v) i) → r ≡ part_as s → r ≡ part_of (shown_field form h t n (version major minor) i)
     shows_field a b = shows (λ (x : Form). shown_field x h t n (version_of v) i) a b ∙ ap (λ g. part_of (shown_field form h t n (version_of g) i)) e
 
-module _ (s : Shown) (start end : ℕ) (e : s ≡ shown.Part start end) where
+module _ (s : Option (ℕ × ℕ)) (start end : ℕ) (e : s ≡ Some (start, end)) where
   pub part_ordered : Ordered s → start ≤ end
   part_ordered o = subst Ordered e o
 
   pub part_numbers : record { number = 0; start = start; length = end - start } ≡ part_as s
   part_numbers = sym (ap part_as e)
 
-module _ (s : Shown) where
-  pub no_part : s ≡ shown.Refused → {n : ℕ} → n ≡ number refusal.InvalidEntry → record { number = n; start = 0; length = 0 } ≡ part_as s
+module _ (s : Option (ℕ × ℕ)) where
+  pub no_part : s ≡ None → {n : ℕ} → n ≡ number refusal.InvalidEntry → record { number = n; start = 0; length = 0 } ≡ part_as s
   no_part e q = rw (q, e)
 
 pub ruleset parts = (ordered, shows_entry, shows_id, shows_field, part_ordered, part_numbers, no_part)
 
 -- Keys
 
-pub key_ordered : (n : ℕ) (s : KeyShown) → KeyInside n s → KeyOrdered s
-key_ordered n (key.Key start end fields) i = i.0
-key_ordered n key.Refused i = tt
+pub key_ordered : (n : ℕ) (s : Option (ℕ × ℕ × ℕ)) → KeyInside n s → KeyOrdered s
+key_ordered n (Some (start, end, fields)) i = i.0
+key_ordered n None i = tt
 
-module _ {f form : Form} (k : f ≡ form) (h t : List ℕ) (n : ℕ) (s : KeyShown) {r : VcfhKey} where
+module _ {f form : Form} (k : f ≡ form) (h t : List ℕ) (n : ℕ) (s : Option (ℕ × ℕ × ℕ)) {r : VcfhKey} where
   pub shows_key : key_answered s ≡ key_or_refused (shown_key f h t n) → r ≡ key_shown_as s → r ≡ key_shown_in (shown_key form h t n)
   shows_key a b = b ∙ go s (shown_key f h t n) a ∙ ap (λ (x : Form). key_shown_in (shown_key x h t n)) k
     where
-      go : (s : KeyShown) (o : Option (Part × ℕ)) → key_answered s ≡ key_or_refused o → key_shown_as s ≡ key_shown_in o
-      go (key.Key start end fields) none e = never cc
-      go (key.Key start end fields) (some p) e = ap key_shown_as (key_answered_injective (key.Key start end fields) (key.Key p.0.0 p.0.1 p.1) e)
-      go key.Refused none e = refl
-      go key.Refused (some p) e = never cc
+      go : (s : Option (ℕ × ℕ × ℕ)) (o : Option (Part × ℕ)) → key_answered s ≡ key_or_refused o → key_shown_as s ≡ key_shown_in o
+      go (Some (start, end, fields)) None e = never cc
+      go (Some (start, end, fields)) (Some p) e = ap key_shown_as (key_answered_injective (Some (start, end, fields)) (Some (p.0.0, p.0.1, p.1)) e)
+      go None None e = refl
+      go None (Some p) e = never cc
 
-module _ (s : KeyShown) where
-  module _ (start end fields : ℕ) (e : s ≡ key.Key start end fields) where
+module _ (s : Option (ℕ × ℕ × ℕ)) where
+  module _ (start end fields : ℕ) (e : s ≡ Some (start, end, fields)) where
     pub key_fits : KeyOrdered s → start ≤ end
     key_fits o = subst KeyOrdered e o
 
     pub key_numbers : record { number = 0; start = start; length = end - start; fields = fields } ≡ key_shown_as s
     key_numbers = sym (ap key_shown_as e)
 
-  pub no_key : s ≡ key.Refused → {n : ℕ} → n ≡ number refusal.InvalidEntry → record { number = n; start = 0; length = 0; fields = 0 } ≡ key_shown_as s
+  pub no_key : s ≡ None → {n : ℕ} → n ≡ number refusal.InvalidEntry → record { number = n; start = 0; length = 0; fields = 0 } ≡ key_shown_as s
   no_key e q = rw (q, e)
 
 pub ruleset keys = (key_ordered, shows_key, key_fits, key_numbers, no_key)
@@ -164,16 +158,16 @@ module _ {f form : Form} (k : f ≡ form) {imposed wanted : Option Version} (e :
   pub written : o' ≡ sets o 0 (house (limits_by form) wanted (room form t) (length o) h).form
   written = asked_form.output
 
-module _ (o : Outcome) (x : Refusal) {n : ℕ} where
-  pub refused_number : o ≡ outcome.Refused x → n ≡ number x → n ≡ outcome_number o
+module _ (o : Result (FileFormat × ℕ) Refusal) (x : Refusal) {n : ℕ} where
+  pub refused_number : o ≡ Err x → n ≡ number x → n ≡ outcome_number o
   refused_number e a = a ∙ sym (ap outcome_number e)
 
-module _ (o : Outcome) where
-  pub told_accepted : {f : FileFormat} {n : ℕ} → o ≡ outcome.Accepted f n → record { samples = n; major = f.major; minor = f.minor } ≡ told_as (outcome_says o)
-  told_accepted e = sym (ap (λ (x : Outcome). told_as (outcome_says x)) e)
+module _ (o : Result (FileFormat × ℕ) Refusal) where
+  pub told_accepted : {f : FileFormat} {n : ℕ} → o ≡ Ok (f, n) → record { samples = n; major = f.major; minor = f.minor } ≡ told_as (outcome_says o)
+  told_accepted e = sym (ap (λ (x : Result (FileFormat × ℕ) Refusal). told_as (outcome_says x)) e)
 
-  pub told_refused : {x : Refusal} → o ≡ outcome.Refused x → record { samples = 0; major = 0; minor = 0 } ≡ told_as (outcome_says o)
-  told_refused e = sym (ap (λ (x : Outcome). told_as (outcome_says x)) e)
+  pub told_refused : {x : Refusal} → o ≡ Err x → record { samples = 0; major = 0; minor = 0 } ≡ told_as (outcome_says o)
+  told_refused e = sym (ap (λ (x : Result (FileFormat × ℕ) Refusal). told_as (outcome_says x)) e)
 
 pub ruleset tellings = (told_accepted, told_refused)
 
@@ -201,11 +195,11 @@ pub compared : (old new : List ℕ) {d : Differences} → d ≡ listed_in_arrays
 compared old new e = ap (λ (x : Differences). record { count = x.count; wells = x.wells; old = x.old; new = x.new }) e
 
 module _ (imposed major minor : ℕ) where
-  pub not_imposed : imposed ≡ 0 → none ≡ imposed_by imposed major minor
+  pub not_imposed : imposed ≡ 0 → None ≡ imposed_by imposed major minor
   not_imposed e = rw (imposed_by, eq-eqb imposed 0 e)
 
-  pub is_imposed : (imposed ≡ 0 → ⊥) → (f : FileFormat) → f ≡ record { major = major; minor = minor } → some (version_of f) ≡ imposed_by imposed major minor
-  is_imposed n f e = rw (imposed_by, ne_eqb imposed 0 n) (ap (λ g. some (version_of g)) e)
+  pub is_imposed : (imposed ≡ 0 → ⊥) → (f : FileFormat) → f ≡ record { major = major; minor = minor } → Some (version_of f) ≡ imposed_by imposed major minor
+  is_imposed n f e = rw (imposed_by, ne_eqb imposed 0 n) (ap (λ g. Some (version_of g)) e)
 
 pub ruleset imposing = (not_imposed, is_imposed)
 

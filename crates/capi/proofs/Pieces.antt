@@ -3,7 +3,7 @@ use Prim.Native.Nat.{ℕ}
 use mathlib.Core.Path.{◌≡◌, refl, sym, ap, ap₂, subst, subst₂, ◌∙◌}
 use mathlib.Core.Bool.{Bool, true, false, not}
 use mathlib.Core.List.{List}
-use mathlib.Core.Option.{Option, some}
+use Rattle.std.specs.Prelude.{Option, Some, None}
 use borrow.Author.Tests.{eq-eqb, ne_eqb}
 use Rattle.values.proofs.Tests.{not_true, not_false}
 use Rattle.rules.specs.Version.{Version}
@@ -13,21 +13,15 @@ use Rattle.entries.specs.declared.form.Form.{Form}
 use Rattle.header.specs.Steps.{body, ending}
 use Rattle.header.specs.Verdicts.{imposed_of, stage_of}
 use Rattle.header.specs.Parsers.{outcome_number}
-use Rattle.header.specs.declared.file_format_option.FileFormatOption.{FileFormatOption}
-use Rattle.header.specs.declared.file_format_option.FileFormatOption.TheVariants as option
 use Rattle.header.specs.declared.phase.Phase.{Phase}
 use Rattle.header.specs.declared.phase.Phase.TheVariants as phases
 use Rattle.header.specs.declared.parser.ReadAnswer.{ReadAnswer}
 use Rattle.feed.specs.Feeding.{Feeding, Fed, start_of, is_sound, feed_of, close_of}
 use Rattle.feed.specs.Calls.{feed_number, ended_means, state_means, feed_means, Leaves, Closes}
-use Rattle.feed.specs.declared.cable.Ended.{Ended}
-use Rattle.feed.specs.declared.cable.Ended.TheVariants as ended
 use Rattle.feed.specs.declared.cable.FeedState.{FeedState}
 use Rattle.feed.specs.declared.cable.FeedAnswer.{FeedAnswer}
 use Rattle.capi.specs.Answers.{imposed_by}
 use Rattle.capi.specs.Feeds.{stage_by, phase_meant, open_by, imposed_in, phase_in, end_in, feed_as, fed_as, broken_in, over_in, FedInC, fed_by, in_phase, stage_in, feed_in_c, close_in_c, LeavesInC, ClosesInC}
-use Rattle.capi.specs.declared.feeds.PhaseRead.{PhaseRead}
-use Rattle.capi.specs.declared.feeds.PhaseRead.TheVariants as phase
 use Rattle.capi.specs.declared.feeds.ImposedParts.{ImposedParts}
 use Rattle.capi.specs.declared.feeds.PhaseParts.{PhaseParts}
 use Rattle.capi.specs.declared.feeds.EndParts.{EndParts}
@@ -36,10 +30,10 @@ use Rattle.capi.specs.declared.feeds.VcfhFed.{VcfhFed}
 
 -- Parts of a state
 
-pub none_imposed : (i : FileFormatOption) → i ≡ option.None → record { imposed = 0; major = 0; minor = 0 } ≡ imposed_in (imposed_of i)
+pub none_imposed : (i : Option FileFormat) → i ≡ None → record { imposed = 0; major = 0; minor = 0 } ≡ imposed_in (imposed_of i)
 none_imposed i e = rw e
 
-pub some_imposed : (i : FileFormatOption) {f : FileFormat} → i ≡ option.Some f → record { imposed = 1; major = f.major; minor = f.minor } ≡ imposed_in (imposed_of i)
+pub some_imposed : (i : Option FileFormat) {f : FileFormat} → i ≡ Some f → record { imposed = 1; major = f.major; minor = f.minor } ≡ imposed_in (imposed_of i)
 some_imposed i e = rw e
 
 module _ (p : Phase) where
@@ -52,11 +46,11 @@ module _ (p : Phase) where
   pub phase_done : {f : FileFormat} {n : ℕ} → p ≡ phases.Done f n → record { phase = 2; major = f.major; minor = f.minor; samples = n } ≡ phase_in (stage_of p)
   phase_done e = rw e
 
-module _ (x : Ended) where
-  pub end_none : x ≡ ended.No → record { over = 0; number = 0; line = 0; start = 0; entries = 0 } ≡ end_in (ended_means x)
+module _ (x : Option ReadAnswer) where
+  pub end_none : x ≡ None → record { over = 0; number = 0; line = 0; start = 0; entries = 0 } ≡ end_in (ended_means x)
   end_none e = rw e
 
-  pub end_some : {a : ReadAnswer} → x ≡ ended.Yes a → {n : ℕ} → n ≡ outcome_number a.outcome → record { over = 1; number = n; line = a.line; start = a.start; entries = a.entries } ≡ end_in (ended_means x)
+  pub end_some : {a : ReadAnswer} → x ≡ Some a → {n : ℕ} → n ≡ outcome_number a.outcome → record { over = 1; number = n; line = a.line; start = a.start; entries = a.entries } ≡ end_in (ended_means x)
   end_some e f = rw (e, f)
 
 pub ruleset parts = (none_imposed, some_imposed, phase_empty, phase_ready, phase_done, end_none, end_some)
@@ -64,22 +58,22 @@ pub ruleset parts = (none_imposed, some_imposed, phase_empty, phase_ready, phase
 -- From C
 
 module _ (n major minor samples : ℕ) {f : FileFormat} (ef : f ≡ record { major = major; minor = minor }) where
-  pub by_empty : n ≡ 0 → phase_meant (phase.Is phases.Empty) ≡ stage_by n major minor samples
+  pub by_empty : n ≡ 0 → phase_meant (Some phases.Empty) ≡ stage_by n major minor samples
   by_empty e = rw (stage_by, eq-eqb n 0 e)
 
   module _ (a : n ≡ 0 → ⊥) where
-    pub by_ready : n ≡ 1 → phase_meant (phase.Is (phases.Ready f)) ≡ stage_by n major minor samples
-    by_ready e = rw (stage_by, ne_eqb n 0 a, eq-eqb n 1 e) (ap (λ (v : FileFormat). some (body (version_of v))) ef)
+    pub by_ready : n ≡ 1 → phase_meant (Some (phases.Ready f)) ≡ stage_by n major minor samples
+    by_ready e = rw (stage_by, ne_eqb n 0 a, eq-eqb n 1 e) (ap (λ (v : FileFormat). Some (body (version_of v))) ef)
 
     module _ (b : n ≡ 1 → ⊥) where
-      pub by_done : n ≡ 2 → phase_meant (phase.Is (phases.Done f samples)) ≡ stage_by n major minor samples
-      by_done e = rw (stage_by, ne_eqb n 0 a, ne_eqb n 1 b, eq-eqb n 2 e) (ap (λ (v : FileFormat). some (ending (version_of v) samples)) ef)
+      pub by_done : n ≡ 2 → phase_meant (Some (phases.Done f samples)) ≡ stage_by n major minor samples
+      by_done e = rw (stage_by, ne_eqb n 0 a, ne_eqb n 1 b, eq-eqb n 2 e) (ap (λ (v : FileFormat). Some (ending (version_of v) samples)) ef)
 
-      pub by_none : (n ≡ 2 → ⊥) → phase_meant phase.Unknown ≡ stage_by n major minor samples
+      pub by_none : (n ≡ 2 → ⊥) → phase_meant None ≡ stage_by n major minor samples
       by_none e = rw (stage_by, ne_eqb n 0 a, ne_eqb n 1 b, ne_eqb n 2 e)
 
-pub opens : (c : VcfhFeed) (p : Phase) (i : FileFormatOption) → imposed_of i ≡ imposed_by c.imposed c.imposed_major c.imposed_minor
-    → state_means (record { imposed = i; parser = record { phase = p; line = c.lines; at = c.at; count = c.kept }; held = c.held; ended = ended.No }) ≡ open_by c (stage_of p)
+pub opens : (c : VcfhFeed) (p : Phase) (i : Option FileFormat) → imposed_of i ≡ imposed_by c.imposed c.imposed_major c.imposed_minor
+    → state_means (record { imposed = i; parser = record { phase = p; line = c.lines; at = c.at; count = c.kept }; held = c.held; ended = None }) ≡ open_by c (stage_of p)
 opens c p i e = rw e
 
 pub ruleset froms = (by_empty, by_ready, by_done, by_none, opens)
@@ -137,18 +131,18 @@ closes_by e {r} {t'} l = subst (λ (z : FedInC). ClosesInC z r t') e l
 over_by : (c : VcfhFeed) (b t : List ℕ) {f form : Form} → f ≡ form → {s s' : Feeding} → s ≡ s' → over_in c f s b t ≡ over_in c form s' b t
 over_by c b t k is = ap₂ (λ (g : Form) (y : Feeding). over_in c g y b t) k is
 
-module _ (c : VcfhFeed) (form : Form) (b t : List ℕ) (call : Feeding → Fed) {q : PhaseRead} (e : phase_meant q ≡ stage_in c) where
-  no_phase : q ≡ phase.Unknown → record { answer = broken_in c; buffer = b; table = t } ≡ in_phase c form b t call (stage_in c)
+module _ (c : VcfhFeed) (form : Form) (b t : List ℕ) (call : Feeding → Fed) {q : Option Phase} (e : phase_meant q ≡ stage_in c) where
+  no_phase : q ≡ None → record { answer = broken_in c; buffer = b; table = t } ≡ in_phase c form b t call (stage_in c)
   no_phase u = ap (in_phase c form b t call) (sym (ap phase_meant u) ∙ e)
 
-  module _ {p : Phase} (u : q ≡ phase.Is p) where
-    in_phase_lem : in_phase c form b t call (some (stage_of p)) ≡ in_phase c form b t call (stage_in c)
+  module _ {p : Phase} (u : q ≡ Some p) where
+    in_phase_lem : in_phase c form b t call (Some (stage_of p)) ≡ in_phase c form b t call (stage_in c)
     in_phase_lem = ap (in_phase c form b t call) (sym (ap phase_meant u) ∙ e)
 
-    over_is : (c.over ≡ 0 → ⊥) → record { answer = over_in c form (open_by c (stage_of p)) b t; buffer = b; table = t } ≡ in_phase c form b t call (some (stage_of p))
+    over_is : (c.over ≡ 0 → ⊥) → record { answer = over_in c form (open_by c (stage_of p)) b t; buffer = b; table = t } ≡ in_phase c form b t call (Some (stage_of p))
     over_is n = rw (in_phase, ne_eqb c.over 0 n)
 
-    open_is : c.over ≡ 0 → fed_by (call (open_by c (stage_of p))) ≡ in_phase c form b t call (some (stage_of p))
+    open_is : c.over ≡ 0 → fed_by (call (open_by c (stage_of p))) ≡ in_phase c form b t call (Some (stage_of p))
     open_is z = rw (in_phase, eq-eqb c.over 0 z)
 
     when_over : (c.over ≡ 0 → ⊥) → record { answer = over_in c form (open_by c (stage_of p)) b t; buffer = b; table = t } ≡ in_phase c form b t call (stage_in c)
@@ -157,11 +151,11 @@ module _ (c : VcfhFeed) (form : Form) (b t : List ℕ) (call : Feeding → Fed) 
     when_open : c.over ≡ 0 → fed_by (call (open_by c (stage_of p))) ≡ in_phase c form b t call (stage_in c)
     when_open z = open_is z ∙ in_phase_lem
 
-module _ (c : VcfhFeed) {f form : Form} (k : f ≡ form) (x b t : List ℕ) {q : PhaseRead} (e : phase_meant q ≡ stage_in c) where
-  pub feed_unknown : q ≡ phase.Unknown → {r : VcfhFed} → r ≡ broken_in c → LeavesInC (feed_in_c c form x b t) r b t
+module _ (c : VcfhFeed) {f form : Form} (k : f ≡ form) (x b t : List ℕ) {q : Option Phase} (e : phase_meant q ≡ stage_in c) where
+  pub feed_unknown : q ≡ None → {r : VcfhFed} → r ≡ broken_in c → LeavesInC (feed_in_c c form x b t) r b t
   feed_unknown u a = leaves_by (no_phase c form b t (λ s. feed_of form s x b t) e u) (record { answer = a; buffer = refl; table = refl })
 
-  module _ {p : Phase} (u : q ≡ phase.Is p) (s : FeedState) (is : state_means s ≡ open_by c (stage_of p)) where
+  module _ {p : Phase} (u : q ≡ Some p) (s : FeedState) (is : state_means s ≡ open_by c (stage_of p)) where
     pub feed_over : (c.over ≡ 0 → ⊥) → {r : VcfhFed} → r ≡ over_in c f (state_means s) b t → LeavesInC (feed_in_c c form x b t) r b t
     feed_over n a = leaves_by (when_over c form b t (λ y. feed_of form y x b t) e u n) (record { answer = a ∙ over_by c b t k is; buffer = refl; table = refl })
 
@@ -171,11 +165,11 @@ module _ (c : VcfhFeed) {f form : Form} (k : f ≡ form) (x b t : List ℕ) {q :
         let w = subst₂ (λ (g : Form) (y : Feeding). Leaves (feed_of g y x b t) a b' t') k is l in
         leaves_by (when_open c form b t (λ y. feed_of form y x b t) e u z) (record { answer = m ∙ ap fed_as w.answer; buffer = w.buffer; table = w.table })
 
-module _ (c : VcfhFeed) {f form : Form} (k : f ≡ form) (b t : List ℕ) {q : PhaseRead} (e : phase_meant q ≡ stage_in c) where
-  pub close_unknown : q ≡ phase.Unknown → {r : VcfhFed} → r ≡ broken_in c → ClosesInC (close_in_c c form b t) r t
+module _ (c : VcfhFeed) {f form : Form} (k : f ≡ form) (b t : List ℕ) {q : Option Phase} (e : phase_meant q ≡ stage_in c) where
+  pub close_unknown : q ≡ None → {r : VcfhFed} → r ≡ broken_in c → ClosesInC (close_in_c c form b t) r t
   close_unknown u a = closes_by (no_phase c form b t (λ s. close_of form s b t) e u) (record { answer = a; table = refl })
 
-  module _ {p : Phase} (u : q ≡ phase.Is p) (s : FeedState) (is : state_means s ≡ open_by c (stage_of p)) where
+  module _ {p : Phase} (u : q ≡ Some p) (s : FeedState) (is : state_means s ≡ open_by c (stage_of p)) where
     pub close_over : (c.over ≡ 0 → ⊥) → {r : VcfhFed} → r ≡ over_in c f (state_means s) b t → ClosesInC (close_in_c c form b t) r t
     close_over n a = closes_by (when_over c form b t (λ y. close_of form y b t) e u n) (record { answer = a ∙ over_by c b t k is; table = refl })
 

@@ -1,4 +1,5 @@
 -- The index's answers in C. Assumes nothing.
+use Rattle.std.specs.Prelude.{Some, None}
 use Prim.Native.Nat.{ℕ}
 use mathlib.Core.Path.{◌≡◌, ap, ◌∙◌}
 use mathlib.Core.List.{List}
@@ -7,17 +8,16 @@ use Rattle.values.specs.Bytes.{Bytes}
 use Rattle.entries.specs.declared.form.Form.{Form}
 use Rattle.index.specs.Index.{indexed_in, build_number, build_answer, built_index, find_in}
 use Rattle.index.specs.declared.build.BuildAnswer.{BuildAnswer}
-use Rattle.index.specs.declared.find.Found.TheVariants as found
 use Rattle.index.specs.declared.find.Search.{Search}
 use Rattle.capi.specs.Searches.{indexed_as, found_by, found_as}
 use Rattle.capi.specs.declared.indexes.VcfhIndexed.{VcfhIndexed}
 use Rattle.capi.specs.declared.indexes.VcfhFound.{VcfhFound}
 
 module _ (s : Search) where
-  pub found_entry : {n : ℕ} → s.found ≡ found.Entry n → found_by (found.Entry n) s.looked ≡ found_as s
+  pub found_entry : {n : ℕ} → s.found ≡ Some n → found_by (Some n) s.looked ≡ found_as s
   found_entry e = rw e
 
-  pub found_none : s.found ≡ found.Nothing → found_by found.Nothing s.looked ≡ found_as s
+  pub found_none : s.found ≡ None → found_by None s.looked ≡ found_as s
   found_none e = rw e
 
 pub ruleset founds = (found_entry, found_none)

@@ -1,6 +1,5 @@
 -- The rules' answers as structs of numbers. Assumes nothing.
-use Rattle.std.specs.Prelude.{ℕ, ◌-◌, ◌/◌, ◌≤◌, Bool, true, false, List, eqb, length, map}
-use Rattle.std.proofs.Math.Option.{Option, none, some}
+use Rattle.std.specs.Prelude.{ℕ, ◌-◌, ◌/◌, ◌≤◌, Bool, true, false, List, eqb, length, map, Option, None, Some}
 use Rattle.values.specs.Bytes.{Bytes}
 use Rattle.rules.specs.Version.{Version, version}
 use Rattle.rules.specs.Reading.{Reading}
@@ -10,8 +9,6 @@ use Rattle.entries.specs.declared.form.Form.{Form}
 use Rattle.entries.specs.declared.form.Form.TheVariants.{First, Second}
 use Rattle.entries.specs.Values.{limits_by}
 use Rattle.entries.specs.Tables.{room}
-use Rattle.entries.specs.declared.shown.Shown.{Shown}
-use Rattle.entries.specs.declared.shown.Shown.TheVariants as shown
 use Rattle.register.specs.Register.{RegisterReading}
 use Rattle.register.specs.Compare.{Difference}
 use Rattle.register.specs.Wells.{filled}
@@ -21,8 +18,6 @@ use Rattle.capi.specs.declared.VcfhAnswer.{VcfhAnswer}
 use Rattle.capi.specs.declared.VcfhForm.{VcfhForm}
 use Rattle.capi.specs.declared.VcfhDictionaries.{VcfhDictionaries}
 use Rattle.dictionary.specs.Dictionary.{Dictionaries, dictionaries}
-use Rattle.entries.specs.declared.shown.KeyShown.{KeyShown}
-use Rattle.entries.specs.declared.shown.KeyShown.TheVariants as key
 use Rattle.capi.specs.declared.VcfhPart.{VcfhPart}
 use Rattle.capi.specs.declared.VcfhKey.{VcfhKey}
 use Rattle.spelling.specs.Odd.{outcome_number}
@@ -42,7 +37,7 @@ flag false = 0
 
 -- 0: none
 abbrev pub imposed_by : ℕ → ℕ → ℕ → Option Version
-imposed_by imposed major minor = elim (eqb imposed 0) [ true ↦ none | false ↦ some (version major minor) ]
+imposed_by imposed major minor = elim (eqb imposed 0) [ true ↦ None | false ↦ Some (version major minor) ]
 
 -- 2: the second; any other number is the first
 abbrev pub form_by : ℕ → Form
@@ -50,8 +45,8 @@ form_by form = elim (eqb form 2) [ true ↦ Second | false ↦ First ]
 
 -- of an accepted header, the number of samples and the version in force
 abbrev pub told_as : Option (Version × ℕ) → Told
-told_as none = record { samples = 0; major = 0; minor = 0 }
-told_as (some p) = record { samples = p.1; major = p.0.major; minor = p.0.minor }
+told_as None = record { samples = 0; major = 0; minor = 0 }
+told_as (Some p) = record { samples = p.1; major = p.0.major; minor = p.0.minor }
 
 abbrev pub answer_in_c : Reading → VcfhAnswer
 answer_in_c r = record {
@@ -84,29 +79,29 @@ dictionaries_in_c r d = record {
 
 -- nothing to show is refusal 29
 abbrev pub part_of : Option Part → VcfhPart
-part_of none = record { number = 29; start = 0; length = 0 }
-part_of (some p) = record { number = 0; start = p.0; length = p.1 - p.0 }
+part_of None = record { number = 29; start = 0; length = 0 }
+part_of (Some p) = record { number = 0; start = p.0; length = p.1 - p.0 }
 
-abbrev pub part_as : Shown → VcfhPart
-part_as (shown.Part start end) = record { number = 0; start = start; length = end - start }
-part_as shown.Refused = record { number = 29; start = 0; length = 0 }
+abbrev pub part_as : Option (ℕ × ℕ) → VcfhPart
+part_as (Some (start, end)) = record { number = 0; start = start; length = end - start }
+part_as None = record { number = 29; start = 0; length = 0 }
 
-abbrev pub Ordered : Shown → Type 0
-Ordered (shown.Part start end) = start ≤ end
-Ordered shown.Refused = Unit {0}
+abbrev pub Ordered : Option (ℕ × ℕ) → Type 0
+Ordered (Some (start, end)) = start ≤ end
+Ordered None = Unit {0}
 
 -- the same of a key, with the number of fields
 abbrev pub key_shown_in : Option (Part × ℕ) → VcfhKey
-key_shown_in none = record { number = 29; start = 0; length = 0; fields = 0 }
-key_shown_in (some p) = record { number = 0; start = p.0.0; length = p.0.1 - p.0.0; fields = p.1 }
+key_shown_in None = record { number = 29; start = 0; length = 0; fields = 0 }
+key_shown_in (Some p) = record { number = 0; start = p.0.0; length = p.0.1 - p.0.0; fields = p.1 }
 
-abbrev pub key_shown_as : KeyShown → VcfhKey
-key_shown_as (key.Key start end fields) = record { number = 0; start = start; length = end - start; fields = fields }
-key_shown_as key.Refused = record { number = 29; start = 0; length = 0; fields = 0 }
+abbrev pub key_shown_as : Option (ℕ × ℕ × ℕ) → VcfhKey
+key_shown_as (Some (start, end, fields)) = record { number = 0; start = start; length = end - start; fields = fields }
+key_shown_as None = record { number = 29; start = 0; length = 0; fields = 0 }
 
-abbrev pub KeyOrdered : KeyShown → Type 0
-KeyOrdered (key.Key start end fields) = start ≤ end
-KeyOrdered key.Refused = Unit {0}
+abbrev pub KeyOrdered : Option (ℕ × ℕ × ℕ) → Type 0
+KeyOrdered (Some (start, end, fields)) = start ≤ end
+KeyOrdered None = Unit {0}
 
 -- the forty constants, all 0 if refused
 abbrev pub register_as : RegisterReading → VcfhRegister

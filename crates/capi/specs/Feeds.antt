@@ -1,17 +1,15 @@
 -- Headers in pieces, as C has them: the state is a struct of numbers. Assumes nothing.
-use Rattle.std.specs.Prelude.{ℕ, ◌≡◌, true, false, List, eqb}
-use Rattle.std.proofs.Math.Option.{Option, none, some}
+use Rattle.std.specs.Prelude.{ℕ, ◌≡◌, true, false, List, eqb, Option, Some, None}
 use Rattle.values.specs.Bytes.{Bytes}
 use Rattle.rules.specs.Version.{Version, version}
 use Rattle.entries.specs.declared.form.Form.{Form}
 use Rattle.header.specs.Steps.{Stage, opening, body, ending}
 use Rattle.header.specs.Verdicts.{stage_of}
+use Rattle.header.specs.declared.phase.Phase.{Phase}
 use Rattle.header.specs.Parsers.{AnswerMeaning}
 use Rattle.feed.specs.Feeding.{Feeding, Fed, is_sound, open_state, feed_of, close_of}
 use Rattle.feed.specs.Calls.{Answered, told}
 use Rattle.capi.specs.Answers.{imposed_by}
-use Rattle.capi.specs.declared.feeds.PhaseRead.{PhaseRead}
-use Rattle.capi.specs.declared.feeds.PhaseRead.TheVariants as phase
 use Rattle.capi.specs.declared.feeds.ImposedParts.{ImposedParts}
 use Rattle.capi.specs.declared.feeds.PhaseParts.{PhaseParts}
 use Rattle.capi.specs.declared.feeds.EndParts.{EndParts}
@@ -23,16 +21,16 @@ use Rattle.capi.specs.declared.feeds.VcfhFed.{VcfhFed}
 -- the phase; none where the number is no phase's
 abbrev pub stage_by : ℕ → ℕ → ℕ → ℕ → Option Stage
 stage_by phase major minor samples = elim (eqb phase 0) [
-  | true ↦ some opening
+  | true ↦ Some opening
   | false ↦ elim (eqb phase 1) [
-    | true ↦ some (body (version major minor))
-    | false ↦ elim (eqb phase 2) [ true ↦ some (ending (version major minor) samples) | false ↦ none ]
+    | true ↦ Some (body (version major minor))
+    | false ↦ elim (eqb phase 2) [ true ↦ Some (ending (version major minor) samples) | false ↦ None ]
   ]
 ]
 
-abbrev pub phase_meant : PhaseRead → Option Stage
-phase_meant (phase.Is p) = some (stage_of p)
-phase_meant phase.Unknown = none
+abbrev pub phase_meant : Option Phase → Option Stage
+phase_meant (Some p) = Some (stage_of p)
+phase_meant None = None
 
 -- the state without its final answer
 abbrev pub open_by : VcfhFeed → Stage → Feeding
@@ -41,8 +39,8 @@ open_by c g = open_state (imposed_by c.imposed c.imposed_major c.imposed_minor) 
 -- To C
 
 abbrev pub imposed_in : Option Version → ImposedParts
-imposed_in none = record { imposed = 0; major = 0; minor = 0 }
-imposed_in (some v) = record { imposed = 1; major = v.major; minor = v.minor }
+imposed_in None = record { imposed = 0; major = 0; minor = 0 }
+imposed_in (Some v) = record { imposed = 1; major = v.major; minor = v.minor }
 
 abbrev pub phase_in : Stage → PhaseParts
 phase_in opening = record { phase = 0; major = 0; minor = 0; samples = 0 }
@@ -50,8 +48,8 @@ phase_in (body v) = record { phase = 1; major = v.major; minor = v.minor; sample
 phase_in (ending v n) = record { phase = 2; major = v.major; minor = v.minor; samples = n }
 
 abbrev pub end_in : Option AnswerMeaning → EndParts
-end_in none = record { over = 0; number = 0; line = 0; start = 0; entries = 0 }
-end_in (some a) = record { over = 1; number = a.number; line = a.line; start = a.start; entries = a.entries }
+end_in None = record { over = 0; number = 0; line = 0; start = 0; entries = 0 }
+end_in (Some a) = record { over = 1; number = a.number; line = a.line; start = a.start; entries = a.entries }
 
 abbrev pub feed_as : Feeding → VcfhFeed
 feed_as s = record {
@@ -97,8 +95,8 @@ fed_by x = record { answer = fed_as (told x.state x.answer); buffer = x.buffer; 
 
 -- a phase that isn't one, a state that has ended, or any other, in which the call is as it is in Rattle
 abbrev pub in_phase : VcfhFeed → Form → Bytes → List ℕ → (Feeding → Fed) → Option Stage → FedInC
-in_phase c form b t call none = record { answer = broken_in c; buffer = b; table = t }
-in_phase c form b t call (some g) = elim (eqb c.over 0) [
+in_phase c form b t call None = record { answer = broken_in c; buffer = b; table = t }
+in_phase c form b t call (Some g) = elim (eqb c.over 0) [
   | true ↦ fed_by (call (open_by c g))
   | false ↦ record { answer = over_in c form (open_by c g) b t; buffer = b; table = t }
 ]

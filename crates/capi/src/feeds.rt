@@ -9,9 +9,8 @@ ghost use Rattle.capi.specs.Feeds.{phase_meant, stage_by, open_by, imposed_in, p
 use crate::{form_of, imposed_by, number_of};
 use entries::form::Form;
 use feed::cable;
-use feed::cable::{Ended, FeedAnswer, FeedState};
-use header::file_format_option::FileFormatOption;
-use header::parser::{Outcome, Parser};
+use feed::cable::{FeedAnswer, FeedState};
+use header::parser::{Parser, ReadAnswer};
 use header::phase::Phase;
 use records::file_format::FileFormat;
 use records::refusal::Refusal;
@@ -52,12 +51,6 @@ pub struct VcfhFed {
 }
 
 #[derive(Clone, Copy)]
-enum PhaseRead {
-    Is(Phase),
-    Unknown,
-}
-
-#[derive(Clone, Copy)]
 struct ImposedParts {
     imposed: u64,
     major: u32,
@@ -81,20 +74,17 @@ struct EndParts {
     entries: u64,
 }
 
-fn phase_by(phase: u64, major: u32, minor: u32, samples: u64) -> PhaseRead
+// None where the number is no phase's.
+fn phase_by(phase: u64, major: u32, minor: u32, samples: u64) -> Option<Phase>
     ensures { phase_meant result ≡ stage_by phase major minor samples }
 {
     let version = FileFormat::new(major, minor);
-    if phase == 0 {
-        return PhaseRead::Is(Phase::Empty);
+    match phase {
+        0 => Some(Phase::Empty),
+        1 => Some(Phase::Ready(version)),
+        2 => Some(Phase::Done(version, samples as usize)),
+        _ => None,
     }
-    if phase == 1 {
-        return PhaseRead::Is(Phase::Ready(version));
-    }
-    if phase == 2 {
-        return PhaseRead::Is(Phase::Done(version, samples as usize));
-    }
-    PhaseRead::Unknown
 }
 
 // The state as it is, but for its final answer.
@@ -112,20 +102,20 @@ fn open_state(state: VcfhFeed, phase: Phase) -> FeedState
         imposed,
         parser,
         held: state.held as usize,
-        ended: Ended::No,
+        ended: None,
     }
 }
 
-fn imposed_parts(imposed: FileFormatOption) -> ImposedParts
+fn imposed_parts(imposed: Option<FileFormat>) -> ImposedParts
     ensures { result ≡ imposed_in (imposed_of imposed) }
 {
     match imposed {
-        FileFormatOption::None => ImposedParts {
+        None => ImposedParts {
             imposed: 0,
             major: 0,
             minor: 0,
         },
-        FileFormatOption::Some(version) => ImposedParts {
+        Some(version) => ImposedParts {
             imposed: 1,
             major: version.major,
             minor: version.minor,
@@ -158,18 +148,18 @@ fn phase_parts(phase: Phase) -> PhaseParts
     }
 }
 
-fn end_parts(ended: Ended) -> EndParts
+fn end_parts(ended: Option<ReadAnswer>) -> EndParts
     ensures { result ≡ end_in (ended_means ended) }
 {
     match ended {
-        Ended::No => EndParts {
+        None => EndParts {
             over: 0,
             number: 0,
             line: 0,
             start: 0,
             entries: 0,
         },
-        Ended::Yes(a) => {
+        Some(a) => {
             let outcome = a.outcome;
             let number = number_of(outcome);
             EndParts {
@@ -217,7 +207,7 @@ fn fed(answer: FeedAnswer) -> VcfhFed
     ensures { result ≡ fed_as (feed_means answer) }
 {
     let outcome = answer.outcome;
-    let number = outcome.number();
+    let number = cable::number(outcome);
     let next = answer.state;
     let state = state_in(next);
     VcfhFed {
@@ -279,16 +269,14 @@ pub extern "C" fn vcfh_feed(
     ensures { LeavesInC (feed_in_c state (form_by form) piece.now buffer.old table.old) result buffer.new table.new }
 {
     let named = form_of(form);
-    match phase_by(state.phase, state.major, state.minor, state.samples) {
-        PhaseRead::Unknown => broken(state),
-        PhaseRead::Is(phase) => {
-            let was = open_state(state, phase);
-            if state.over != 0 {
-                return over(state, was, named, buffer, table);
-            }
-            fed(cable::feed(was, piece, named, buffer, table))
-        }
+    let Some(phase) = phase_by(state.phase, state.major, state.minor, state.samples) else {
+        return broken(state);
+    };
+    let was = open_state(state, phase);
+    if state.over != 0 {
+        return over(state, was, named, buffer, table);
     }
+    fed(cable::feed(was, piece, named, buffer, table))
 }
 
 // The sender has no more: what is left is the last line.
@@ -302,14 +290,12 @@ pub extern "C" fn vcfh_close(
     ensures { ClosesInC (close_in_c state (form_by form) buffer.now table.old) result table.new }
 {
     let named = form_of(form);
-    match phase_by(state.phase, state.major, state.minor, state.samples) {
-        PhaseRead::Unknown => broken(state),
-        PhaseRead::Is(phase) => {
-            let was = open_state(state, phase);
-            if state.over != 0 {
-                return over(state, was, named, buffer, table);
-            }
-            fed(cable::close(was, named, buffer, table))
-        }
+    let Some(phase) = phase_by(state.phase, state.major, state.minor, state.samples) else {
+        return broken(state);
+    };
+    let was = open_state(state, phase);
+    if state.over != 0 {
+        return over(state, was, named, buffer, table);
     }
+    fed(cable::close(was, named, buffer, table))
 }

@@ -5,7 +5,7 @@ ghost use Rattle.capi.specs.Answers.{form_by};
 ghost use Rattle.capi.specs.Searches.{indexed_as, found_as};
 
 use crate::form_of;
-use index::find::{Found, Search};
+use index::find::Search;
 use index::{build, find};
 
 // Document 02's number, 0 if the index is built, and how many entries were placed, 0 if refused.
@@ -31,12 +31,12 @@ fn found_of(search: Search) -> VcfhFound
     let looked = search.looked as u64;
     let found = search.found;
     match found {
-        Found::Entry(n) => VcfhFound {
+        Some(n) => VcfhFound {
             found: 1,
             entry: n as u64,
             looked,
         },
-        Found::Nothing => VcfhFound {
+        None => VcfhFound {
             found: 0,
             entry: 0,
             looked,
@@ -57,7 +57,7 @@ pub extern "C" fn vcfh_build_index(
 {
     let answer = build::build_index(header, table, form_of(form), index);
     let outcome = answer.outcome;
-    let number = outcome.number();
+    let number = build::number(outcome);
     VcfhIndexed {
         number,
         placed: answer.placed as u64,

@@ -26,7 +26,6 @@ ghost use Rattle.capi.specs.Verdicts.{verdict_in_c};
 
 use entries::form::Form;
 use entries::shown::{KeyShown, Shown};
-use header::file_format_option::FileFormatOption;
 use header::parser::Outcome;
 use records::file_format::FileFormat;
 use records::refusal::Refusal;
@@ -35,6 +34,7 @@ use spelling::odd;
 use turning::turn;
 use turning::turn::TurnAnswer;
 
+// Kept: the C interface: in each struct of this crate that C sees, numbers for refusals and kinds, and a flag or a number beside its value.
 // Document 01's number, 0 if accepted; the line and its start; how many entries the table keeps; of an accepted header the number of
 // samples and the version in force, all 0 if refused.
 #[repr(C)]
@@ -146,32 +146,33 @@ pub struct VcfhDifferences {
     pub new: [u64; 40],
 }
 
+// Kept: the C interface: numbers that C gives, of which none is refused, so that no TryFrom fits.
 // `imposed` 0: no version is imposed.
-fn imposed_by(imposed: u64, major: u32, minor: u32) -> FileFormatOption
+fn imposed_by(imposed: u64, major: u32, minor: u32) -> Option<FileFormat>
     ensures { imposed_of result ≡ imposed_by imposed major minor }
 {
-    if imposed == 0 {
-        return FileFormatOption::None;
+    match imposed {
+        0 => None,
+        _ => Some(FileFormat::new(major, minor)),
     }
-    FileFormatOption::Some(FileFormat::new(major, minor))
 }
 
 // 2 names the second form, any other number the first.
 fn form_of(form: u64) -> Form
     ensures { result ≡ form_by form }
 {
-    if form == 2 {
-        return Form::Second;
+    match form {
+        2 => Form::Second,
+        _ => Form::First,
     }
-    Form::First
 }
 
 fn number_of(outcome: Outcome) -> u64
     ensures { result ≡ outcome_number outcome }
 {
     match outcome {
-        Outcome::Accepted(_, _) => 0,
-        Outcome::Refused(refusal) => refusal.number(),
+        Ok((_, _)) => 0,
+        Err(refusal) => refusal.number(),
     }
 }
 
@@ -179,12 +180,12 @@ fn told_of(outcome: Outcome) -> Told
     ensures { result ≡ told_as (outcome_says outcome) }
 {
     match outcome {
-        Outcome::Accepted(version, samples) => Told {
+        Ok((version, samples)) => Told {
             samples: samples as u64,
             major: version.major,
             minor: version.minor,
         },
-        Outcome::Refused(_) => Told {
+        Err(_) => Told {
             samples: 0,
             major: 0,
             minor: 0,
@@ -197,12 +198,12 @@ fn part_of(shown: Shown) -> VcfhPart
     ensures { result ≡ part_as shown }
 {
     match shown {
-        Shown::Part { start, end } => VcfhPart {
+        Some((start, end)) => VcfhPart {
             number: 0,
             start: start as u64,
             length: (end - start) as u64,
         },
-        Shown::Refused => {
+        None => {
             let refusal = Refusal::InvalidEntry;
             VcfhPart {
                 number: refusal.number(),
@@ -218,13 +219,13 @@ fn key_of(shown: KeyShown) -> VcfhKey
     ensures { result ≡ key_shown_as shown }
 {
     match shown {
-        KeyShown::Key { start, end, fields } => VcfhKey {
+        Some((start, end, fields)) => VcfhKey {
             number: 0,
             start: start as u64,
             length: (end - start) as u64,
             fields: fields as u64,
         },
-        KeyShown::Refused => {
+        None => {
             let refusal = Refusal::InvalidEntry;
             VcfhKey {
                 number: refusal.number(),
@@ -240,7 +241,7 @@ fn turned(answer: TurnAnswer) -> VcfhTurned
     ensures { result ≡ turned_as answer }
 {
     let outcome = answer.outcome;
-    let number = outcome.number();
+    let number = turn::number(outcome);
     VcfhTurned {
         number,
         entries: answer.entries as u64,
@@ -252,10 +253,7 @@ fn turned(answer: TurnAnswer) -> VcfhTurned
 pub extern "C" fn vcfh_utf8(bytes: &[u8]) -> u64
     ensures { result ≡ flag (is_utf8 bytes.now) }
 {
-    if values::utf8::utf8(bytes) {
-        return 1;
-    }
-    0
+    flag_of(values::utf8::utf8(bytes))
 }
 
 // Reads a header into the table. `form`: 1 for the first form and its limits, with two words for each entry; 2 for the second, with three.
@@ -348,7 +346,7 @@ pub extern "C" fn vcfh_dictionaries(
         header, version, named, table, strings, contigs,
     );
     let outcome = answer.outcome;
-    let number = outcome.number();
+    let number = dictionary::string_maps::number(outcome);
     VcfhDictionaries {
         number,
         line: answer.line as u64,
@@ -377,7 +375,7 @@ pub extern "C" fn vcfh_register(
     let named = form_of(form);
     let answer = probe::register(header, version, named, table);
     let outcome = answer.outcome;
-    let number = outcome.number();
+    let number = probe::number(outcome);
     let constants = answer.constants;
     VcfhRegister {
         number,
@@ -416,7 +414,7 @@ pub extern "C" fn vcfh_contigs(sam: &[u8], out: &mut [u8]) -> VcfhContigs
 {
     let answer = sam::contigs::contigs(sam, out);
     let outcome = answer.outcome;
-    let number = outcome.number();
+    let number = sam::contigs::number(outcome);
     VcfhContigs {
         number,
         line: answer.line as u64,
@@ -494,7 +492,7 @@ pub extern "C" fn vcfh_odd(
     let under = FileFormat::new(major, minor);
     let answer = odd::odd_entries(header, table, form_of(form), under, list);
     let outcome = answer.outcome;
-    let number = outcome.number();
+    let number = odd::number(outcome);
     VcfhOdd {
         number,
         listed: answer.listed as u64,
@@ -541,10 +539,7 @@ pub struct VcfhVerdict {
 fn flag_of(b: bool) -> u64
     ensures { result ≡ flag b }
 {
-    if b {
-        return 1;
-    }
-    0
+    u64::from(b)
 }
 
 // Reads a header into the table and says whether it is its own house form.

@@ -15,14 +15,12 @@ ghost use Rattle.capi.specs.Answers.{flag, form_by};
 ghost use Rattle.capi.specs.Lookups.{is_set, described_as, field_as, value_as, TextOrdered, entry_as, meaning_as, meant, text_answer, text_written};
 
 use crate::{flag_of, form_of};
-use index::find::Found;
-use lookup::entry::Description;
-use lookup::field::FieldShown;
-use lookup::meaning::Written;
+use lookup::entry::Described;
+use lookup::field::FieldParts;
 use lookup::{end, entry, field, find, meaning};
-use records::field::FieldFound;
 use records::file_format::FileFormat;
 use records::refusal::Refusal;
+use values::string::Text;
 use values::{bytes, string};
 
 // Number 0, the kind, and the line, the key and the ID as parts of the header, with 1 if there is an ID and 1 if it stands between
@@ -80,11 +78,11 @@ pub struct VcfhMeaning {
     pub length: u64,
 }
 
-fn described(description: Description) -> VcfhDescribed
+fn described(description: Option<Described>) -> VcfhDescribed
     ensures { result ≡ described_as description }
 {
     match description {
-        Description::Entry(e) => {
+        Some(e) => {
             let has_id = flag_of(e.has_id);
             let quoted = flag_of(e.quoted);
             VcfhDescribed {
@@ -100,7 +98,7 @@ fn described(description: Description) -> VcfhDescribed
                 quoted,
             }
         }
-        Description::Refused => {
+        None => {
             let refusal = Refusal::InvalidEntry;
             VcfhDescribed {
                 number: refusal.number(),
@@ -118,11 +116,11 @@ fn described(description: Description) -> VcfhDescribed
     }
 }
 
-fn field_of(shown: FieldShown) -> VcfhField
+fn field_of(shown: Option<FieldParts>) -> VcfhField
     ensures { result ≡ field_as shown }
 {
     match shown {
-        FieldShown::Field(f) => {
+        Some(f) => {
             let quoted = flag_of(f.quoted);
             VcfhField {
                 number: 0,
@@ -133,7 +131,7 @@ fn field_of(shown: FieldShown) -> VcfhField
                 quoted,
             }
         }
-        FieldShown::Refused => {
+        None => {
             let refusal = Refusal::InvalidEntry;
             VcfhField {
                 number: refusal.number(),
@@ -147,12 +145,12 @@ fn field_of(shown: FieldShown) -> VcfhField
     }
 }
 
-fn value_of(found: FieldFound) -> VcfhValue
+fn value_of(found: Option<Text>) -> VcfhValue
     requires { TextOrdered found }
     ensures { result ≡ value_as found }
 {
     match found {
-        FieldFound::Found(text) => {
+        Some(text) => {
             let quoted = flag_of(text.quoted);
             VcfhValue {
                 number: 0,
@@ -161,7 +159,7 @@ fn value_of(found: FieldFound) -> VcfhValue
                 quoted,
             }
         }
-        FieldFound::Missing => {
+        None => {
             let refusal = Refusal::InvalidEntry;
             VcfhValue {
                 number: refusal.number(),
@@ -173,15 +171,15 @@ fn value_of(found: FieldFound) -> VcfhValue
     }
 }
 
-fn entry_of(found: Found) -> VcfhUnder
+fn entry_of(found: Option<usize>) -> VcfhUnder
     ensures { result ≡ entry_as found }
 {
     match found {
-        Found::Entry(n) => VcfhUnder {
+        Some(n) => VcfhUnder {
             number: 0,
             entry: n as u64,
         },
-        Found::Nothing => {
+        None => {
             let refusal = Refusal::InvalidEntry;
             VcfhUnder {
                 number: refusal.number(),
@@ -191,15 +189,15 @@ fn entry_of(found: Found) -> VcfhUnder
     }
 }
 
-fn meaning_of(written: Written) -> VcfhMeaning
+fn meaning_of(written: Option<usize>) -> VcfhMeaning
     ensures { result ≡ meaning_as written }
 {
     match written {
-        Written::Bytes(n) => VcfhMeaning {
+        Some(n) => VcfhMeaning {
             number: 0,
             length: n as u64,
         },
-        Written::NoRoom => {
+        None => {
             let refusal = Refusal::FormTooLong;
             VcfhMeaning {
                 number: refusal.number(),
@@ -317,11 +315,11 @@ pub extern "C" fn vcfh_find_text(
 {
     let under = FileFormat::new(major, minor);
     match find::find_value(header, table, form_of(form), under, key, id, field) {
-        FieldFound::Found(text) => {
+        Some(text) => {
             let s = bytes::part(header, text.start, text.end);
             meaning_of(meaning::put_meaning(s, text.quoted, out))
         }
-        FieldFound::Missing => {
+        None => {
             let refusal = Refusal::InvalidEntry;
             VcfhMeaning {
                 number: refusal.number(),

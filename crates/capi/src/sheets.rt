@@ -54,7 +54,7 @@ pub extern "C" fn vcfh_season_add(
     let before = sheet.totals;
     let answer = add::add(header, version, named, table, before);
     let outcome = answer.outcome;
-    let number = outcome.number();
+    let number = add::number(outcome);
     let totals = answer.sheet;
     VcfhAdded {
         number,
@@ -74,7 +74,7 @@ pub extern "C" fn vcfh_season_merge(sheet: VcfhSheet, other: VcfhSheet) -> VcfhM
     let more = other.totals;
     let answer = merge::merge(before, more);
     let outcome = answer.outcome;
-    let number = outcome.number();
+    let number = merge::number(outcome);
     let totals = answer.sheet;
     VcfhMerged {
         number,

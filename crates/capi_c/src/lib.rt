@@ -28,6 +28,7 @@ use capi::{
     VcfhPart, VcfhRegister, VcfhTurned, VcfhVerdict,
 };
 
+// Kept: the C interface: each function here and in the modules exports the one of its name in capi, since an export is not generic.
 // 1 if the bytes are UTF-8, else 0.
 #[unsafe(no_mangle)]
 pub extern "C" fn vcfh_utf8(bytes: &[u8]) -> u64

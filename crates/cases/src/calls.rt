@@ -1,39 +1,28 @@
 // What the calls show of entries. Asked: the version under which fields are read, the table's words, the entry and the field (no
 // number: each, and one past the last), then words to forge (no number: the word that reading left stays).
-ghost use Rattle.std.specs.Prelude.{◌≡◌, length};
-
 use crate::{text, words};
 use entries::form::Form;
 use entries::table;
-use header::file_format_option::FileFormatOption;
-use header::shown::{KeyShown, Shown};
+use header::shown::Shown;
 use header::{parser, shown};
 use records::file_format::FileFormat;
-use values::integer::IntegerRead;
 use values::output;
-
-// As with `io::buffer`, the contract gives only the length.
-fn empty_table() -> [u64; 64]
-    ensures { 64 ≡ length result }
-{
-    [0; 64]
-}
 
 // The form of the table, the version under which fields are read, and the field that is asked for.
 #[derive(Clone, Copy)]
 struct Shows {
     form: Form,
     version: FileFormat,
-    field: IntegerRead,
+    field: Option<(u64, bool)>,
 }
 
 fn put_shown(out: &mut [u8], at: usize, shown: Shown) -> usize {
     match shown {
-        Shown::Part { start, end } => {
+        Some((start, end)) => {
             let next = text::put_number(out, at, b"", start as u64);
             text::put_number(out, next, b"-", end as u64)
         }
-        Shown::Refused => output::put_bytes(out, at, b"29"),
+        None => output::put_bytes(out, at, b"29"),
     }
 }
 
@@ -50,11 +39,11 @@ fn put_id(out: &mut [u8], at: usize, header: &[u8], table: &[u64], form: Form, n
 fn put_key(out: &mut [u8], at: usize, header: &[u8], table: &[u64], form: Form, n: usize) -> usize {
     let labelled = output::put_bytes(out, at, b" key=");
     match shown::key(header, table, form, n) {
-        KeyShown::Key { start, end, fields } => {
-            let placed = put_shown(out, labelled, Shown::Part { start, end });
+        Some((start, end, fields)) => {
+            let placed = put_shown(out, labelled, Some((start, end)));
             text::put_number(out, placed, b" of ", fields as u64)
         }
-        KeyShown::Refused => output::put_bytes(out, labelled, b"29"),
+        None => output::put_bytes(out, labelled, b"29"),
     }
 }
 
@@ -69,14 +58,13 @@ fn put_fields(
     version: FileFormat,
 ) -> usize {
     let mut next = at;
-    let mut i = 0;
-    while i < 64 {
+    for i in 0..64 {
         let shown = shown::field(header, table, form, n, version, i);
         next = output::put_byte(out, next, b' ');
         next = put_shown(out, next, shown);
         match shown {
-            Shown::Part { start: _, end: _ } => i += 1,
-            Shown::Refused => return next,
+            Some((_, _)) => {}
+            None => return next,
         }
     }
     next
@@ -111,12 +99,12 @@ fn put_entry(
     let field = shows.field;
     let placed = put_places(out, at, header, table, form, n);
     match field {
-        IntegerRead::Value(i, _) => {
+        Some((i, _)) => {
             let next = output::put_bytes(out, placed, b" fields: ");
             let shown = shown::field(header, table, form, n, version, i as usize);
             put_shown(out, next, shown)
         }
-        IntegerRead::Refused => {
+        None => {
             let next = output::put_bytes(out, placed, b" fields:");
             put_fields(out, next, header, table, form, n, version)
         }
@@ -142,36 +130,25 @@ fn put_entries(out: &mut [u8], header: &[u8], table: &[u64], shows: Shows) -> us
     let steps = view::count_from(header, table, form, 0);
     let mut next = text::put_number(out, 0, b"steps=", steps as u64);
     let entries = table::count(table, form);
-    let mut n = 0;
-    while n < entries {
+    for n in 0..entries {
         next = put_line(out, next, header, table, n, shows);
-        n += 1;
     }
     put_line(out, next, header, table, entries, shows)
 }
 
-fn forge_word(table: &mut [u64], k: usize, word: IntegerRead) {
-    if table.len() <= k {
-        return;
-    }
-    match word {
-        IntegerRead::Value(value, _) => table[k] = value,
-        IntegerRead::Refused => {}
-    }
-}
-
 pub fn forge(table: &mut [u64], asked: &[u8]) {
-    let mut k = 0;
-    while k < table.len() {
-        forge_word(table, k, words::number(asked, k + 5));
-        k += 1;
+    for (k, word) in table.iter_mut().enumerate() {
+        match words::number(asked, k + 5) {
+            Some((value, _)) => *word = value,
+            None => {}
+        }
     }
 }
 
 // Reads the header into the table, forges words of that, and puts what the calls show.
 fn put_calls(out: &mut [u8], header: &[u8], asked: &[u8], table: &mut [u64]) -> usize {
     let form = words::form(asked);
-    parser::read(header, FileFormatOption::None, form, table);
+    parser::read(header, None, form, table);
     forge(table, asked);
     let shows = Shows {
         form,
@@ -179,20 +156,15 @@ fn put_calls(out: &mut [u8], header: &[u8], asked: &[u8], table: &mut [u64]) -> 
         field: words::number(asked, 4),
     };
     match words::number(asked, 3) {
-        IntegerRead::Value(n, _) => put_entry(out, 0, header, table, n as usize, shows),
-        IntegerRead::Refused => put_entries(out, header, table, shows),
+        Some((n, _)) => put_entry(out, 0, header, table, n as usize, shows),
+        None => put_entries(out, header, table, shows),
     }
-}
-
-// The same with the first `size` words of the table.
-fn put_sized(out: &mut [u8], header: &[u8], asked: &[u8], table: &mut [u64], size: usize) -> usize {
-    if table.len() < size {
-        return 0;
-    }
-    put_calls(out, header, asked, &mut table[..size])
 }
 
 pub fn put(out: &mut [u8], header: &[u8], asked: &[u8]) -> usize {
-    let mut table = empty_table();
-    put_sized(out, header, asked, &mut table, words::size(asked, 2))
+    let mut words = [0; 64];
+    let Some(table) = words.get_mut(..words::size(asked, 2)) else {
+        return 0;
+    };
+    put_calls(out, header, asked, table)
 }

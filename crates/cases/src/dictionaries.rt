@@ -16,23 +16,12 @@ fn unwritten() -> [u64; 128]
     [UNWRITTEN; 128]
 }
 
-// Where the last word that was written ends.
-fn written_end(words: &[u64]) -> usize {
-    let mut end = words.len();
-    while 0 < end {
-        if words[end - 1] != UNWRITTEN {
-            return end;
-        }
-        end -= 1;
-    }
-    0
-}
-
 fn put_answer(out: &mut [u8], answer: DictionaryAnswer) -> usize {
     let outcome = answer.outcome;
     let at = reads::put_place(
         out,
-        outcome.number(),
+        0,
+        string_maps::number(outcome),
         answer.line,
         answer.start,
         answer.entries,
@@ -50,34 +39,31 @@ fn put_dictionaries(
     strings: &mut [u64],
     contigs: &mut [u64],
 ) -> usize {
-    let t = words::size(asked, 2);
-    if table.len() < t {
+    let Some(table) = table.get_mut(..words::size(asked, 2)) else {
         return 0;
-    }
-    let s = words::size(asked, 3);
-    if strings.len() < s {
+    };
+    let Some(strings) = strings.get_mut(..words::size(asked, 3)) else {
         return 0;
-    }
-    let c = words::size(asked, 4);
-    if contigs.len() < c {
+    };
+    let Some(contigs) = contigs.get_mut(..words::size(asked, 4)) else {
         return 0;
-    }
+    };
     put_answer(
         out,
         string_maps::dictionaries(
             header,
             words::imposed(asked, 1),
             words::form(asked),
-            &mut table[..t],
-            &mut strings[..s],
-            &mut contigs[..c],
+            table,
+            strings,
+            contigs,
         ),
     )
 }
 
 fn put_slice(out: &mut [u8], at: usize, words: &[u64]) -> usize {
     let next = output::put_bytes(out, at, b" |");
-    reads::put_words(out, next, words, 0, written_end(words))
+    reads::put_words(out, next, &words[..text::written_end(words, &UNWRITTEN)])
 }
 
 pub fn put(out: &mut [u8], header: &[u8], asked: &[u8]) -> usize {
@@ -85,7 +71,7 @@ pub fn put(out: &mut [u8], header: &[u8], asked: &[u8]) -> usize {
     let mut strings = unwritten();
     let mut contigs = unwritten();
     let at = put_dictionaries(out, header, asked, &mut table, &mut strings, &mut contigs);
-    let written = reads::written_end(&table);
+    let written = text::written_end(&table, &reads::UNWRITTEN);
     let changed = text::put_number(out, at, b" changed=", written as u64);
     let listed = put_slice(out, changed, &strings);
     put_slice(out, listed, &contigs)

@@ -5,30 +5,26 @@
 use crate::{house_forms, reads, text, words};
 use entries::form::Form;
 use feed::cable;
-use feed::cable::{Ended, FeedAnswer, FeedOutcome, FeedState};
-use header::file_format_option::FileFormatOption;
-use header::parser::{Outcome, Parser, ReadAnswer};
+use feed::cable::{FeedAnswer, FeedState};
+use header::parser::{Parser, ReadAnswer};
 use header::phase::Phase;
 use records::file_format::FileFormat;
-use values::integer::IntegerRead;
 use values::{bytes, integer, output};
-
-fn put_accepted(out: &mut [u8], at: usize, version: FileFormat, samples: usize) -> usize {
-    let major = text::put_number(out, at, b" version=", version.major as u64);
-    let minor = text::put_number(out, major, b".", version.minor as u64);
-    text::put_number(out, minor, b" samples=", samples as u64)
-}
 
 fn put_answer(out: &mut [u8], at: usize, answer: FeedAnswer) -> usize {
     let outcome = answer.outcome;
-    let numbered = text::put_number(out, at, b"", outcome.number());
-    let lined = text::put_number(out, numbered, b" line=", answer.line as u64);
-    let started = text::put_number(out, lined, b" start=", answer.start as u64);
-    let next = text::put_number(out, started, b" entries=", answer.entries as u64);
+    let next = reads::put_place(
+        out,
+        at,
+        cable::number(outcome),
+        answer.line,
+        answer.start,
+        answer.entries,
+    );
     match outcome {
-        FeedOutcome::More => output::put_bytes(out, next, b" more"),
-        FeedOutcome::Accepted(version, samples) => put_accepted(out, next, version, samples),
-        FeedOutcome::Refused(_) => next,
+        None => output::put_bytes(out, next, b" more"),
+        Some(Ok((version, samples))) => reads::put_accepted(out, next, version, samples),
+        Some(Err(_)) => next,
     }
 }
 
@@ -52,13 +48,7 @@ fn piece_size(cuts: Cuts, k: usize) -> usize {
 
 // Where a piece of so many bytes ends.
 fn piece_end(input: &[u8], at: usize, size: usize) -> usize {
-    if input.len() <= at {
-        return input.len();
-    }
-    if size < input.len() - at {
-        return at + size;
-    }
-    input.len()
+    input.len().min(at.saturating_add(size))
 }
 
 // The pieces after the first, one after the other.
@@ -72,13 +62,11 @@ fn send_rest(
 ) -> FeedState {
     let mut state = first;
     let mut at = cuts.first;
-    let mut k: usize = 0;
-    while k < 3000000 {
+    for k in 0..3000000 {
         if input.len() <= at {
             return state;
         }
         let end = piece_end(input, at, piece_size(cuts, k));
-        k += 1;
         let answer = cable::feed(state, bytes::part(input, at, end), form, buffer, table);
         state = answer.state;
         at = end;
@@ -90,7 +78,7 @@ fn send_rest(
 fn send(
     input: &[u8],
     cuts: Cuts,
-    imposed: FileFormatOption,
+    imposed: Option<FileFormat>,
     form: Form,
     buffer: &mut [u8],
     table: &mut [u64],
@@ -102,14 +90,6 @@ fn send(
     cable::close(state, form, buffer, table)
 }
 
-fn fill(table: &mut [u64]) {
-    let mut k = 0;
-    while k < table.len() {
-        table[k] = reads::UNWRITTEN;
-        k += 1;
-    }
-}
-
 // The same, and what came of it.
 fn put_sent(
     out: &mut [u8],
@@ -119,7 +99,7 @@ fn put_sent(
     buffer: &mut [u8],
     table: &mut [u64],
 ) -> usize {
-    fill(table);
+    table.fill(reads::UNWRITTEN);
     let answer = send(
         input,
         cuts,
@@ -143,27 +123,31 @@ fn agrees(
 ) -> bool {
     let mut again = io::buffer();
     let end = put_sent(&mut again, input, cuts, asked, buffer, table);
-    bytes::same(bytes::part(&again, 0, end), came)
+    bytes::part(&again, 0, end) == came
 }
 
-// In two at every place; the first place where it comes to something else, or one past the last.
-fn halves(input: &[u8], asked: &[u8], buffer: &mut [u8], table: &mut [u64], came: &[u8]) -> usize {
-    let mut place = 0;
-    while place <= input.len() {
+// In two at every place; the first place where it comes to something else.
+fn halves(
+    input: &[u8],
+    asked: &[u8],
+    buffer: &mut [u8],
+    table: &mut [u64],
+    came: &[u8],
+) -> Option<usize> {
+    for place in 0..=input.len() {
         let cuts = Cuts {
             first: place,
             most: input.len(),
             seed: 0,
         };
         if !agrees(input, cuts, asked, buffer, table, came) {
-            return place;
+            return Some(place);
         }
-        place += 1;
     }
-    place
+    None
 }
 
-// The same for pieces of any sizes.
+// The same for pieces of any sizes: the first number that they come from.
 fn uneven(
     input: &[u8],
     most: usize,
@@ -171,20 +155,18 @@ fn uneven(
     buffer: &mut [u8],
     table: &mut [u64],
     came: &[u8],
-) -> u64 {
-    let mut seed = 1;
-    while seed < 6 {
+) -> Option<u64> {
+    for seed in 1..6 {
         let cuts = Cuts {
             first: 0,
             most,
             seed,
         };
         if !agrees(input, cuts, asked, buffer, table, came) {
-            return seed;
+            return Some(seed);
         }
-        seed += 1;
     }
-    seed
+    None
 }
 
 // Past what came: which cuts come to something else, if some do. A short input is cut in two at every place.
@@ -198,15 +180,13 @@ fn put_others(
     came: &[u8],
 ) -> usize {
     let most = if 5000 < input.len() { 23000 } else { 23 };
-    let seed = uneven(input, most, asked, buffer, table, came);
-    if seed < 6 {
+    if let Some(seed) = uneven(input, most, asked, buffer, table, came) {
         return text::put_number(out, at, b" but not by ", seed);
     }
     if 400 < input.len() {
         return at;
     }
-    let place = halves(input, asked, buffer, table, came);
-    if place <= input.len() {
+    if let Some(place) = halves(input, asked, buffer, table, came) {
         return text::put_number(out, at, b" but not at ", place as u64);
     }
     at
@@ -240,20 +220,6 @@ fn put_cuts(
     )
 }
 
-fn put_cut(
-    out: &mut [u8],
-    input: &[u8],
-    asked: &[u8],
-    buffer: &mut [u8],
-    table: &mut [u64],
-    size: usize,
-) -> usize {
-    if table.len() < size {
-        return 0;
-    }
-    put_cuts(out, input, asked, buffer, &mut table[..size])
-}
-
 // Where a list of things to do stands: the state, how much of the input is sent, and where the next answer is put.
 #[derive(Clone, Copy)]
 struct Doing {
@@ -263,50 +229,41 @@ struct Doing {
 }
 
 // The number after a label.
-fn after(word: &[u8], label: &[u8]) -> IntegerRead {
-    if bytes::starts_with(word, label) {
-        return integer::parse_u64(bytes::part(word, label.len(), word.len()));
+fn after(word: &[u8], label: &[u8]) -> Option<(u64, bool)> {
+    match word.strip_prefix(label) {
+        Some(number) => integer::parse_u64(number),
+        None => None,
     }
-    IntegerRead::Refused
 }
 
 fn phase_of(word: &[u8], phase: Phase) -> Phase {
-    if bytes::same(word, b"phase=E") {
-        return Phase::Empty;
+    match word {
+        b"phase=E" => Phase::Empty,
+        b"phase=R" => Phase::Ready(FileFormat::V4_3),
+        b"phase=r" => Phase::Ready(FileFormat { major: 4, minor: 2 }),
+        b"phase=D" => Phase::Done(FileFormat::V4_3, 5),
+        _ => phase,
     }
-    if bytes::same(word, b"phase=R") {
-        return Phase::Ready(FileFormat::V4_3);
-    }
-    if bytes::same(word, b"phase=r") {
-        return Phase::Ready(FileFormat { major: 4, minor: 2 });
-    }
-    if bytes::same(word, b"phase=D") {
-        return Phase::Done(FileFormat::V4_3, 5);
-    }
-    phase
 }
 
 fn forged(word: &[u8], label: &[u8], old: usize) -> usize {
     match after(word, label) {
-        IntegerRead::Value(n, _) => n as usize,
-        IntegerRead::Refused => old,
+        Some((n, _)) => n as usize,
+        None => old,
     }
 }
 
-fn forged_end(word: &[u8], ended: Ended) -> Ended {
-    if bytes::same(word, b"open") {
-        return Ended::No;
-    }
-    if bytes::same(word, b"over") {
-        let outcome = Outcome::Accepted(FileFormat::V4_5, 9);
-        return Ended::Yes(ReadAnswer {
-            outcome,
+fn forged_end(word: &[u8], ended: Option<ReadAnswer>) -> Option<ReadAnswer> {
+    match word {
+        b"open" => None,
+        b"over" => Some(ReadAnswer {
+            outcome: Ok((FileFormat::V4_5, 9)),
             line: 8,
             start: 7,
             entries: 6,
-        });
+        }),
+        _ => ended,
     }
-    ended
 }
 
 fn forged_state(word: &[u8], state: FeedState) -> FeedState {
@@ -332,23 +289,23 @@ fn forged_state(word: &[u8], state: FeedState) -> FeedState {
 
 fn forge_word(word: &[u8], table: &mut [u64]) {
     let k = forged(text::nth(word, b'=', 0), b"w", table.len());
-    if table.len() <= k {
+    let Some(place) = table.get_mut(k) else {
         return;
-    }
+    };
     match integer::parse_u64(text::nth(word, b'=', 1)) {
-        IntegerRead::Value(n, _) => table[k] = n,
-        IntegerRead::Refused => {}
+        Some((n, _)) => *place = n,
+        None => {}
     }
 }
 
 fn forge_byte(word: &[u8], buffer: &mut [u8]) {
     let k = forged(text::nth(word, b'=', 0), b"b", buffer.len());
-    if buffer.len() <= k {
+    let Some(place) = buffer.get_mut(k) else {
         return;
-    }
+    };
     match integer::parse_u64(text::nth(word, b'=', 1)) {
-        IntegerRead::Value(n, _) => buffer[k] = (n % 256) as u8,
-        IntegerRead::Refused => {}
+        Some((n, _)) => *place = (n % 256) as u8,
+        None => {}
     }
 }
 
@@ -372,18 +329,18 @@ fn do_one(
     let state = doing.state;
     let sent = doing.sent;
     let at = doing.at;
-    if bytes::same(word, b"c") {
+    if word == b"c".as_slice() {
         let answer = cable::close(state, form, buffer, table);
         return answered(out, doing, sent, answer);
     }
     match after(word, b"+") {
-        IntegerRead::Value(n, _) => {
+        Some((n, _)) => {
             let end = piece_end(input, sent, n as usize);
             let piece = bytes::part(input, sent, end);
             let answer = cable::feed(state, piece, form, buffer, table);
             answered(out, doing, end, answer)
         }
-        IntegerRead::Refused => {
+        None => {
             forge_word(word, table);
             forge_byte(word, buffer);
             let next = forged_state(word, state);
@@ -410,13 +367,11 @@ fn do_all(
         sent: 0,
         at: 0,
     };
-    let mut n = 4;
-    while n < 200 {
+    for n in 4..200 {
         let word = words::word(asked, n);
-        if word.len() == 0 {
+        if word.is_empty() {
             return doing;
         }
-        n += 1;
         doing = do_one(out, word, input, form, buffer, table, doing);
     }
     doing
@@ -437,10 +392,10 @@ fn put_phase(out: &mut [u8], at: usize, phase: Phase) -> usize {
     }
 }
 
-fn put_ended(out: &mut [u8], at: usize, ended: Ended) -> usize {
+fn put_ended(out: &mut [u8], at: usize, ended: Option<ReadAnswer>) -> usize {
     match ended {
-        Ended::No => at,
-        Ended::Yes(_) => output::put_bytes(out, at, b" over"),
+        None => at,
+        Some(_) => output::put_bytes(out, at, b" over"),
     }
 }
 
@@ -462,8 +417,8 @@ fn put_left(out: &mut [u8], done: Doing, buffer: &[u8], table: &[u64]) -> usize 
     let told = put_state(out, done.at, state);
     let tabled = reads::put_table(out, told, table);
     let labelled = output::put_bytes(out, tabled, b" buffer=");
-    let end = house_forms::output_end(buffer);
-    output::put_bytes(out, labelled, bytes::part(buffer, 0, end))
+    let end = text::written_end(buffer, &house_forms::BLANK);
+    output::put_bytes(out, labelled, &buffer[..end])
 }
 
 fn put_done(
@@ -473,36 +428,22 @@ fn put_done(
     buffer: &mut [u8],
     table: &mut [u64],
 ) -> usize {
-    house_forms::blank(buffer);
-    fill(table);
+    buffer.fill(house_forms::BLANK);
+    table.fill(reads::UNWRITTEN);
     let done = do_all(out, input, asked, words::form(asked), buffer, table);
     put_left(out, done, buffer, table)
 }
 
-fn put_feeds(
-    out: &mut [u8],
-    input: &[u8],
-    asked: &[u8],
-    buffer: &mut [u8],
-    size: usize,
-    table: &mut [u64],
-    room: usize,
-) -> usize {
-    if buffer.len() < size {
-        return 0;
-    }
-    if table.len() < room {
-        return 0;
-    }
-    put_done(out, input, asked, &mut buffer[..size], &mut table[..room])
-}
-
 pub fn put(out: &mut [u8], input: &[u8], asked: &[u8], buffer: &mut [u8]) -> usize {
     let mut table = reads::unwritten_table();
-    let room = words::size(asked, 2);
+    let Some(table) = table.get_mut(..words::size(asked, 2)) else {
+        return 0;
+    };
     if words::is_asked(asked, b"cut") {
-        return put_cut(out, input, asked, buffer, &mut table, room);
+        return put_cuts(out, input, asked, buffer, table);
     }
-    let size = words::size(asked, 3);
-    put_feeds(out, input, asked, buffer, size, &mut table, room)
+    let Some(buffer) = buffer.get_mut(..words::size(asked, 3)) else {
+        return 0;
+    };
+    put_done(out, input, asked, buffer, table)
 }

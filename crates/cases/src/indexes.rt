@@ -1,45 +1,27 @@
 // An index that is built over the entries of a table, and a search in it. Asked: the table's words, the places, the kind, the ID's
 // length with the words of places forged after it, parted by commas, and the table's words forged. The ID stands behind the header.
-use crate::{calls, text, words};
+use crate::{calls, library, text, words};
 use capi::indexes;
 use capi::indexes::VcfhFound;
-use entries::form::Form;
-use header::file_format_option::FileFormatOption;
 use header::parser;
 use index::build::BuildAnswer;
-use index::find::{Found, Search};
+use index::find::Search;
 use index::{build, find};
-use values::integer::IntegerRead;
-use values::{bytes, integer, output};
+use values::{integer, output};
 
 // What a place holds before the index is built.
 const UNTOUCHED: u32 = 7777;
 
-fn wide(word: u32) -> u64 {
-    word as u64
-}
-
-// The index as it is, each word after a space.
-fn put_index(out: &mut [u8], at: usize, index: &[u32]) -> usize {
-    let mut next = output::put_bytes(out, at, b" index:");
-    let mut k = 0;
-    while k < index.len() {
-        next = text::put_number(out, next, b" ", wide(index[k]));
-        k += 1;
-    }
-    next
-}
-
 fn put_built(out: &mut [u8], answer: BuildAnswer) -> usize {
     let outcome = answer.outcome;
-    let numbered = text::put_number(out, 0, b"number=", outcome.number());
+    let numbered = text::put_number(out, 0, b"number=", build::number(outcome));
     text::put_number(out, numbered, b" placed=", answer.placed as u64)
 }
 
-fn put_found(out: &mut [u8], at: usize, found: Found) -> usize {
+fn put_found(out: &mut [u8], at: usize, found: Option<usize>) -> usize {
     match found {
-        Found::Entry(n) => text::put_number(out, at, b" entry=", n as u64),
-        Found::Nothing => output::put_bytes(out, at, b" none"),
+        Some(n) => text::put_number(out, at, b" entry=", n as u64),
+        None => output::put_bytes(out, at, b" none"),
     }
 }
 
@@ -50,25 +32,16 @@ fn put_search(out: &mut [u8], at: usize, search: Search) -> usize {
 }
 
 // The k-th number of the fifth word.
-fn listed(asked: &[u8], k: usize) -> IntegerRead {
+fn listed(asked: &[u8], k: usize) -> Option<(u64, bool)> {
     integer::parse_u64(text::nth(words::word(asked, 4), b',', k))
 }
 
-fn forge_place(index: &mut [u32], k: usize, word: IntegerRead) {
-    if index.len() <= k {
-        return;
-    }
-    match word {
-        IntegerRead::Value(value, _) => index[k] = (value % 0x1_0000_0000) as u32,
-        IntegerRead::Refused => {}
-    }
-}
-
 fn forge(index: &mut [u32], asked: &[u8]) {
-    let mut k = 0;
-    while k < index.len() {
-        forge_place(index, k, listed(asked, k + 1));
-        k += 1;
+    for (k, place) in index.iter_mut().enumerate() {
+        match listed(asked, k + 1) {
+            Some((value, _)) => *place = (value % 0x1_0000_0000) as u32,
+            None => {}
+        }
     }
 }
 
@@ -83,18 +56,10 @@ fn put_both(
 ) -> usize {
     let form = words::form(asked);
     let at = put_built(out, build::build_index(header, table, form, index));
-    let next = put_index(out, at, index);
+    let next = text::put_numbers(out, at, b" index:", index);
     forge(index, asked);
     let kind = words::size(asked, 3) as u64;
     put_search(out, next, find::find(header, table, form, index, kind, id))
-}
-
-// Any number but 2 names the first form.
-fn form_in_c(asked: &[u8]) -> u64 {
-    match words::form(asked) {
-        Form::First => 9,
-        Form::Second => 2,
-    }
 }
 
 fn put_entry_in_c(out: &mut [u8], at: usize, answer: VcfhFound) -> usize {
@@ -119,7 +84,7 @@ fn put_built_in_c(
     let built = indexes::vcfh_build_index(header, table, form, index);
     let numbered = text::put_number(out, 0, b"number=", built.number);
     let at = text::put_number(out, numbered, b" placed=", built.placed);
-    put_index(out, at, index)
+    text::put_numbers(out, at, b" index:", index)
 }
 
 // The same through the library for C, whose numbers are told apart by their order alone.
@@ -131,7 +96,7 @@ fn put_both_in_c(
     table: &[u64],
     index: &mut [u32],
 ) -> usize {
-    let form = form_in_c(asked);
+    let form = library::form_of(asked);
     let next = put_built_in_c(out, header, table, form, index);
     forge(index, asked);
     let kind = words::size(asked, 3) as u64;
@@ -151,39 +116,12 @@ fn put_read(
     table: &mut [u64],
     index: &mut [u32],
 ) -> usize {
-    parser::read(header, FileFormatOption::None, words::form(asked), table);
+    parser::read(header, None, words::form(asked), table);
     calls::forge(table, asked);
     if words::is_asked(asked, b"c-index") {
         return put_both_in_c(out, header, id, asked, table, index);
     }
     put_both(out, header, id, asked, table, index)
-}
-
-// The same with the first words of the table and the first places of the index.
-fn put_sized(
-    out: &mut [u8],
-    header: &[u8],
-    id: &[u8],
-    asked: &[u8],
-    table: &mut [u64],
-    index: &mut [u32],
-) -> usize {
-    let size = words::size(asked, 1);
-    if table.len() < size {
-        return 0;
-    }
-    let places = words::size(asked, 2);
-    if index.len() < places {
-        return 0;
-    }
-    put_read(
-        out,
-        header,
-        id,
-        asked,
-        &mut table[..size],
-        &mut index[..places],
-    )
 }
 
 pub fn is_asked(asked: &[u8]) -> bool {
@@ -192,8 +130,8 @@ pub fn is_asked(asked: &[u8]) -> bool {
 
 fn id_length(asked: &[u8]) -> usize {
     match listed(asked, 0) {
-        IntegerRead::Value(length, _) => length as usize,
-        IntegerRead::Refused => 0,
+        Some((length, _)) => length as usize,
+        None => 0,
     }
 }
 
@@ -202,10 +140,14 @@ pub fn put(out: &mut [u8], input: &[u8], asked: &[u8]) -> usize {
     if input.len() < length {
         return 0;
     }
-    let end = input.len() - length;
-    let header = bytes::part(input, 0, end);
-    let id = bytes::part(input, end, input.len());
-    let mut table = [0u64; 64];
-    let mut index = [UNTOUCHED; 64];
-    put_sized(out, header, id, asked, &mut table, &mut index)
+    let (header, id) = input.split_at(input.len() - length);
+    let mut words = [0u64; 64];
+    let Some(table) = words.get_mut(..words::size(asked, 1)) else {
+        return 0;
+    };
+    let mut places = [UNTOUCHED; 64];
+    let Some(index) = places.get_mut(..words::size(asked, 2)) else {
+        return 0;
+    };
+    put_read(out, header, id, asked, table, index)
 }

@@ -4,8 +4,6 @@ use crate::{house_forms, lookups, reads, text, words};
 use capi::{VcfhKey, VcfhPart};
 use entries::form::Form;
 use records::file_format;
-use records::file_format::FileFormatRead;
-use values::bytes;
 
 // What goes to the library as a version and a form: where none is imposed, numbers that are to be overlooked.
 #[derive(Clone, Copy)]
@@ -26,13 +24,13 @@ pub fn form_of(asked: &[u8]) -> u64 {
 
 pub fn imposed_by(asked: &[u8]) -> Imposed {
     match file_format::parse_file_format(words::word(asked, 1)) {
-        FileFormatRead::Version(version) => Imposed {
+        Some(version) => Imposed {
             imposed: 1,
             major: version.major,
             minor: version.minor,
             form: form_of(asked),
         },
-        FileFormatRead::Refused => Imposed {
+        None => Imposed {
             imposed: 0,
             major: 9,
             minor: 8,
@@ -42,19 +40,13 @@ pub fn imposed_by(asked: &[u8]) -> Imposed {
 }
 
 fn put_reading(out: &mut [u8], header: &[u8], v: Imposed, table: &mut [u64], room: usize) -> usize {
-    if table.len() < room {
+    let Some(table) = table.get_mut(..room) else {
         return 0;
-    }
-    let a = capi::vcfh_read(
-        header,
-        v.imposed,
-        v.major,
-        v.minor,
-        v.form,
-        &mut table[..room],
-    );
+    };
+    let a = capi::vcfh_read(header, v.imposed, v.major, v.minor, v.form, table);
     reads::put_place(
         out,
+        0,
         a.number,
         a.line as usize,
         a.start as usize,
@@ -82,21 +74,14 @@ fn put_answer(
     room: usize,
     form: &mut [u8],
 ) -> usize {
-    if table.len() < room {
+    let Some(table) = table.get_mut(..room) else {
         return 0;
-    }
-    house_forms::blank(form);
-    let a = capi::vcfh_house(
-        header,
-        v.imposed,
-        v.major,
-        v.minor,
-        v.form,
-        &mut table[..room],
-        form,
-    );
+    };
+    form.fill(house_forms::BLANK);
+    let a = capi::vcfh_house(header, v.imposed, v.major, v.minor, v.form, table, form);
     let at = reads::put_place(
         out,
+        0,
         a.number,
         a.line as usize,
         a.start as usize,
@@ -115,16 +100,13 @@ fn put_form(out: &mut [u8], header: &[u8], asked: &[u8], form: &mut [u8]) -> usi
         words::size(asked, 2),
         form,
     );
-    let changed = text::put_number(out, at, b" changed=", reads::written_end(&table) as u64);
+    let changed = text::put_number(
+        out,
+        at,
+        b" changed=",
+        text::written_end(&table, &reads::UNWRITTEN) as u64,
+    );
     house_forms::put_written(out, changed, form)
-}
-
-fn put_sized_form(out: &mut [u8], header: &[u8], asked: &[u8], form: &mut [u8]) -> usize {
-    let size = words::size(asked, 3);
-    if form.len() < size {
-        return 0;
-    }
-    put_form(out, header, asked, &mut form[..size])
 }
 
 fn put_part(out: &mut [u8], at: usize, label: &[u8], part: VcfhPart) -> usize {
@@ -174,15 +156,7 @@ fn put_read_parts(out: &mut [u8], header: &[u8], asked: &[u8], table: &mut [u64]
     put_parts(out, header, asked, table)
 }
 
-fn put_shown(out: &mut [u8], header: &[u8], asked: &[u8], table: &mut [u64], size: usize) -> usize {
-    if table.len() < size {
-        return 0;
-    }
-    put_read_parts(out, header, asked, &mut table[..size])
-}
-
 pub fn put(out: &mut [u8], input: &[u8], asked: &[u8], form: &mut [u8]) -> usize {
-    let what = words::word(asked, 0);
     if lookups::is_asked(asked) {
         return lookups::put(out, input, asked);
     }
@@ -190,11 +164,17 @@ pub fn put(out: &mut [u8], input: &[u8], asked: &[u8], form: &mut [u8]) -> usize
         return put_read(out, input, asked);
     }
     if words::is_asked(asked, b"c-form") {
-        return put_sized_form(out, input, asked, form);
+        let Some(form) = form.get_mut(..words::size(asked, 3)) else {
+            return 0;
+        };
+        return put_form(out, input, asked, form);
     }
-    if bytes::same(what, b"c-utf8") {
+    if words::word(asked, 0) == b"c-utf8".as_slice() {
         return text::put_number(out, 0, b"", capi::vcfh_utf8(input));
     }
     let mut table = reads::unwritten_table();
-    put_shown(out, input, asked, &mut table, words::size(asked, 2))
+    let Some(table) = table.get_mut(..words::size(asked, 2)) else {
+        return 0;
+    };
+    put_read_parts(out, input, asked, table)
 }

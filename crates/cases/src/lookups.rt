@@ -7,16 +7,10 @@ use capi::lookups::{VcfhDescribed, VcfhField, VcfhMeaning, VcfhValue};
 use values::output;
 
 pub fn is_asked(asked: &[u8]) -> bool {
-    if words::is_asked(asked, b"c-told") {
-        return true;
-    }
-    if words::is_asked(asked, b"c-look") {
-        return true;
-    }
-    if words::is_asked(asked, b"c-meaning") {
-        return true;
-    }
-    words::is_asked(asked, b"c-end")
+    words::is_asked(asked, b"c-told")
+        || words::is_asked(asked, b"c-look")
+        || words::is_asked(asked, b"c-meaning")
+        || words::is_asked(asked, b"c-end")
 }
 
 fn put_told(out: &mut [u8], header: &[u8], asked: &[u8]) -> usize {
@@ -109,9 +103,9 @@ fn put_text(
     written: &mut [u8],
     space: usize,
 ) -> usize {
-    if written.len() < space {
+    let Some(room) = written.get_mut(..space) else {
         return at;
-    }
+    };
     let v = words::version(asked, 1);
     let meant = lookups::vcfh_find_text(
         header,
@@ -122,7 +116,7 @@ fn put_text(
         words::word(asked, 5),
         words::word(asked, 6),
         words::word(asked, 7),
-        &mut written[..space],
+        room,
     );
     put_written(out, at, meant, written)
 }
@@ -151,25 +145,12 @@ fn put_read_names(out: &mut [u8], header: &[u8], asked: &[u8], table: &mut [u64]
     put_found(out, fields, header, table, asked)
 }
 
-fn put_looked(
-    out: &mut [u8],
-    header: &[u8],
-    asked: &[u8],
-    table: &mut [u64],
-    size: usize,
-) -> usize {
-    if table.len() < size {
-        return 0;
-    }
-    put_read_names(out, header, asked, &mut table[..size])
-}
-
 fn put_meaning(out: &mut [u8], s: &[u8], asked: &[u8], written: &mut [u8], space: usize) -> usize {
-    if written.len() < space {
+    let Some(room) = written.get_mut(..space) else {
         return 0;
-    }
+    };
     let quoted = words::size(asked, 1) as u64;
-    let meant = lookups::vcfh_meaning(s, quoted, &mut written[..space]);
+    let meant = lookups::vcfh_meaning(s, quoted, room);
     let means = lookups::vcfh_means(s, quoted, words::word(asked, 3));
     let at = text::put_number(out, 0, b"means ", means);
     put_written(out, at, meant, written)
@@ -185,7 +166,10 @@ pub fn put(out: &mut [u8], input: &[u8], asked: &[u8]) -> usize {
     let size = words::size(asked, 2);
     if words::is_asked(asked, b"c-look") {
         let mut table = reads::unwritten_table();
-        return put_looked(out, input, asked, &mut table, size);
+        let Some(table) = table.get_mut(..size) else {
+            return 0;
+        };
+        return put_read_names(out, input, asked, table);
     }
     let mut written = [b'.'; 16];
     put_meaning(out, input, asked, &mut written, size)

@@ -69,7 +69,7 @@ fn answer_other(asked: &[u8], input: &[u8], form: &mut [u8], out: &mut [u8]) -> 
     if words::is_asked(asked, b"c-is-house") {
         return verdicts::put_in_c(out, input, asked);
     }
-    if bytes::starts_with(what, b"c-") {
+    if what.starts_with(b"c-") {
         return library::put(out, input, asked, form);
     }
     value::put(out, input, what)
@@ -98,10 +98,7 @@ fn answer(asked: &[u8], input: &[u8], form: &mut [u8], out: &mut [u8]) -> usize 
     if indexes::is_asked(asked) {
         return indexes::put(out, input, asked);
     }
-    if words::is_asked(asked, b"cut") {
-        return feeds::put(out, input, asked, form);
-    }
-    if words::is_asked(asked, b"feed") {
+    if words::is_asked(asked, b"cut") || words::is_asked(asked, b"feed") {
         return feeds::put(out, input, asked, form);
     }
     answer_other(asked, input, form, out)
@@ -119,11 +116,11 @@ fn say_wrong(name: &[u8], came: &[u8]) {
 fn holds(name: &[u8], came: &[u8], expected: &[u8]) -> bool {
     let mut plain = io::large_buffer();
     let end = text::unescape(expected, &mut plain);
-    if bytes::same(came, bytes::part(&plain, 0, end)) {
-        return true;
+    let holds = came == bytes::part(&plain, 0, end);
+    if !holds {
+        say_wrong(name, came);
     }
-    say_wrong(name, came);
-    false
+    holds
 }
 
 // One case, with buffers for its input and for a form.
@@ -156,14 +153,10 @@ fn say_counts(name: &[u8], cases: u64, wrong: u64) {
 fn replay(name: &[u8], file: &[u8], input: &mut [u8], form: &mut [u8]) {
     let mut cases = 0;
     let mut wrong = 0;
-    let mut at = 0;
-    while at < file.len() {
-        let end = bytes::find(file, at, b'\n');
-        if file.len() <= end {
+    for piece in file.split_inclusive(|b| *b == b'\n') {
+        let Some(line) = piece.strip_suffix(b"\n") else {
             break;
-        }
-        let line = bytes::part(file, at, end);
-        at = end + 1;
+        };
         cases += 1;
         if !case(line, input, form) {
             wrong += 1;
@@ -211,11 +204,9 @@ fn main(rt: HostRuntime) {
     let mut file = longest_buffer();
     let mut input = longest_buffer();
     let mut form = longest_buffer();
-    let mut i = 1;
-    while i < 0x1_0000_0000 {
-        if !replay_file(rt, i, &mut file, &mut input, &mut form) {
+    for number in 1..0x1_0000_0000 {
+        if !replay_file(rt, number, &mut file, &mut input, &mut form) {
             return;
         }
-        i += 1;
     }
 }

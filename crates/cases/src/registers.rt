@@ -1,19 +1,16 @@
 // What the cell register of a header answers, and how far the table was written. Asked: the version imposed and the table's words.
 use crate::{reads, text, words};
 use entries::form::Form;
-use header::file_format_option::FileFormatOption;
+use records::file_format::FileFormat;
 use register::probe;
 use register::probe::RegisterRead;
 
 // Each after a space; a register has no 0.
 fn put_constants(out: &mut [u8], at: usize, constants: &[u64; 40]) -> usize {
     let mut next = at;
-    let mut w = 0;
-    while w < 40 {
-        let constant = constants[w];
-        w += 1;
-        if constant != 0 {
-            next = text::put_number(out, next, b" ", constant);
+    for constant in constants {
+        if *constant != 0 {
+            next = text::put_number(out, next, b" ", *constant);
         }
     }
     next
@@ -24,7 +21,8 @@ fn put_answer(out: &mut [u8], answer: RegisterRead) -> usize {
     let constants = answer.constants;
     let at = reads::put_place(
         out,
-        outcome.number(),
+        0,
+        probe::number(outcome),
         answer.line,
         answer.start,
         answer.entries,
@@ -35,18 +33,15 @@ fn put_answer(out: &mut [u8], answer: RegisterRead) -> usize {
 fn put_register(
     out: &mut [u8],
     header: &[u8],
-    imposed: FileFormatOption,
+    imposed: Option<FileFormat>,
     form: Form,
     table: &mut [u64],
     room: usize,
 ) -> usize {
-    if table.len() < room {
+    let Some(table) = table.get_mut(..room) else {
         return 0;
-    }
-    put_answer(
-        out,
-        probe::register(header, imposed, form, &mut table[..room]),
-    )
+    };
+    put_answer(out, probe::register(header, imposed, form, table))
 }
 
 pub fn put(out: &mut [u8], header: &[u8], asked: &[u8]) -> usize {
@@ -59,6 +54,6 @@ pub fn put(out: &mut [u8], header: &[u8], asked: &[u8]) -> usize {
         &mut table,
         words::size(asked, 2),
     );
-    let written = reads::written_end(&table);
+    let written = text::written_end(&table, &reads::UNWRITTEN);
     text::put_number(out, at, b" changed=", written as u64)
 }

@@ -2,7 +2,7 @@
 // Asked: the totals that a sheet has, and of each header its form, the version imposed, the table's words, and where it stands in the input.
 use crate::{reads, text, words};
 use entries::form::Form;
-use header::file_format_option::FileFormatOption;
+use records::file_format::FileFormat;
 use season::add::AddAnswer;
 use season::{add, merge};
 use values::{bytes, output};
@@ -17,17 +17,15 @@ struct Counted {
 // `PLACE=TOTAL` for some of the places, parted by commas; the others are 0.
 fn sheet_of(totals: &[u8]) -> [u64; 39] {
     let mut sheet = [0u64; 39];
-    let mut i = 0;
-    while i < 39 {
+    for i in 0..39 {
         let given = text::nth(totals, b',', i);
-        i += 1;
         if given.len() < 3 {
             return sheet;
         }
         let place = words::number_in(text::nth(given, b'=', 0));
         let total = words::number_in(text::nth(given, b'=', 1));
-        if place < 39 {
-            sheet[place as usize] = total;
+        if let Some(old) = sheet.get_mut(place as usize) {
+            *old = total;
         }
     }
     sheet
@@ -36,14 +34,10 @@ fn sheet_of(totals: &[u8]) -> [u64; 39] {
 // The totals that are not 0.
 fn put_sheet(out: &mut [u8], at: usize, sheet: &[u64; 39]) -> usize {
     let mut next = output::put_bytes(out, at, b"sheet");
-    let mut place: usize = 0;
-    while place < 39 {
-        let total = sheet[place];
-        let named = place as u64;
-        place += 1;
-        if total != 0 {
-            next = text::put_number(out, next, b" ", named);
-            next = text::put_number(out, next, b"=", total);
+    for (place, total) in sheet.iter().enumerate() {
+        if *total != 0 {
+            next = text::put_number(out, next, b" ", place as u64);
+            next = text::put_number(out, next, b"=", *total);
         }
     }
     next
@@ -51,26 +45,30 @@ fn put_sheet(out: &mut [u8], at: usize, sheet: &[u64; 39]) -> usize {
 
 fn put_answer(out: &mut [u8], at: usize, answer: AddAnswer) -> usize {
     let outcome = answer.outcome;
-    let numbered = text::put_number(out, at, b"", outcome.number());
-    let lined = text::put_number(out, numbered, b" line=", answer.line as u64);
-    let started = text::put_number(out, lined, b" start=", answer.start as u64);
-    text::put_number(out, started, b" entries=", answer.entries as u64)
+    reads::put_place(
+        out,
+        at,
+        add::number(outcome),
+        answer.line,
+        answer.start,
+        answer.entries,
+    )
 }
 
 fn put_added(
     out: &mut [u8],
     at: usize,
     header: &[u8],
-    imposed: FileFormatOption,
+    imposed: Option<FileFormat>,
     form: Form,
     table: &mut [u64],
     room: usize,
     sheet: [u64; 39],
 ) -> Counted {
-    if table.len() < room {
+    let Some(table) = table.get_mut(..room) else {
         return Counted { next: at, sheet };
-    }
-    let answer = add::add(header, imposed, form, &mut table[..room], sheet);
+    };
+    let answer = add::add(header, imposed, form, table, sheet);
     let after = answer.sheet;
     let next = put_answer(out, at, answer);
     Counted { next, sheet: after }
@@ -90,7 +88,7 @@ fn put_header(out: &mut [u8], at: usize, input: &[u8], asked: &[u8], sheet: [u64
         words::number_in(text::nth(asked, b',', 2)) as usize,
         sheet,
     );
-    let written = reads::written_end(&table);
+    let written = text::written_end(&table, &reads::UNWRITTEN);
     let changed = text::put_number(out, added.next, b" changed=", written as u64);
     let after = added.sheet;
     Counted {
@@ -102,11 +100,9 @@ fn put_header(out: &mut [u8], at: usize, input: &[u8], asked: &[u8], sheet: [u64
 pub fn put(out: &mut [u8], input: &[u8], asked: &[u8]) -> usize {
     let mut sheet = sheet_of(words::word(asked, 1));
     let mut next = 0;
-    let mut i = 2;
-    while i < 64 {
+    for i in 2..64 {
         let header = words::word(asked, i);
-        i += 1;
-        if 0 < header.len() {
+        if !header.is_empty() {
             let counted = put_header(out, next, input, header, sheet);
             next = counted.next;
             sheet = counted.sheet;
@@ -122,7 +118,7 @@ pub fn put_merge(out: &mut [u8], asked: &[u8]) -> usize {
     );
     let outcome = answer.outcome;
     let sheet = answer.sheet;
-    let next = text::put_number(out, 0, b"", outcome.number());
+    let next = text::put_number(out, 0, b"", merge::number(outcome));
     let parted = output::put_byte(out, next, b' ');
     put_sheet(out, parted, &sheet)
 }

@@ -1,37 +1,39 @@
-// How a case is written: parts, escapes, and the texts of answers.
-ghost use Rattle.std.specs.Prelude.{◌<◌, length};
+// How a case is written: parts, escapes, and the texts of answers; and how far an output was written.
+ghost use Rattle.std.specs.Prelude.{◌<◌, ◌≤◌, length};
 
-use values::integer::IntegerRead;
 use values::{bytes, integer, output};
 
-// What stands in an escaped text up to `next`: a byte, or the last 512 bytes over and over, `again` of them.
+// What stands in an escaped text: a byte, or the last 512 bytes over and over, so many of them.
+#[derive(Clone, Copy)]
+enum Meant {
+    Byte(u8),
+    Again(usize),
+}
+
+// The same, and where the text goes on.
 #[derive(Clone, Copy)]
 struct Piece {
-    byte: u8,
-    again: usize,
+    meant: Meant,
     next: usize,
 }
 
 // The n-th of the parts that x parts, from 0, no bytes if there are fewer.
 pub fn nth(s: &[u8], x: u8, n: usize) -> &[u8] {
-    let mut at = 0;
-    let mut left = n;
-    while 0 < left {
-        let end = bytes::find(s, at, x);
-        if s.len() <= end {
-            return &s[..0];
-        }
-        at = end + 1;
-        left -= 1;
+    s.split(|b| *b == x).nth(n).unwrap_or(&s[..0])
+}
+
+// Where the last item ends that is not `blank`.
+pub fn written_end<T: PartialEq>(s: &[T], blank: &T) -> usize
+    ensures { result ≤ length s.now }
+{
+    match s.iter().rposition(|x| x != blank) {
+        Some(last) => last + 1,
+        None => 0,
     }
-    bytes::part(s, at, bytes::find(s, at, x))
 }
 
 fn byte_at(s: &[u8], i: usize) -> u8 {
-    if i < s.len() {
-        return s[i];
-    }
-    0
+    s.get(i).copied().unwrap_or(0)
 }
 
 fn hex_digit(b: u8) -> u8
@@ -56,8 +58,8 @@ fn escaped(b: u8) -> u8 {
 
 fn count_of(s: &[u8]) -> usize {
     match integer::parse_u64(s) {
-        IntegerRead::Value(n, _) => n as usize,
-        IntegerRead::Refused => 0,
+        Some((n, _)) => n as usize,
+        None => 0,
     }
 }
 
@@ -69,14 +71,16 @@ fn repeat_piece(s: &[u8], i: usize) -> Piece
     let end = bytes::find(s, i, b';');
     if s.len() <= end {
         return Piece {
-            byte: 0,
-            again: 0,
+            meant: Meant::Byte(0),
             next: i + 1,
         };
     }
+    let meant = match count_of(bytes::part(s, i, end)) {
+        0 => Meant::Byte(0),
+        again => Meant::Again(again),
+    };
     Piece {
-        byte: 0,
-        again: count_of(bytes::part(s, i, end)),
+        meant,
         next: end + 1,
     }
 }
@@ -88,64 +92,63 @@ fn piece_at(s: &[u8], i: usize) -> Piece
     let b = s[i];
     if b != b'\\' {
         return Piece {
-            byte: b,
-            again: 0,
+            meant: Meant::Byte(b),
             next: i + 1,
         };
     }
-    let kind = byte_at(s, i + 1);
-    if kind == b'x' {
-        return Piece {
-            byte: 16 * hex_digit(byte_at(s, i + 2)) + hex_digit(byte_at(s, i + 3)),
-            again: 0,
+    match byte_at(s, i + 1) {
+        b'x' => Piece {
+            meant: Meant::Byte(16 * hex_digit(byte_at(s, i + 2)) + hex_digit(byte_at(s, i + 3))),
             next: i + 4,
-        };
-    }
-    if kind == b'+' {
-        if i + 2 < s.len() {
-            return repeat_piece(s, i + 2);
-        }
-    }
-    Piece {
-        byte: escaped(kind),
-        again: 0,
-        next: i + 2,
+        },
+        b'+' if i + 2 < s.len() => repeat_piece(s, i + 2),
+        kind => Piece {
+            meant: Meant::Byte(escaped(kind)),
+            next: i + 2,
+        },
     }
 }
 
 // Puts `again` bytes, each the one 512 before it, as far as there is room.
 fn put_again(out: &mut [u8], at: usize, again: usize) -> usize {
-    let mut next = at;
-    let mut left = again;
-    while 0 < left {
-        left -= 1;
-        if next < 512 {
-            return next;
-        }
-        if out.len() <= next {
-            return next;
-        }
-        out[next] = out[next - 512];
-        next += 1;
+    if at < 512 || out.len() <= at {
+        return at;
     }
-    next
+    let end = at + again.min(out.len() - at);
+    for i in at..end {
+        out[i] = out[i - 512];
+    }
+    end
 }
 
 // The text without its escapes; answers its length.
+// Kept: a piece takes one byte or several, so that a `for` over the bytes would be no plainer than a cursor.
 pub fn unescape(s: &[u8], out: &mut [u8]) -> usize {
     let mut at = 0;
     let mut i = 0;
     while i < s.len() {
         let piece = piece_at(s, i);
         i = piece.next;
-        let again = piece.again;
-        if 0 < again {
-            at = put_again(out, at, again);
-        } else {
-            at = output::put_byte(out, at, piece.byte);
-        }
+        at = match piece.meant {
+            Meant::Byte(b) => output::put_byte(out, at, b),
+            Meant::Again(again) => put_again(out, at, again),
+        };
     }
     at
+}
+
+// Each number after a space.
+pub fn put_numbers<T: Copy + Into<u64>>(
+    out: &mut [u8],
+    at: usize,
+    label: &[u8],
+    numbers: &[T],
+) -> usize {
+    let mut next = output::put_bytes(out, at, label);
+    for n in numbers {
+        next = put_number(out, next, b" ", (*n).into());
+    }
+    next
 }
 
 pub fn put_number(out: &mut [u8], at: usize, label: &[u8], n: u64) -> usize {

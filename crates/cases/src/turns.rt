@@ -2,7 +2,6 @@
 // one, the version under which lines are read again, a word that says nothing, and the words forged.
 use crate::{calls, reads, text, words};
 use entries::form::Form;
-use header::file_format_option::FileFormatOption;
 use header::parser;
 use records::file_format::FileFormat;
 use turning::turn;
@@ -10,7 +9,7 @@ use turning::turn::TurnAnswer;
 
 fn put_answer(out: &mut [u8], answer: TurnAnswer) -> usize {
     let outcome = answer.outcome;
-    let numbered = text::put_number(out, 0, b"number=", outcome.number());
+    let numbered = text::put_number(out, 0, b"number=", turn::number(outcome));
     text::put_number(out, numbered, b" entries=", answer.entries as u64)
 }
 
@@ -37,7 +36,7 @@ fn put_turned(
     from: Form,
     target: &mut [u64],
 ) -> usize {
-    parser::read(header, FileFormatOption::None, from, source);
+    parser::read(header, None, from, source);
     calls::forge(source, asked);
     let version = words::version(asked, 3);
     put_answer(out, turn_entries(header, source, from, target, version))
@@ -52,15 +51,13 @@ fn put_sized(
     from: Form,
     target: &mut [u64],
 ) -> usize {
-    let n = words::size(asked, 1);
-    if source.len() < n {
+    let Some(source) = source.get_mut(..words::size(asked, 1)) else {
         return 0;
-    }
-    let m = words::size(asked, 2);
-    if target.len() < m {
+    };
+    let Some(target) = target.get_mut(..words::size(asked, 2)) else {
         return 0;
-    }
-    put_turned(out, header, asked, &mut source[..n], from, &mut target[..m])
+    };
+    put_turned(out, header, asked, source, from, target)
 }
 
 pub fn put(out: &mut [u8], header: &[u8], asked: &[u8], from: Form) -> usize {

@@ -1,8 +1,6 @@
 // What the crate `values` makes of bytes: UTF-8, a 64-bit number, a version's part, a field, a field of a META.
 use crate::text;
 use values::cursor::Cursor;
-use values::field::FieldRead;
-use values::integer::IntegerRead;
 use values::sink::Sink;
 use values::{bytes, integer, output, string, utf8};
 
@@ -13,16 +11,16 @@ fn put_utf8(out: &mut [u8], s: &[u8]) -> usize {
     output::put_bytes(out, 0, b"refused")
 }
 
-fn put_integer(out: &mut [u8], read: IntegerRead) -> usize {
+fn put_integer(out: &mut [u8], read: Option<(u64, bool)>) -> usize {
     match read {
-        IntegerRead::Value(n, plain) => {
+        Some((n, plain)) => {
             let at = text::put_number(out, 0, b"value=", n);
             if plain {
                 return at;
             }
             output::put_bytes(out, at, b" odd")
         }
-        IntegerRead::Refused => output::put_bytes(out, 0, b"refused"),
+        None => output::put_bytes(out, 0, b"refused"),
     }
 }
 
@@ -49,7 +47,7 @@ fn put_written(out: &mut [u8], at: usize, text: &[u8], quoted: bool) -> usize {
 // The field at the first byte: its places and its value.
 fn put_field(out: &mut [u8], s: &[u8], brackets: bool) -> usize {
     let c = Cursor { at: 0 };
-    let FieldRead::Field(equals, text, next) = c.split_field(s, brackets) else {
+    let Some((equals, text, next)) = c.split_field(s, brackets) else {
         return output::put_bytes(out, 0, b"refused");
     };
     let start = text.start;
@@ -64,20 +62,12 @@ fn put_field(out: &mut [u8], s: &[u8], brackets: bool) -> usize {
 }
 
 pub fn put(out: &mut [u8], s: &[u8], what: &[u8]) -> usize {
-    if bytes::same(what, b"utf8") {
-        return put_utf8(out, s);
+    match what {
+        b"utf8" => put_utf8(out, s),
+        b"u64" => put_integer(out, integer::parse_u64(s)),
+        b"u32" => put_integer(out, integer::parse_u32(s)),
+        b"field" => put_field(out, s, false),
+        b"meta" => put_field(out, s, true),
+        _ => output::put_bytes(out, 0, b"nobody can be asked that"),
     }
-    if bytes::same(what, b"u64") {
-        return put_integer(out, integer::parse_u64(s));
-    }
-    if bytes::same(what, b"u32") {
-        return put_integer(out, integer::parse_u32(s));
-    }
-    if bytes::same(what, b"field") {
-        return put_field(out, s, false);
-    }
-    if bytes::same(what, b"meta") {
-        return put_field(out, s, true);
-    }
-    output::put_bytes(out, 0, b"nobody can be asked that")
 }

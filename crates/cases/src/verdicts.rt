@@ -1,24 +1,9 @@
 // Whether a header is its own house form, asked of the call or of the library for C. Asked: the version imposed and the table's words.
-use crate::{library, reads, text, words};
+use crate::{house_forms, library, reads, text, words};
 use entries::form::Form;
-use header::file_format_option::FileFormatOption;
-use header::parser::Outcome;
 use house::form;
 use house::form::IsHouseAnswer;
-
-fn number_of(outcome: Outcome) -> u64 {
-    match outcome {
-        Outcome::Accepted(_, _) => 0,
-        Outcome::Refused(refusal) => refusal.number(),
-    }
-}
-
-fn flag(holds: bool) -> u64 {
-    if holds {
-        return 1;
-    }
-    0
-}
+use records::file_format::FileFormat;
 
 // The verdict, after the place.
 fn put_verdict(out: &mut [u8], at: usize, house: u64, differs: u64) -> usize {
@@ -28,33 +13,39 @@ fn put_verdict(out: &mut [u8], at: usize, house: u64, differs: u64) -> usize {
 
 // How far the table was written.
 fn put_changed(out: &mut [u8], at: usize, table: &[u64]) -> usize {
-    text::put_number(out, at, b" changed=", reads::written_end(table) as u64)
+    text::put_number(
+        out,
+        at,
+        b" changed=",
+        text::written_end(table, &reads::UNWRITTEN) as u64,
+    )
 }
 
 fn put_answer(out: &mut [u8], answer: IsHouseAnswer) -> usize {
     let outcome = answer.outcome;
     let at = reads::put_place(
         out,
-        number_of(outcome),
+        0,
+        house_forms::number_of(outcome),
         answer.line,
         answer.start,
         answer.entries,
     );
-    put_verdict(out, at, flag(answer.holds), answer.differs as u64)
+    put_verdict(out, at, u64::from(answer.holds), answer.differs as u64)
 }
 
 fn put_judged(
     out: &mut [u8],
     header: &[u8],
-    imposed: FileFormatOption,
+    imposed: Option<FileFormat>,
     stored: Form,
     table: &mut [u64],
     room: usize,
 ) -> usize {
-    if table.len() < room {
+    let Some(table) = table.get_mut(..room) else {
         return 0;
-    }
-    let answer = form::is_house(header, imposed, stored, &mut table[..room]);
+    };
+    let answer = form::is_house(header, imposed, stored, table);
     put_answer(out, answer)
 }
 
@@ -78,20 +69,14 @@ fn put_judged_in_c(
     table: &mut [u64],
     room: usize,
 ) -> usize {
-    if table.len() < room {
+    let Some(table) = table.get_mut(..room) else {
         return 0;
-    }
+    };
     let v = library::imposed_by(asked);
-    let a = capi::vcfh_is_house(
-        header,
-        v.imposed,
-        v.major,
-        v.minor,
-        v.form,
-        &mut table[..room],
-    );
+    let a = capi::vcfh_is_house(header, v.imposed, v.major, v.minor, v.form, table);
     let at = reads::put_place(
         out,
+        0,
         a.number,
         a.line as usize,
         a.start as usize,

@@ -1,89 +1,66 @@
 // The words of what is asked, which spaces part.
 use crate::text;
 use entries::form::Form;
-use header::file_format_option::FileFormatOption;
 use records::file_format;
-use records::file_format::{FileFormat, FileFormatRead};
-use values::integer::IntegerRead;
-use values::{bytes, integer};
+use records::file_format::FileFormat;
+use values::integer;
 
 pub fn word(asked: &[u8], n: usize) -> &[u8] {
     text::nth(asked, b' ', n)
 }
 
-// Whether the first word ends in 2, which names the second form.
-fn names_second(asked: &[u8]) -> bool {
-    let first = word(asked, 0);
-    if first.len() == 0 {
-        return false;
-    }
-    let last = first.len() - 1;
-    first[last] == b'2'
-}
-
+// A first word that ends in 2 names the second form.
 pub fn form(asked: &[u8]) -> Form {
-    if names_second(asked) {
-        return Form::Second;
+    if word(asked, 0).ends_with(b"2") {
+        Form::Second
+    } else {
+        Form::First
     }
-    Form::First
 }
 
 // Whether this is asked, in either form.
 pub fn is_asked(asked: &[u8], what: &[u8]) -> bool {
-    let first = word(asked, 0);
-    if !bytes::starts_with(first, what) {
-        return false;
-    }
-    if first.len() == what.len() {
-        return true;
-    }
-    bytes::same(bytes::part(first, what.len(), first.len()), b"2")
+    matches!(word(asked, 0).strip_prefix(what), Some(b"" | b"2"))
 }
 
 // A word that is no version imposes none.
-pub fn imposed(asked: &[u8], n: usize) -> FileFormatOption {
-    match file_format::parse_file_format(word(asked, n)) {
-        FileFormatRead::Version(version) => FileFormatOption::Some(version),
-        FileFormatRead::Refused => FileFormatOption::None,
-    }
+pub fn imposed(asked: &[u8], n: usize) -> Option<FileFormat> {
+    imposed_by(word(asked, n))
 }
 
 pub fn version(asked: &[u8], n: usize) -> FileFormat {
     match file_format::parse_file_format(word(asked, n)) {
-        FileFormatRead::Version(version) => version,
-        FileFormatRead::Refused => FileFormat::V4_3,
+        Some(version) => version,
+        None => FileFormat::V4_3,
     }
 }
 
-pub fn number(asked: &[u8], n: usize) -> IntegerRead {
+pub fn number(asked: &[u8], n: usize) -> Option<(u64, bool)> {
     integer::parse_u64(word(asked, n))
 }
 
 pub fn size(asked: &[u8], n: usize) -> usize {
-    match number(asked, n) {
-        IntegerRead::Value(size, _) => size as usize,
-        IntegerRead::Refused => 0,
-    }
+    number_in(word(asked, n)) as usize
 }
 
 // The same of words that are at hand: 0 where there is no number.
 pub fn number_in(word: &[u8]) -> u64 {
     match integer::parse_u64(word) {
-        IntegerRead::Value(n, _) => n,
-        IntegerRead::Refused => 0,
+        Some((n, _)) => n,
+        None => 0,
     }
 }
 
-pub fn imposed_by(word: &[u8]) -> FileFormatOption {
+pub fn imposed_by(word: &[u8]) -> Option<FileFormat> {
     match file_format::parse_file_format(word) {
-        FileFormatRead::Version(version) => FileFormatOption::Some(version),
-        FileFormatRead::Refused => FileFormatOption::None,
+        Some(version) => Some(version),
+        None => None,
     }
 }
 
 pub fn form_by(word: &[u8]) -> Form {
-    if bytes::same(word, b"2") {
-        return Form::Second;
+    match word {
+        b"2" => Form::Second,
+        _ => Form::First,
     }
-    Form::First
 }

@@ -1,4 +1,5 @@
 -- Names that are such: what their marks tell, and that names are distinct where each is one of some that are. Assumes nothing.
+use Rattle.std.specs.Prelude.{Result}
 use Prim.Native.Nat.{ℕ, ◌+◌, ◌%◌, ◌^◌, ◌≤◌, ◌<◌}
 use native.Mathlib.Omega.{arith}
 use native.Mathlib.Nat.{mod-lt}
@@ -17,7 +18,7 @@ use Rattle.values.proofs.Markings.{none_met, meet_length, meet_kept}
 use Rattle.rules.specs.Known.{is_in}
 use Rattle.rules.specs.Columns.{split, distinct}
 use Rattle.rules.specs.Entry.{sample_kind}
-use Rattle.columns.specs.declared.header_line.ColumnsRead.{ColumnsRead}
+use Rattle.columns.specs.declared.header_line.ColumnsRefusal.{ColumnsRefusal}
 use Rattle.columns.specs.HeaderLines.{samples_read, is_of, again, is_doubted, is_clear, is_sure, distinct_of, meet_if, mark_if, doubt_if, Doubts}
 
 -- what answers the need of `name_hash`
@@ -158,7 +159,7 @@ pub none_clear : (ds : List ℕ) (xs : List Bytes) → length ds ≡ 0 → disti
 unfolding is_clear is_doubted
 none_clear ds xs e = distinct_each (is_clear ds) xs (λ x o. both (sym (none_met ds (again x) e)) (not_true (is_met ds (again x)) o))
 
-pub count_doubted : (ds s : Bytes) {r : ColumnsRead} → r ≡ samples_read (distinct_of (is_doubted ds) (split (drop 46 s))) (length (split (drop 46 s)))
+pub count_doubted : (ds s : Bytes) {r : Result (Bool × ℕ) ColumnsRefusal} → r ≡ samples_read (distinct_of (is_doubted ds) (split (drop 46 s))) (length (split (drop 46 s)))
     → distinct_of (is_clear ds) (split (drop 46 s)) ≡ true → r ≡ samples_read (distinct (split (drop 46 s))) (length (split (drop 46 s)))
 count_doubted ds s e c = e ∙ ap (λ (d : Bool). samples_read d (length (split (drop 46 s)))) (clear_and_doubted ds (split (drop 46 s)) c)
 

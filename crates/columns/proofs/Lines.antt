@@ -1,5 +1,6 @@
 -- The column line by its constant beginning: no FORMAT, FORMAT alone, or names after it. Assumes nothing.
-use Prim.Native.Nat.{◌-◌, ◌≤◌, ◌<◌}
+use Rattle.std.specs.Prelude.{Result, Ok, Err}
+use Prim.Native.Nat.{◌-◌, ◌≤◌, ◌<◌, ℕ}
 use native.Mathlib.Omega.{arith}
 use mathlib.Core.Path.{◌≡◌, refl, sym, ap, subst, ◌∙◌}
 use mathlib.Core.Bool.{Bool, true, false, not}
@@ -16,8 +17,8 @@ use Rattle.rules.specs.Columns.{Columns, split, distinct, formatted, read_column
 use Rattle.rules.specs.House.{parted}
 use Rattle.rules.proofs.Records.{starts_is}
 use Rattle.rules.proofs.Samples.{columns, split_in}
-use Rattle.columns.specs.declared.header_line.ColumnsRead.{ColumnsRead}
-use Rattle.columns.specs.declared.header_line.ColumnsRead.TheVariants as read
+use Rattle.columns.specs.declared.header_line.ColumnsRefusal.{ColumnsRefusal}
+use Rattle.columns.specs.declared.header_line.ColumnsRefusal.TheVariants as read
 use Rattle.columns.specs.HeaderLines.{HeaderRead, samples_read}
 use Rattle.columns.proofs.Splits.{split_append}
 use Rattle.columns.proofs.Prefixes.{starts_self, after_last, columns_stand, no_columns}
@@ -75,7 +76,7 @@ judged_line s xs e = elim (test (distinct xs)) [
 
 -- the answers of the code, by its tests
 module _ (s : Bytes) {q : Bool} (a : q ≡ starts fixed s) where
-  pub wrong_start : not q ≡ true → HeaderRead s read.WrongColumn
+  pub wrong_start : not q ≡ true → HeaderRead s (Err read.WrongColumn)
   unfolding HeaderRead
   wrong_start e = no_fixed s (sym a ∙ not_true q e)
 
@@ -83,19 +84,19 @@ module _ (s : Bytes) {q : Bool} (a : q ≡ starts fixed s) where
     whole : read_columns s ≡ formatted (after_last r)
     whole = fixed_stand s (sym a ∙ not_false q e) ∙ ap (λ (x : Bytes). formatted (after_last x)) (sym (b ∙ rest s 38))
 
-    pub bare_line : length r ≡ 0 → HeaderRead s (read.Columns false 0)
+    pub bare_line : length r ≡ 0 → HeaderRead s (Ok (false, 0))
     unfolding HeaderRead
     bare_line h = (record { format = false; samples = [] }, whole ∙ rw (drop_of_length-le r {i = 0} (omega arith)), refl, refl)
 
     -- f tells whether nothing follows FORMAT
     module _ {f : Bool} (c : f ≡ same r FORMAT-alone) where
-      pub format_line_lem : f ≡ true → HeaderRead s (read.Columns true 0)
+      pub format_line_lem : f ≡ true → HeaderRead s (Ok (true, 0))
       unfolding HeaderRead split same distinct
       format_line_lem h = (named [], whole ∙ rw (same_sound r FORMAT-alone (sym c ∙ h)), refl, refl)
 
       -- g tells whether names do
       module _ {g : Bool} (d : g ≡ starts FORMAT-names r) where
-        pub wrong_format : (length r ≡ 0 → ⊥) → f ≡ false → not g ≡ true → HeaderRead s read.WrongColumn
+        pub wrong_format : (length r ≡ 0 → ⊥) → f ≡ false → not g ≡ true → HeaderRead s (Err read.WrongColumn)
         unfolding HeaderRead
         wrong_format n h k = elim (ending r) [
           | no_format z ↦ absurd (n (ap length z))
@@ -104,7 +105,7 @@ module _ (s : Bytes) {q : Bool} (a : q ≡ starts fixed s) where
           | wrong z ↦ whole ∙ z
         ]
 
-        pub names_line : not g ≡ false → (x : ColumnsRead) → x ≡ samples_read (distinct (split (drop 46 s))) (length (split (drop 46 s))) → HeaderRead s x
+        pub names_line : not g ≡ false → (x : Result (Bool × ℕ) ColumnsRefusal) → x ≡ samples_read (distinct (split (drop 46 s))) (length (split (drop 46 s))) → HeaderRead s x
         names_line h x k = subst (HeaderRead s) (sym k) (judged_line s (split (drop 46 s))
             (whole ∙ rw (starts_is FORMAT-names r (sym d ∙ not_false g h), names_stand (drop 8 r), b, rest s 38, drop-drop 8 38 s)))
 

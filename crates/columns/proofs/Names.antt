@@ -1,4 +1,5 @@
 -- Whether a name was met, how many names there are, and which are in doubt: a turn of each loop on plain values. Assumes nothing.
+use Rattle.std.specs.Prelude.{Ok, Err}
 use Prim.Native.Nat.{ℕ, ◌+◌, ◌-◌, ◌≤◌, ◌<◌}
 use native.Mathlib.Omega.{arith}
 use mathlib.Core.Path.{◌≡◌, refl, sym, ap, ◌∙◌}
@@ -16,7 +17,7 @@ use Rattle.values.proofs.Markings.{meet_own, sure}
 use Rattle.rules.specs.Known.{is_in}
 use Rattle.rules.specs.Columns.{split}
 use Rattle.rules.specs.Entry.{sample_kind}
-use Rattle.columns.specs.declared.header_line.ColumnsRead.TheVariants as read
+use Rattle.columns.specs.declared.header_line.ColumnsRefusal.TheVariants as read
 use Rattle.columns.specs.HeaderLines.{samples_read, ended, is_of, again, is_doubted, is_clear, is_sure, distinct_of, mark_if, doubt_if, is_repeated, mark_of, Doubts}
 use Rattle.columns.proofs.Classes.{if_length, if_kept, in_append, distinct_twice, distinct_more, distinct_fewer, sure_less}
 use Rattle.columns.proofs.Splits.{name_part, part_tab, split_last, split_more, ended_none, ended_more, ended_names, names_more}
@@ -171,7 +172,7 @@ module _ {ds s ms₀ : Bytes} {at n : ℕ} {ms : Bytes} (g : Counting ds s ms₀
       sure_of true m t f = sure m t (f refl)
       sure_of false m t f = refl
 
-  pub count_twice : q ≡ true → read.DuplicateSample ≡ samples_read (distinct_of (is_doubted ds) (split (drop 46 s))) (length (split (drop 46 s)))
+  pub count_twice : q ≡ true → Err read.DuplicateSample ≡ samples_read (distinct_of (is_doubted ds) (split (drop 46 s))) (length (split (drop 46 s)))
   count_twice e =
       let o = and_l (is_doubted ds (name_at s at)) (is_in (name_at s at) w.names) (sym met ∙ e) in
       let i = and_r (is_doubted ds (name_at s at)) (is_in (name_at s at) w.names) (sym met ∙ e) in
@@ -184,7 +185,7 @@ module _ {ds s ms₀ : Bytes} {at n : ℕ} {ms : Bytes} (g : Counting ds s ms₀
     longer : length (w.names ++ name_at s at ∷ []) ≡ n + 1
     longer = length-append w.names (name_at s at ∷ []) ∙ ap (◌+ 1) g.count
 
-    pub count_last : length s ≤ end → read.Columns true (n + 1) ≡ samples_read (distinct_of (is_doubted ds) (split (drop 46 s))) (length (split (drop 46 s)))
+    pub count_last : length s ≤ end → Ok (true, n + 1) ≡ samples_read (distinct_of (is_doubted ds) (split (drop 46 s))) (length (split (drop 46 s)))
     count_last h = rw (walk_last w a h, walk_fresh w a (is_doubted ds) (λ x o. o) (sym met ∙ e), longer)
 
     pub count_next : end < length s → {ns : Bytes} → ns ≡ mark_of ds ms name → Counting ds s ms₀ (end + 1) (n + 1) ns

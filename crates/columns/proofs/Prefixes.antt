@@ -3,7 +3,7 @@ use native.Mathlib.Omega.{arith}
 use mathlib.Core.Path.{◌≡◌, refl, sym, ap, ◌∙◌, subst}
 use mathlib.Core.Bool.{true, false}
 use mathlib.Core.List.{List, [], ◌∷◌, ◌++◌, append_assoc, append-nil}
-use mathlib.Core.Option.{Option, none, some}
+use Rattle.std.specs.Prelude.{Option, None, Some}
 use lib.ListN.{length, length-append}
 use borrow.Author.Tests.{eq-eqb}
 use Rattle.values.specs.Bytes.{Bytes, is, any, before, from, starts, same, TAB}
@@ -28,14 +28,14 @@ starts_self (b ∷ p) l = rw (starts, eq-eqb b b refl) (starts_self p l)
 
 -- what stands right after the last of these columns: nothing, or a tab and more columns
 abbrev pub after_last : Bytes → Option (List Bytes)
-after_last [] = some []
-after_last (b ∷ r) = elim (is TAB b) [ true ↦ some (split r) | false ↦ none ]
+after_last [] = Some []
+after_last (b ∷ r) = elim (is TAB b) [ true ↦ Some (split r) | false ↦ None ]
 
 after_hit : (n x : Bytes) (ns xs : List Bytes) → x ≡ n → after_columns (n ∷ ns) (x ∷ xs) ≡ after_columns ns xs
 unfolding after_columns
 after_hit n x ns xs e = rw (e, after_columns, same_self n)
 
-after_miss : (n x : Bytes) (ns xs : List Bytes) → same x n ≡ false → after_columns (n ∷ ns) (x ∷ xs) ≡ none
+after_miss : (n x : Bytes) (ns xs : List Bytes) → same x n ≡ false → after_columns (n ∷ ns) (x ∷ xs) ≡ None
 unfolding after_columns
 after_miss n x ns xs e = rw (after_columns, e)
 
@@ -63,7 +63,7 @@ unfolding parted
 starts_first n [] = ap (starts n) (sym (append-nil n)) ∙ starts_self n []
 starts_first n (y ∷ xs) = starts_self n (TAB ∷ parted (y ∷ xs))
 
-columns_differ : (n : Bytes) (ns : List Bytes) (x : Bytes) (xs : List Bytes) → starts (parted (n ∷ ns)) (parted (x ∷ xs)) ≡ false → after_columns (n ∷ ns) (x ∷ xs) ≡ none
+columns_differ : (n : Bytes) (ns : List Bytes) (x : Bytes) (xs : List Bytes) → starts (parted (n ∷ ns)) (parted (x ∷ xs)) ≡ false → after_columns (n ∷ ns) (x ∷ xs) ≡ None
 unfolding parted starts after_columns
 columns_differ n [] x xs h = elim (test (same x n)) [
   | pass e ↦ both (starts_first n xs) (subst (λ z. starts (parted (n ∷ [])) (parted (z ∷ xs)) ≡ false) (same_sound x n e) h)
@@ -79,5 +79,5 @@ columns_differ n (m ∷ ns) x (y ∷ xs) h = elim (test (same x n)) [
   | fail e ↦ after_miss n x (m ∷ ns) (y ∷ xs) e
 ]
 
-pub no_columns : (n : Bytes) (ns : List Bytes) (l : Bytes) → starts (parted (n ∷ ns)) l ≡ false → after_columns (n ∷ ns) (split l) ≡ none
+pub no_columns : (n : Bytes) (ns : List Bytes) (l : Bytes) → starts (parted (n ∷ ns)) l ≡ false → after_columns (n ∷ ns) (split l) ≡ None
 no_columns n ns l h = elim (split_in l) [ columns x xs q p ↦ rw q (columns_differ n ns x xs (rw p h)) ]

@@ -1,5 +1,5 @@
 -- What the code answers of a column line, and what it stores of it. Assumes nothing.
-use Rattle.std.specs.Prelude.{ℕ, ◌+◌, ◌%◌, ◌^◌, ◌≡◌, Bool, true, false, not, ◌&&◌, List, [], ◌∷◌, length, drop, eqb, leb}
+use Rattle.std.specs.Prelude.{ℕ, ◌+◌, ◌%◌, ◌^◌, ◌≡◌, Bool, true, false, not, ◌&&◌, List, [], ◌∷◌, length, drop, eqb, leb, Result, Ok, Err}
 use Rattle.values.specs.Bytes.{Bytes}
 use Rattle.values.specs.Hash.{wide_step, wide_of}
 use Rattle.values.specs.Marks.{is_met, meet, is_marked}
@@ -9,18 +9,18 @@ use Rattle.rules.specs.Columns.{Columns, split, read_columns}
 use Rattle.rules.specs.Entry.{Entry, columns_kind, sample_kind, plain_entry, sample_entries}
 use Rattle.entries.specs.declared.form.Form.{Form}
 use Rattle.entries.specs.Tables.{put_all}
-use Rattle.columns.specs.declared.header_line.ColumnsRead.{ColumnsRead}
-use Rattle.columns.specs.declared.header_line.ColumnsRead.TheVariants as read
+use Rattle.columns.specs.declared.header_line.ColumnsRefusal.{ColumnsRefusal}
+use Rattle.columns.specs.declared.header_line.ColumnsRefusal.TheVariants as read
 
-unfoldable pub HeaderRead : Bytes → ColumnsRead → Type 0
-HeaderRead s (read.Columns format n) = (c : Columns) × (read_columns s ≡ ok c) × (c.format ≡ format) × (length c.samples ≡ n)
-HeaderRead s read.WrongColumn = read_columns s ≡ refuse 22
-HeaderRead s read.DuplicateSample = read_columns s ≡ refuse 23
+unfoldable pub HeaderRead : Bytes → Result (Bool × ℕ) ColumnsRefusal → Type 0
+HeaderRead s (Ok (format, n)) = (c : Columns) × (read_columns s ≡ ok c) × (c.format ≡ format) × (length c.samples ≡ n)
+HeaderRead s (Err read.WrongColumn) = read_columns s ≡ refuse 22
+HeaderRead s (Err read.DuplicateSample) = read_columns s ≡ refuse 23
 
 -- the answer where n names follow FORMAT: whether no two are the same
-abbrev pub samples_read : Bool → ℕ → ColumnsRead
-samples_read true n = read.Columns true n
-samples_read false n = read.DuplicateSample
+abbrev pub samples_read : Bool → ℕ → Result (Bool × ℕ) ColumnsRefusal
+samples_read true n = Ok (true, n)
+samples_read false n = Err read.DuplicateSample
 
 abbrev pub but_last : List Bytes → List Bytes
 but_last [] = []

@@ -3,7 +3,7 @@ use Prim.Native.Nat.{ℕ, suc, ◌/◌, ◌<◌}
 use native.Mathlib.Omega.{arith}
 use mathlib.Core.Path.{◌≡◌, refl, sym, ap, subst, ◌∙◌}
 use mathlib.Core.List.{List, []}
-use mathlib.Core.Option.{Option, some}
+use Rattle.std.specs.Prelude.{Option, Some, Result, Ok, Err}
 use lib.ListN.{length}
 use lib.Seq.{sets}
 use Rattle.values.specs.Bytes.{Bytes}
@@ -20,7 +20,6 @@ use Rattle.entries.specs.declared.form.Form.{Form}
 use Rattle.entries.specs.Values.{limits_by}
 use Rattle.entries.specs.Tables.{room, first_entries}
 use Rattle.header.proofs.Callers.{Read, read_line_lem, read_start, read_entries, read_refused, read_accepted, read_records, read_kept, read_good}
-use Rattle.header.specs.declared.parser.Outcome.TheVariants as read-outcome
 use Rattle.header.specs.declared.parser.ReadAnswer.{ReadAnswer}
 use Rattle.header.specs.Parsers.{AnswerMeaning, outcome_says as read_says, answer_means, accepted_in, reading_means, read_into, ReadCall}
 use Rattle.dictionary.specs.Dictionary.{Line, first_lines, pairs, refusal, lines_of, Dictionaries, refused_by, numbering, dictionaries_of, dictionaries}
@@ -30,27 +29,27 @@ use Rattle.dictionary.specs.declared.line.Dictionary.{Dictionary}
 use Rattle.dictionary.specs.declared.line.Dictionary.TheVariants.{Strings, Contigs}
 use Rattle.dictionary.specs.declared.string_maps.Judged.{Judged}
 use Rattle.dictionary.specs.declared.string_maps.Judged.TheVariants.{Whole, PartlyIndexed, NumberClash, SliceTooSmall}
-use Rattle.dictionary.specs.declared.string_maps.DictionaryOutcome.{DictionaryOutcome}
-use Rattle.dictionary.specs.declared.string_maps.DictionaryOutcome.TheVariants as outcome
+use Rattle.dictionary.specs.declared.string_maps.DictionaryRefusal.{DictionaryRefusal}
+use Rattle.dictionary.specs.declared.string_maps.DictionaryRefusal.TheVariants as outcome
 use Rattle.dictionary.specs.declared.string_maps.DictionaryAnswer.{DictionaryAnswer}
 use Rattle.dictionary.proofs.Judging.{pairs_length, Judgement, partly, clashing, small, whole, judgement}
 use Rattle.dictionary.proofs.Rows.{header_lines}
 
 -- what answers the needs of `number`
-module _ (o : DictionaryOutcome) where
-  pub number_accepted : {f : FileFormat} {k : ℕ} → o ≡ outcome.Accepted f k → 0 ≡ dictionary_number o
+module _ (o : Result (FileFormat × ℕ) DictionaryRefusal) where
+  pub number_accepted : {f : FileFormat} {k : ℕ} → o ≡ Ok (f, k) → 0 ≡ dictionary_number o
   number_accepted e = rw e
 
-  pub number_refused : {x : Refusal} → o ≡ outcome.Refused x → {n : ℕ} → n ≡ number x → n ≡ dictionary_number o
+  pub number_refused : {x : Refusal} → o ≡ Err (outcome.Unread x) → {n : ℕ} → n ≡ number x → n ≡ dictionary_number o
   number_refused e q = q ∙ rw e
 
-  pub number_partly : o ≡ outcome.PartlyIndexed → 34 ≡ dictionary_number o
+  pub number_partly : o ≡ Err outcome.PartlyIndexed → 34 ≡ dictionary_number o
   number_partly e = rw e
 
-  pub number_clash : o ≡ outcome.NumberClash → 35 ≡ dictionary_number o
+  pub number_clash : o ≡ Err outcome.NumberClash → 35 ≡ dictionary_number o
   number_clash e = rw e
 
-  pub number_slice : o ≡ outcome.SliceTooSmall → 36 ≡ dictionary_number o
+  pub number_slice : o ≡ Err outcome.SliceTooSmall → 36 ≡ dictionary_number o
   number_slice e = rw e
 
 pub ruleset outcomes = (number_accepted, number_refused, number_partly, number_clash, number_slice)
@@ -58,16 +57,16 @@ pub ruleset outcomes = (number_accepted, number_refused, number_partly, number_c
 -- what answers the needs of `answer`
 module _ (a : ReadAnswer) (f : FileFormat) (k : ℕ) (j : Judged) where
   pub answer_whole : {n m : ℕ} → j ≡ Whole n m
-      → ◌≡◌ {A = DictionaryAnswer} (record { outcome = outcome.Accepted f k; line = a.line; start = a.start; entries = a.entries; strings = n; contigs = m }) (answer_of a f k j)
+      → ◌≡◌ {A = DictionaryAnswer} (record { outcome = Ok (f, k); line = a.line; start = a.start; entries = a.entries; strings = n; contigs = m }) (answer_of a f k j)
   answer_whole e = rw e
 
-  pub answer_partly : j ≡ PartlyIndexed → {r : DictionaryAnswer} → r ≡ dictionary_refused_as outcome.PartlyIndexed 0 0 a.entries → r ≡ answer_of a f k j
+  pub answer_partly : j ≡ PartlyIndexed → {r : DictionaryAnswer} → r ≡ dictionary_refused_as (Err outcome.PartlyIndexed) 0 0 a.entries → r ≡ answer_of a f k j
   answer_partly e q = q ∙ rw e
 
-  pub answer_clash : j ≡ NumberClash → {r : DictionaryAnswer} → r ≡ dictionary_refused_as outcome.NumberClash 0 0 a.entries → r ≡ answer_of a f k j
+  pub answer_clash : j ≡ NumberClash → {r : DictionaryAnswer} → r ≡ dictionary_refused_as (Err outcome.NumberClash) 0 0 a.entries → r ≡ answer_of a f k j
   answer_clash e q = q ∙ rw e
 
-  pub answer_small : j ≡ SliceTooSmall → {r : DictionaryAnswer} → r ≡ dictionary_refused_as outcome.SliceTooSmall 0 0 a.entries → r ≡ answer_of a f k j
+  pub answer_small : j ≡ SliceTooSmall → {r : DictionaryAnswer} → r ≡ dictionary_refused_as (Err outcome.SliceTooSmall) 0 0 a.entries → r ≡ answer_of a f k j
   answer_small e q = q ∙ rw e
 
 pub ruleset answers = (answer_whole, answer_partly, answer_clash, answer_small)
@@ -84,11 +83,11 @@ record Answers (a : ReadAnswer) (f : FileFormat) (k : ℕ) (r : Reading) (ss cs 
   strings_it : pairs_written j (pairs Strings ss) ≡ x.strings
   contigs_it : pairs_written j (pairs Contigs cs) ≡ x.contigs
 
-module _ (a : ReadAnswer) (f : FileFormat) (k : ℕ) (r : Reading) (e : answer_means a ≡ reading_means r) (o : a.outcome ≡ read-outcome.Accepted f k) (z : r.number ≡ 0) (s c : ℕ) (ss cs : List Line) where
+module _ (a : ReadAnswer) (f : FileFormat) (k : ℕ) (r : Reading) (e : answer_means a ≡ reading_means r) (o : a.outcome ≡ Ok (f, k)) (z : r.number ≡ 0) (s c : ℕ) (ss cs : List Line) where
   counted : a.entries ≡ length r.entries
   counted = ap (λ (x : AnswerMeaning). x.entries) e
 
-  accepted_as : some (version_of f, k) ≡ accepted_in 0 r.state
+  accepted_as : Some (version_of f, k) ≡ accepted_in 0 r.state
   accepted_as = sym (ap read_says o) ∙ ap (λ (x : AnswerMeaning). x.accepted) e ∙ rw z
 
   half : (d : Dictionary) (ls : List Line) → length (first_lines [] ls) ≡ length (pairs d ls) / 2
@@ -121,17 +120,17 @@ module _ (form : Form) (imposed : Option Version) (h : Bytes) (t₀ : List ℕ) 
   abbrev given : ℕ → ℕ → Dictionaries
   given s c = dictionaries (limits_by form) imposed (room form t₀) s c h
 
-  module _ {x : Refusal} (o : a.outcome ≡ read-outcome.Refused x) where
+  module _ {x : Refusal} (o : a.outcome ≡ Err x) where
     refused_is : (s c : ℕ) → given s c ≡ refused_by read.number read.line read.start
     unfolding dictionaries
     refused_is s c = let n = number_suc x in dictionaries_refused s c read (read_refused call o ∙ n.1)
 
-    refused_told : (s c : ℕ) {r : DictionaryAnswer} → r ≡ dictionary_refused_as (outcome.Refused x) a.line a.start a.entries → dictionary_answer_means r ≡ dictionaries_mean read (given s c)
+    refused_told : (s c : ℕ) {r : DictionaryAnswer} → r ≡ dictionary_refused_as (Err (outcome.Unread x)) a.line a.start a.entries → dictionary_answer_means r ≡ dictionaries_mean read (given s c)
     refused_told s c q =
         let n = number_suc x in
         ap dictionary_answer_means q ∙ rw (refused_is s c, read_refused call o, read_line_lem call, read_start call, read_entries call) (rw n.1)
 
-    pub refused_call : (s c : List ℕ) {r : DictionaryAnswer} → r ≡ dictionary_refused_as (outcome.Refused x) a.line a.start a.entries → DictionaryCall form imposed h t₀ s c r t s c
+    pub refused_call : (s c : List ℕ) {r : DictionaryAnswer} → r ≡ dictionary_refused_as (Err (outcome.Unread x)) a.line a.start a.entries → DictionaryCall form imposed h t₀ s c r t s c
     refused_call s c q = record {
       answer = refused_told (length s) (length c) q;
       table = call.table;
@@ -139,7 +138,7 @@ module _ (form : Form) (imposed : Option Version) (h : Bytes) (t₀ : List ℕ) 
       contigs = rw (refused_is (length s) (length c));
     }
 
-  module _ {f : FileFormat} {k : ℕ} (o : a.outcome ≡ read-outcome.Accepted f k) {kept : List ℕ} (ek : kept ≡ first_entries form t a.entries)
+  module _ {f : FileFormat} {k : ℕ} (o : a.outcome ≡ Ok (f, k)) {kept : List ℕ} (ek : kept ≡ first_entries form t a.entries)
       {s c : List ℕ} {r : DictionaryAnswer} {s' c' : List ℕ} (w : AnswersBoth form a f k h kept s c r s' c') where
     abbrev was_read : Read read (version_of f) k
     was_read = read_records call o

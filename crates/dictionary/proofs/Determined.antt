@@ -1,4 +1,5 @@
 -- What a dictionary call tells determines its answer. Assumes nothing.
+use Rattle.std.specs.Prelude.{Result, Ok, Err}
 use Prim.Native.Nat.{ℕ, ◌<◌}
 use native.Mathlib.Omega.{arith}
 use mathlib.Core.Path.{◌≡◌, refl, sym, ap, ap₂}
@@ -10,9 +11,10 @@ use Rattle.records.specs.declared.refusal.Refusal.{Refusal}
 use Rattle.records.specs.declared.refusal.Refusal.TheVariants.{ExpectedEof, LineTooLong, InvalidUtf8, MissingFileFormat, UnexpectedFileFormat, InvalidRecord, InvalidFileFormat, InvalidMap, InvalidField, DuplicateTag, InvalidNumber, InvalidType, InvalidInteger, MissingId, MissingNumber, MissingType, MissingDescription, DefinitionMismatch, DuplicateId, MixedValues, DuplicateOtherId, InvalidHeader, DuplicateSampleName, TableFull, Empty, MissingHeader, HeaderTooLong, FormTooLong, InvalidEntry}
 use Rattle.records.proofs.Refusals.{number_injective}
 use Rattle.dictionary.specs.Answers.{dictionary_number, dictionary_says, DictionariesMeaning, dictionary_answer_means}
-use Rattle.dictionary.specs.declared.string_maps.DictionaryOutcome.{DictionaryOutcome}
-use Rattle.dictionary.specs.declared.string_maps.DictionaryOutcome.TheVariants as outcome
+use Rattle.dictionary.specs.declared.string_maps.DictionaryRefusal.{DictionaryRefusal}
+use Rattle.dictionary.specs.declared.string_maps.DictionaryRefusal.TheVariants as outcome
 use Rattle.dictionary.specs.declared.string_maps.DictionaryAnswer.{DictionaryAnswer}
+use Rattle.records.specs.declared.file_format.FileFormat.{FileFormat}
 
 -- the reading's refusals have other numbers than the dictionaries'
 number_small : (x : Refusal) → number x < 30
@@ -46,34 +48,34 @@ number_small HeaderTooLong = omega arith
 number_small FormTooLong = omega arith
 number_small InvalidEntry = omega arith
 
-outcome_is : (x y : DictionaryOutcome) → dictionary_number x ≡ dictionary_number y → dictionary_says x ≡ dictionary_says y → x ≡ y
-outcome_is (outcome.Accepted f m) (outcome.Accepted g n) e s =
+outcome_is : (x y : Result (FileFormat × ℕ) DictionaryRefusal) → dictionary_number x ≡ dictionary_number y → dictionary_says x ≡ dictionary_says y → x ≡ y
+outcome_is (Ok (f, m)) (Ok (g, n)) e s =
     let p = some_is s in
-    ap₂ outcome.Accepted (ap (λ (q : Version × ℕ). format_of q.0) p) (ap (λ (q : Version × ℕ). q.1) p)
-outcome_is (outcome.Accepted f m) (outcome.Refused y) e s = none_not (sym s)
-outcome_is (outcome.Accepted f m) outcome.PartlyIndexed e s = none_not (sym s)
-outcome_is (outcome.Accepted f m) outcome.NumberClash e s = none_not (sym s)
-outcome_is (outcome.Accepted f m) outcome.SliceTooSmall e s = none_not (sym s)
-outcome_is (outcome.Refused x) (outcome.Accepted g n) e s = none_not s
-outcome_is (outcome.Refused x) (outcome.Refused y) e s = ap outcome.Refused (number_injective x y e)
-outcome_is (outcome.Refused x) outcome.PartlyIndexed e s = absurd (omega (arith, number_small x))
-outcome_is (outcome.Refused x) outcome.NumberClash e s = absurd (omega (arith, number_small x))
-outcome_is (outcome.Refused x) outcome.SliceTooSmall e s = absurd (omega (arith, number_small x))
-outcome_is outcome.PartlyIndexed (outcome.Accepted g n) e s = none_not s
-outcome_is outcome.PartlyIndexed (outcome.Refused y) e s = absurd (omega (arith, number_small y))
-outcome_is outcome.PartlyIndexed outcome.PartlyIndexed e s = refl
-outcome_is outcome.PartlyIndexed outcome.NumberClash e s = absurd (omega arith)
-outcome_is outcome.PartlyIndexed outcome.SliceTooSmall e s = absurd (omega arith)
-outcome_is outcome.NumberClash (outcome.Accepted g n) e s = none_not s
-outcome_is outcome.NumberClash (outcome.Refused y) e s = absurd (omega (arith, number_small y))
-outcome_is outcome.NumberClash outcome.PartlyIndexed e s = absurd (omega arith)
-outcome_is outcome.NumberClash outcome.NumberClash e s = refl
-outcome_is outcome.NumberClash outcome.SliceTooSmall e s = absurd (omega arith)
-outcome_is outcome.SliceTooSmall (outcome.Accepted g n) e s = none_not s
-outcome_is outcome.SliceTooSmall (outcome.Refused y) e s = absurd (omega (arith, number_small y))
-outcome_is outcome.SliceTooSmall outcome.PartlyIndexed e s = absurd (omega arith)
-outcome_is outcome.SliceTooSmall outcome.NumberClash e s = absurd (omega arith)
-outcome_is outcome.SliceTooSmall outcome.SliceTooSmall e s = refl
+    ap₂ (λ (a : FileFormat) (b : ℕ). Ok (a, b)) (ap (λ (q : Version × ℕ). format_of q.0) p) (ap (λ (q : Version × ℕ). q.1) p)
+outcome_is (Ok (f, m)) (Err (outcome.Unread y)) e s = none_not (sym s)
+outcome_is (Ok (f, m)) (Err outcome.PartlyIndexed) e s = none_not (sym s)
+outcome_is (Ok (f, m)) (Err outcome.NumberClash) e s = none_not (sym s)
+outcome_is (Ok (f, m)) (Err outcome.SliceTooSmall) e s = none_not (sym s)
+outcome_is (Err (outcome.Unread x)) (Ok (g, n)) e s = none_not s
+outcome_is (Err (outcome.Unread x)) (Err (outcome.Unread y)) e s = ap (λ (z : Refusal). Err (outcome.Unread z)) (number_injective x y e)
+outcome_is (Err (outcome.Unread x)) (Err outcome.PartlyIndexed) e s = absurd (omega (arith, number_small x))
+outcome_is (Err (outcome.Unread x)) (Err outcome.NumberClash) e s = absurd (omega (arith, number_small x))
+outcome_is (Err (outcome.Unread x)) (Err outcome.SliceTooSmall) e s = absurd (omega (arith, number_small x))
+outcome_is (Err outcome.PartlyIndexed) (Ok (g, n)) e s = none_not s
+outcome_is (Err outcome.PartlyIndexed) (Err (outcome.Unread y)) e s = absurd (omega (arith, number_small y))
+outcome_is (Err outcome.PartlyIndexed) (Err outcome.PartlyIndexed) e s = refl
+outcome_is (Err outcome.PartlyIndexed) (Err outcome.NumberClash) e s = absurd (omega arith)
+outcome_is (Err outcome.PartlyIndexed) (Err outcome.SliceTooSmall) e s = absurd (omega arith)
+outcome_is (Err outcome.NumberClash) (Ok (g, n)) e s = none_not s
+outcome_is (Err outcome.NumberClash) (Err (outcome.Unread y)) e s = absurd (omega (arith, number_small y))
+outcome_is (Err outcome.NumberClash) (Err outcome.PartlyIndexed) e s = absurd (omega arith)
+outcome_is (Err outcome.NumberClash) (Err outcome.NumberClash) e s = refl
+outcome_is (Err outcome.NumberClash) (Err outcome.SliceTooSmall) e s = absurd (omega arith)
+outcome_is (Err outcome.SliceTooSmall) (Ok (g, n)) e s = none_not s
+outcome_is (Err outcome.SliceTooSmall) (Err (outcome.Unread y)) e s = absurd (omega (arith, number_small y))
+outcome_is (Err outcome.SliceTooSmall) (Err outcome.PartlyIndexed) e s = absurd (omega arith)
+outcome_is (Err outcome.SliceTooSmall) (Err outcome.NumberClash) e s = absurd (omega arith)
+outcome_is (Err outcome.SliceTooSmall) (Err outcome.SliceTooSmall) e s = refl
 
 -- two answers that tell the same are the same, so what `dictionaries` promises is one answer
 pub told_injective : (a b : DictionaryAnswer) → dictionary_answer_means a ≡ dictionary_answer_means b → a ≡ b

@@ -3,7 +3,7 @@ use Prim.Native.Nat.{ℕ}
 use mathlib.Core.Path.{◌≡◌, refl, sym, ap, ap₂, subst, ◌∙◌}
 use mathlib.Core.Bool.{Bool, true, false, not, ◌&&◌, false≢true}
 use mathlib.Core.List.{List, [], ◌∷◌}
-use mathlib.Core.Option.{Option, none, some}
+use Rattle.std.specs.Prelude.{Option, None, Some}
 use lib.Dec.{eqb}
 use borrow.Author.Tests.{eqb-true, eqb-false, eq-eqb, ne_eqb}
 use Rattle.values.specs.Bytes.{Bytes, same}
@@ -22,7 +22,7 @@ use Rattle.rules.specs.Claims.{All}
 
 -- The ID among the lines before
 
-named_here : (x : Bytes) (l : Line) (ls : List Line) → same l.id x ≡ true → idx_named x (l ∷ ls) ≡ some l.idx
+named_here : (x : Bytes) (l : Line) (ls : List Line) → same l.id x ≡ true → idx_named x (l ∷ ls) ≡ Some l.idx
 unfolding idx_first
 named_here x l ls e = rw (idx_first, e)
 
@@ -30,12 +30,12 @@ named_later : (x : Bytes) (l : Line) (ls : List Line) → same l.id x ≡ false 
 unfolding idx_first
 named_later x l ls e = rw (idx_first, e)
 
-named_out : (x : Bytes) (ls : List Line) → is_in x (ids ls) ≡ false → idx_named x ls ≡ none
+named_out : (x : Bytes) (ls : List Line) → is_in x (ids ls) ≡ false → idx_named x ls ≡ None
 unfolding is_in idx_first
 named_out x [] h = refl
 named_out x (l ∷ ls) h = named_later x l ls (or_l (same l.id x) (is_in x (ids ls)) h) ∙ named_out x ls (or_r (same l.id x) (is_in x (ids ls)) h)
 
-pub named_none : (x : Bytes) (ls : List Line) → idx_named x ls ≡ none → is_in x (ids ls) ≡ false
+pub named_none : (x : Bytes) (ls : List Line) → idx_named x ls ≡ None → is_in x (ids ls) ≡ false
 unfolding is_in
 named_none x [] h = refl
 named_none x (l ∷ ls) h = elim (test (same l.id x)) [
@@ -43,7 +43,7 @@ named_none x (l ∷ ls) h = elim (test (same l.id x)) [
   | fail e ↦ in_other x l.id (ids ls) e ∙ named_none x ls (sym (named_later x l ls e) ∙ h)
 ]
 
-pub named_some : (x : Bytes) (ls : List Line) {m : Option ℕ} → idx_named x ls ≡ some m → is_in x (ids ls) ≡ true
+pub named_some : (x : Bytes) (ls : List Line) {m : Option ℕ} → idx_named x ls ≡ Some m → is_in x (ids ls) ≡ true
 named_some x ls h = elim (test (is_in x (ids ls))) [ pass e ↦ e | fail e ↦ none_not (sym (named_out x ls e) ∙ h) ]
 
 -- Lists without a clash
@@ -86,7 +86,7 @@ module _ (d : Dictionary) (ls : List Line) where
   abbrev pub num : Line → ℕ
   num l = id_number d ls l
 
-  pub idx_number : (l : Line) {n : ℕ} → l.idx ≡ some n → id_number d ls l ≡ n
+  pub idx_number : (l : Line) {n : ℕ} → l.idx ≡ Some n → id_number d ls l ≡ n
   unfolding id_number
   idx_number l e = rw e
 
@@ -96,9 +96,9 @@ module _ (d : Dictionary) (ls : List Line) where
       turned : (a b : ℕ) → eqb a b ≡ eqb b a
       turned a b = elim (test (eqb a b)) [ pass e ↦ e ∙ sym (eq-eqb b a (sym (eqb-true a b e))) | fail e ↦ e ∙ sym (ne_eqb b a (λ i. eqb-false a b e (sym i))) ]
 
-      go : (o : Option ℕ) → l.idx ≡ o → ((k : ℕ) → l.idx ≡ some k → num l ≡ k) → is_some l.idx ≡ true → eqb n (num l) ≡ is_idx n l.idx
-      go none e f c = absurd (false≢true (rw e at c))
-      go (some k) e f c = rw (f k e, e) (turned n k)
+      go : (o : Option ℕ) → l.idx ≡ o → ((k : ℕ) → l.idx ≡ Some k → num l ≡ k) → is_some l.idx ≡ true → eqb n (num l) ≡ is_idx n l.idx
+      go None e f c = absurd (false≢true (rw e at c))
+      go (Some k) e f c = rw (f k e, e) (turned n k)
 
   abbrev pub Carrying : List Line → Type 0
   Carrying ms = All (λ (l : Line). carries l ≡ true) ms
@@ -111,7 +111,7 @@ module _ (d : Dictionary) (ls : List Line) where
       rw (clash_other (x, n) (l.id, num l) s, is_number l n a.0, clashes_new x n ms a.1 (or_r (same l.id x) (is_in x (ids ms)) i))
 
   module _ (x : Bytes) (n : ℕ) where
-    pub named_pair : (ms : List Line) {m : Option ℕ} → Carrying ms → idx_named x ms ≡ some m → is_idx n m ≡ true → any_of (is_pair (x, n)) (numbered_lines d ls ms) ≡ true
+    pub named_pair : (ms : List Line) {m : Option ℕ} → Carrying ms → idx_named x ms ≡ Some m → is_idx n m ≡ true → any_of (is_pair (x, n)) (numbered_lines d ls ms) ≡ true
     unfolding any_of idx_first
     named_pair [] a e i = none_not e
     named_pair (l ∷ ms) a e i = elim (test (same l.id x)) [
@@ -121,7 +121,7 @@ module _ (d : Dictionary) (ls : List Line) where
       | fail s ↦ or_on (is_pair (x, n) (l.id, num l)) (named_pair ms a.1 (sym (named_later x l ms s) ∙ e) i)
     ]
 
-    pub named_clash : (ms : List Line) {m : Option ℕ} → Carrying ms → idx_named x ms ≡ some m → is_idx n m ≡ false → any_of (clashes (x, n)) (numbered_lines d ls ms) ≡ true
+    pub named_clash : (ms : List Line) {m : Option ℕ} → Carrying ms → idx_named x ms ≡ Some m → is_idx n m ≡ false → any_of (clashes (x, n)) (numbered_lines d ls ms) ≡ true
     unfolding any_of idx_first
     named_clash [] a e i = none_not e
     named_clash (l ∷ ms) a e i = elim (test (same l.id x)) [

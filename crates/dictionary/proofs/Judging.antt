@@ -1,4 +1,5 @@
 -- What becomes of both dictionaries: the refusals in their order, and what is written. Assumes nothing.
+use Rattle.std.specs.Prelude.{Option, Some, None}
 use Prim.Native.Nat.{ℕ, ◌*◌, ◌/◌, ◌≤◌, ◌<◌}
 use native.Mathlib.Omega.{arith}
 use mathlib.Core.Path.{◌≡◌, refl, sym, ap, ◌∙◌}
@@ -16,8 +17,6 @@ use Rattle.dictionary.specs.Answers.{judged_of, CountsPairs, Judges, NumbersBoth
 use Rattle.dictionary.specs.declared.line.Dictionary.{Dictionary}
 use Rattle.dictionary.specs.declared.line.Dictionary.TheVariants.{Strings, Contigs}
 use Rattle.dictionary.specs.declared.numbering.Carried.{Carried}
-use Rattle.dictionary.specs.declared.numbering.Numbering.{Numbering}
-use Rattle.dictionary.specs.declared.numbering.Numbering.TheVariants as numbering
 use Rattle.dictionary.specs.declared.string_maps.Judged.{Judged}
 use Rattle.dictionary.specs.declared.string_maps.Judged.TheVariants.{Whole, PartlyIndexed, NumberClash, SliceTooSmall}
 use Rattle.dictionary.proofs.Pairs.{words_length}
@@ -25,17 +24,8 @@ use Rattle.dictionary.proofs.Slotting.{ahead_is}
 use Rattle.entries.specs.Tables.{first_entries}
 use Rattle.entries.specs.declared.form.Form.{Form}
 
--- what answers the needs of `is_mixed`
-pub mixed_given : (x : Carried) → x.given ≡ true → x.missing ≡ x.given && x.missing
-mixed_given x e = rw e
-
-pub mixed_not : (x : Carried) → x.given ≡ false → false ≡ x.given && x.missing
-mixed_not x e = rw e
-
-pub ruleset mixing = (mixed_given, mixed_not)
-
 -- what answers the needs of `count_pairs`
-pub pairs_counted : {d : Dictionary} {indexed : Bool} {ls : List Line} {out : List ℕ} {r : Numbering} {o : List ℕ} → NumbersLines d indexed ls out r o → CountsPairs d indexed ls r
+pub pairs_counted : {d : Dictionary} {indexed : Bool} {ls : List Line} {out : List ℕ} {r : Option ℕ} {o : List ℕ} → NumbersLines d indexed ls out r o → CountsPairs d indexed ls r
 pairs_counted w = record { is = w.is }
 
 pub ruleset counted = (pairs_counted)
@@ -96,11 +86,11 @@ uniform x ls e m = go x.given refl
     go true g = sym (ap (λ (y : Carried). y.missing) e) ∙ (rw g at m)
     go false g = sym (ap (λ (y : Carried). y.given) e) ∙ g
 
-counts : (b : Bool) (k : ℕ) {n : ℕ} → count_or_none b k ≡ numbering.Pairs n → (b ≡ false) × (k ≡ n)
+counts : (b : Bool) (k : ℕ) {n : ℕ} → count_or_none b k ≡ Some n → (b ≡ false) × (k ≡ n)
 counts true k e = never cc
 counts false k e = (refl, cc)
 
-counts_not : (b : Bool) (k : ℕ) → count_or_none b k ≡ numbering.Clash → b ≡ true
+counts_not : (b : Bool) (k : ℕ) → count_or_none b k ≡ None → b ≡ true
 counts_not true k e = refl
 counts_not false k e = never cc
 
@@ -123,17 +113,17 @@ module _ (x y : Carried) (form : Form) (h : Bytes) (t : List ℕ) (s c : ℕ) {p
       unmixed : x ≡ carried_by ss → y ≡ carried_by cs → mixed_idx ss || mixed_idx cs ≡ false
       unmixed ex ey = rw (sym (ap (λ (z : Carried). z.given && z.missing) ex) ∙ sym ep ∙ fp, sym (ap (λ (z : Carried). z.given && z.missing) ey) ∙ sym eq ∙ fq)
 
-      module _ {m : Numbering} (w : CountsPairs Strings x.given ss m) where
+      module _ {m : Option ℕ} (w : CountsPairs Strings x.given ss m) where
         strings_are : x ≡ carried_by ss → count_or_none (dictionary_clash Strings ss) (length (first_lines [] ss)) ≡ m
         unfolding numbering_of
         strings_are ex = sym (w.is (uniform x ss ex (sym ep ∙ fp)))
 
-        pub judge_strings_clash : m ≡ numbering.Clash → Judges form x y h t s c NumberClash
+        pub judge_strings_clash : m ≡ None → Judges form x y h t s c NumberClash
         judge_strings_clash e = record {
           is = λ ex ey. sym (judged_clash s c ss cs (unmixed ex ey) (rw (counts_not (dictionary_clash Strings ss) (length (first_lines [] ss)) (strings_are ex ∙ e))));
         }
 
-        module _ {n₁ : ℕ} (em : m ≡ numbering.Pairs n₁) {m' : Numbering} (w' : CountsPairs Contigs y.given cs m') where
+        module _ {n₁ : ℕ} (em : m ≡ Some n₁) {m' : Option ℕ} (w' : CountsPairs Contigs y.given cs m') where
           string_counts : x ≡ carried_by ss → (dictionary_clash Strings ss ≡ false) × (length (first_lines [] ss) ≡ n₁)
           string_counts ex = counts (dictionary_clash Strings ss) (length (first_lines [] ss)) (strings_are ex ∙ em)
 
@@ -141,12 +131,12 @@ module _ (x y : Carried) (form : Form) (h : Bytes) (t : List ℕ) (s c : ℕ) {p
           unfolding numbering_of
           contigs_are ey = sym (w'.is (uniform y cs ey (sym eq ∙ fq)))
 
-          pub judge_contigs_clash : m' ≡ numbering.Clash → Judges form x y h t s c NumberClash
+          pub judge_contigs_clash : m' ≡ None → Judges form x y h t s c NumberClash
           judge_contigs_clash e = record {
             is = λ ex ey. sym (judged_clash s c ss cs (unmixed ex ey) (or_on (dictionary_clash Strings ss) (counts_not (dictionary_clash Contigs cs) (length (first_lines [] cs)) (contigs_are ey ∙ e))));
           }
 
-          module _ {n₂ : ℕ} (em' : m' ≡ numbering.Pairs n₂) where
+          module _ {n₂ : ℕ} (em' : m' ≡ Some n₂) where
             contig_counts : y ≡ carried_by cs → (dictionary_clash Contigs cs ≡ false) × (length (first_lines [] cs) ≡ n₂)
             contig_counts ey = counts (dictionary_clash Contigs cs) (length (first_lines [] cs)) (contigs_are ey ∙ em')
 
@@ -192,15 +182,6 @@ module _ (form : Form) (h : Bytes) (t s c : List ℕ) {x : Carried} (ex : x ≡ 
   judged_is : r ≡ judged_of (length s) (length c) strings contigs
   judged_is = j.is ex ey
 
-  pub both_partly : r ≡ PartlyIndexed → NumbersBoth form h t s c PartlyIndexed s c
-  both_partly e = record { is = sym e ∙ judged_is; strings_are = refl; contigs_are = refl }
-
-  pub both_clash : r ≡ NumberClash → NumbersBoth form h t s c NumberClash s c
-  both_clash e = record { is = sym e ∙ judged_is; strings_are = refl; contigs_are = refl }
-
-  pub both_small : r ≡ SliceTooSmall → NumbersBoth form h t s c SliceTooSmall s c
-  both_small e = record { is = sym e ∙ judged_is; strings_are = refl; contigs_are = refl }
-
   -- where both fit, nothing is mixed and nothing clashes
   record Fits : Type 0 where
     unmixed_strings : mixed_idx strings ≡ false
@@ -229,17 +210,17 @@ module _ (form : Form) (h : Bytes) (t s c : List ℕ) {x : Carried} (ex : x ≡ 
             contigs_fit = leb-true (length (pairs Contigs contigs)) (length c) (and_r p q f);
           }
 
-  pub both_whole : {n m : ℕ} → r ≡ Whole n m → {r₁ : Numbering} {s' : List ℕ} → NumbersLines Strings x.given strings s r₁ s' → {r₂ : Numbering} {c' : List ℕ}
-      → NumbersLines Contigs y.given contigs c r₂ c' → NumbersBoth form h t s c (Whole n m) s' c'
+  pub both_whole : {n m : ℕ} → r ≡ Whole n m → {r₁ : Option ℕ} {s' : List ℕ} → NumbersLines Strings x.given strings s r₁ s' → {r₂ : Option ℕ} {c' : List ℕ}
+      → NumbersLines Contigs y.given contigs c r₂ c' → NumbersBoth form h t s c r s' c'
   both_whole e w₁ w₂ =
       let f = fits e in
       record {
-        is = sym e ∙ judged_is;
-        strings_are = w₁.output (uniform x strings ex (ap (λ (z : Carried). z.given && z.missing) ex ∙ f.unmixed_strings)) f.free_strings f.strings_fit;
-        contigs_are = w₂.output (uniform y contigs ey (ap (λ (z : Carried). z.given && z.missing) ey ∙ f.unmixed_contigs)) f.free_contigs f.contigs_fit;
+        is = judged_is;
+        strings_are = rw e (w₁.output (uniform x strings ex (ap (λ (z : Carried). z.given && z.missing) ex ∙ f.unmixed_strings)) f.free_strings f.strings_fit);
+        contigs_are = rw e (w₂.output (uniform y contigs ey (ap (λ (z : Carried). z.given && z.missing) ey ∙ f.unmixed_contigs)) f.free_contigs f.contigs_fit);
       }
 
-pub ruleset boths = (both_partly, both_clash, both_small, both_whole)
+pub ruleset boths = (both_whole)
 
 -- what answers the needs of `number_both`: entries behind the last line tell nothing
 pub both_used : (form : Form) (h : Bytes) (t : List ℕ) {n : ℕ} → EndsLines form t n → {used : List ℕ} → used ≡ first_entries form t n → {s c : List ℕ} {r : Judged} {s' c' : List ℕ}

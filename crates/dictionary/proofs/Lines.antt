@@ -2,7 +2,7 @@
 use Prim.Native.Nat.{ℕ, ◌-◌, ◌<◌, ◌≤◌}
 use mathlib.Core.Path.{◌≡◌, refl, sym, ap, subst, ◌∙◌}
 use mathlib.Core.Bool.{Bool, false, or-false}
-use mathlib.Core.Option.{Option, none, some}
+use Rattle.std.specs.Prelude.{Option, None, Some}
 use lib.Dec.{eqb, leb}
 use lib.ListN.{drop, take}
 use borrow.Author.Tests.{eq-eqb, ne_eqb, le-leb, lt-leb}
@@ -11,15 +11,11 @@ use Rattle.values.specs.Integer.{u64_read}
 use Rattle.values.specs.Value.{meaning}
 use Rattle.values.specs.Field.{Field}
 use Rattle.values.specs.declared.string.Text.{Text}
-use Rattle.values.specs.declared.integer.IntegerRead.{IntegerRead}
-use Rattle.values.specs.declared.integer.IntegerRead.TheVariants as integer
 use Rattle.values.proofs.Sames.{same_sym}
 use Rattle.rules.specs.Known.{is_in}
 use Rattle.rules.specs.Shown.{line_in, id_in}
 use Rattle.entries.specs.declared.entry.Entry.{Entry as CodeEntry}
 use Rattle.entries.specs.Values.{entry_of}
-use Rattle.records.specs.declared.field.FieldFound.{FieldFound}
-use Rattle.records.specs.declared.field.FieldFound.TheVariants as found
 use Rattle.dictionary.specs.Dictionary.{integer_in, idx_of}
 use Rattle.dictionary.specs.Lines.{holds, fields_place, entry_idx, is_implied}
 use Rattle.dictionary.specs.declared.line.Dictionary.{Dictionary}
@@ -48,33 +44,33 @@ other_place kind ne = rw (fields_place, ne_eqb kind 2 ne)
 
 pub ruleset places = (info_place, other_place)
 
-found_none : (s : Bytes) (o : Option Field) → FoundIs s o found.Missing → idx_of o ≡ none
-found_none s none f = refl
-found_none s (some x) f = absurd f
+found_none : (s : Bytes) (o : Option Field) → FoundIs s o None → idx_of o ≡ None
+found_none s None f = refl
+found_none s (Some x) f = absurd f
 
-found_some : (s : Bytes) (o : Option Field) (t : Text) → FoundIs s o (found.Found t) → idx_of o ≡ integer_in (u64_read (take (t.end - t.start) (drop t.start s)))
-found_some s none t f = absurd f
-found_some s (some x) t f = ap integer_in f.1
+found_some : (s : Bytes) (o : Option Field) (t : Text) → FoundIs s o (Some t) → idx_of o ≡ integer_in (u64_read (take (t.end - t.start) (drop t.start s)))
+found_some s None t f = absurd f
+found_some s (Some x) t f = ap integer_in f.1
 
 -- what answers the needs of `line_idx`
 module _ (h : Bytes) (e : CodeEntry) {line : Bytes} (el : line ≡ line_in h (entry_of e)) {start : ℕ} (es : start ≡ fields_place e.kind)
-    {r : FieldFound} (f : FindsField false line start (ascii "IDX") r) where
+    {r : Option Text} (f : FindsField false line start (ascii "IDX") r) where
   looked : entry_idx h (entry_of e) ≡ idx_of (field_keyed (ascii "IDX") (fields_at false line start))
   unfolding entry_idx
   looked = rw (← el, ← es)
 
-  pub idx_missing : r ≡ found.Missing → none ≡ entry_idx h (entry_of e)
+  pub idx_missing : r ≡ None → None ≡ entry_idx h (entry_of e)
   idx_missing q = sym (looked ∙ found_none line (field_keyed (ascii "IDX") (fields_at false line start)) (subst (FoundIs line (field_keyed (ascii "IDX") (fields_at false line start))) q f.value))
 
-  module _ {t : Text} (q : r ≡ found.Found t) {p : Bytes} (ep : p ≡ take (t.end - t.start) (drop t.start line)) {v : IntegerRead} (ev : v ≡ u64_read p) where
+  module _ {t : Text} (q : r ≡ Some t) {p : Bytes} (ep : p ≡ take (t.end - t.start) (drop t.start line)) {v : Option (ℕ × Bool)} (ev : v ≡ u64_read p) where
     read : entry_idx h (entry_of e) ≡ integer_in v
     read = looked ∙ found_some line (field_keyed (ascii "IDX") (fields_at false line start)) t (subst (FoundIs line (field_keyed (ascii "IDX") (fields_at false line start))) q f.value)
         ∙ ap integer_in (ap u64_read (sym ep) ∙ sym ev)
 
-    pub idx_unread : v ≡ integer.Refused → none ≡ entry_idx h (entry_of e)
+    pub idx_unread : v ≡ None → None ≡ entry_idx h (entry_of e)
     idx_unread w = sym (read ∙ ap integer_in w)
 
-    pub idx_read : {n : ℕ} {p : Bool} → v ≡ integer.Value n p → some n ≡ entry_idx h (entry_of e)
+    pub idx_read : {n : ℕ} {p : Bool} → v ≡ Some (n, p) → Some n ≡ entry_idx h (entry_of e)
     idx_read w = sym (read ∙ ap integer_in w)
 
 pub ruleset idxs = (idx_missing, idx_unread, idx_read)

@@ -4,7 +4,7 @@ use native.Mathlib.Omega.{arith}
 use mathlib.Core.Path.{◌≡◌, refl, sym, ap, subst, ◌∙◌}
 use mathlib.Core.Bool.{Bool, true, false, ◌&&◌, ◌||◌, true≢false, false≢true, or_comm, or_assoc, or-false}
 use mathlib.Core.List.{List, [], ◌∷◌, ◌++◌}
-use mathlib.Core.Option.{Option, none, some}
+use Rattle.std.specs.Prelude.{Option, None, Some}
 use lib.Dec.{eqb, ltb}
 use lib.ListN.{length, get_or, take, drop, length-append, length-drop}
 use lib.Seq.{get_or-drop, take_at, drop_at, length-take-le, length_front}
@@ -25,17 +25,12 @@ use Rattle.dictionary.specs.Slots.{is_named, is_numbered, line_at, class_of, id_
 use Rattle.dictionary.specs.Places.{implied_clash, idx_named, earlier_meant, number_seen}
 use Rattle.dictionary.specs.Marks.{Sets, is_again, id_bit, asked_of, bad_at, bit_for, class_for, in_class, met_bits, line_number, line_bits, is_line, told_of, class_bits, sought_bits, told_bit, all_bits, Tells, behind, HeldFor}
 use Rattle.dictionary.specs.declared.line.Dictionary.{Dictionary}
-use Rattle.dictionary.specs.declared.line.IdxRead.{IdxRead}
-use Rattle.dictionary.specs.declared.line.IdxRead.TheVariants as idx
 use Rattle.dictionary.specs.declared.numbering.Carried.{Carried}
 use Rattle.dictionary.specs.declared.slots.Class.{Class}
 use Rattle.dictionary.specs.declared.place.Asked.{Asked}
-use Rattle.dictionary.specs.declared.place.Earlier.{Earlier}
-use Rattle.dictionary.specs.declared.place.Earlier.TheVariants as earlier
 use Rattle.dictionary.specs.declared.marking.Sought.{Sought}
 use Rattle.dictionary.specs.declared.marking.Sought.TheVariants.{Ids, Numbers}
-use Rattle.dictionary.proofs.Left.{before_skip, ordinal_few, before_all, ordinal_next, ordinal_below, ordinal_entry}
-use Rattle.entries.proofs.Tables.{room_small}
+use Rattle.dictionary.proofs.Left.{before_skip, before_all, ordinal_next, ordinal_below, ordinal_entry}
 use Rattle.dictionary.proofs.Slotting.{held_start, held_skip, class_below}
 
 -- Any bits
@@ -65,12 +60,12 @@ position j k b l = elim (test (eqb (j / 2) k)) [
 ]
 
 -- what answers the needs of `mark_met`
-module _ (h : Bytes) (indexed : Bool) (bad : ℕ → Bool) (e : CodeEntry) (k : ℕ) {o : Earlier} {ms : List ℕ} where
-  pub met_none : o ≡ earlier.Missing → Sets ms ms (met_bits indexed bad (idx_at h e) (earlier_meant h o) k)
+module _ (h : Bytes) (indexed : Bool) (bad : ℕ → Bool) (e : CodeEntry) (k : ℕ) {o : Option CodeEntry} {ms : List ℕ} where
+  pub met_none : o ≡ None → Sets ms ms (met_bits indexed bad (idx_at h e) (earlier_meant h o) k)
   unfolding met_bits
   met_none eo = sets_none (λ j. rw eo (and_off (eqb (j / 2) k) refl))
 
-  module _ {x : CodeEntry} (eo : o ≡ earlier.Found x) {q : Bool} (eq : q ≡ is_again indexed bad (idx_at h e) (idx_at h x)) {ms' : List ℕ} where
+  module _ {x : CodeEntry} (eo : o ≡ Some x) {q : Bool} (eq : q ≡ is_again indexed bad (idx_at h e) (idx_at h x)) {ms' : List ℕ} where
     pub met_same : q ≡ true → ms' ≡ set_bit ms (2 * k) → Sets ms ms' (met_bits indexed bad (idx_at h e) (earlier_meant h o) k)
     unfolding met_bits
     met_same f em = let z : 2 * k ≡ 2 * k + 0 = omega arith in sets_one (2 * k + 0) (em ∙ ap (set_bit ms) z) (λ j. rw (eo, ← eq, f) (position j k 0 (omega arith)))
@@ -95,16 +90,16 @@ module _ (a : Asked) (h : Bytes) {t : List ℕ} {k : ℕ} {e : CodeEntry} (s : S
         let i : in_class Ids a h t c k ≡ false = rw (← s.is, ← ex, ← eq, f) in
         sets_none (λ j. rw i (and_off (eqb (j / 2) (line_number a h t k)) refl))
 
-    pub id_bits : q ≡ true → (o : Earlier) → earlier_meant h o ≡ idx_named (id_at h e) (lines_before a.dictionary a.form h t k) → {ms ms' : List ℕ}
+    pub id_bits : q ≡ true → (o : Option CodeEntry) → earlier_meant h o ≡ idx_named (id_at h e) (lines_before a.dictionary a.form h t k) → {ms ms' : List ℕ}
         → Sets ms ms' (met_bits a.indexed (implied_clash a.dictionary (id_at h e)) (idx_at h e) (earlier_meant h o) n) → Sets ms ms' (line_bits Ids a h t c k)
     unfolding line_bits met_bits
     id_bits f o eo w =
         let i : in_class Ids a h t c k ≡ true = rw (← s.is, ← ex, ← eq, f) in
         sets_as w (λ j. rw (i, eo, ← en) (ap (λ (z : Bool). eqb (j / 2) n && z) (id_bit_lem (j % 2))))
 
-  module _ {r : IdxRead} (er : idx_meant r ≡ idx_at h e) where
-    module _ (i : r ≡ idx.Missing) {q : Bool} (eq : q ≡ eqb (class_of c.of 0) c.at) where
-      bare : (line_at a.form h t k).idx ≡ none
+  module _ {r : Option ℕ} (er : idx_meant r ≡ idx_at h e) where
+    module _ (i : r ≡ None) {q : Bool} (eq : q ≡ eqb (class_of c.of 0) c.at) where
+      bare : (line_at a.form h t k).idx ≡ None
       bare = rw (← s.is, ← er, i)
 
       pub bare_out : q ≡ false → {ms : List ℕ} → Sets ms ms (line_bits Numbers a h t c k)
@@ -115,8 +110,8 @@ module _ (a : Asked) (h : Bytes) {t : List ℕ} {k : ℕ} {e : CodeEntry} (s : S
       unfolding line_bits
       bare_bits f es = sets_one (2 * n + 1) es (λ j. rw (bare, ← eq, f, ← en) (position j n 1 (omega arith)))
 
-    module _ {y : ℕ} (i : r ≡ idx.Idx y) {x : ℕ} (ex : x ≡ number_hash y) {q : Bool} (eq : q ≡ eqb (class_of c.of x) c.at) where
-      here : (line_at a.form h t k).idx ≡ some y
+    module _ {y : ℕ} (i : r ≡ Some y) {x : ℕ} (ex : x ≡ number_hash y) {q : Bool} (eq : q ≡ eqb (class_of c.of x) c.at) where
+      here : (line_at a.form h t k).idx ≡ Some y
       here = rw (← s.is, ← er, i)
 
       pub number_out : q ≡ false → {ms : List ℕ} → Sets ms ms (line_bits Numbers a h t c k)
@@ -170,6 +165,7 @@ pub ruleset soughts = (held_ids, held_numbers, for_ids, for_numbers, sets_ids, s
 pub record Marked (s : Sought) (c : Class) (a : Asked) (h : Bytes) (t ms₀ ms slots₀ slots : List ℕ) (lines k : ℕ) : Type 0 where
   pub inside : k ≤ room a.form t
   pub all : lines ≡ line_number a h t k
+  pub few : lines ≤ k
   pub size : length slots ≡ length slots₀
   pub bits : Sets ms₀ ms (class_bits s a h t c k)
   pub held : HeldFor s c a h t k slots
@@ -179,6 +175,7 @@ unfolding class_bits entry_lines
 marked_start s c a h t ms o = record {
   inside = omega arith;
   all = refl;
+  few = omega arith;
   size = refl;
   bits = sets_none (λ j. rw (le-ltb (j / 2) 0 (omega arith)));
   held = record {
@@ -192,9 +189,6 @@ module _ {s : Sought} {c : Class} {a : Asked} {h : Bytes} {t ms₀ ms slots₀ s
   pub marked_end : n ≤ k → Sets ms₀ ms (class_bits s a h t c (room a.form t))
   marked_end l = let e : k ≡ room a.form t = omega (arith, g.inside, en) in rw (← e) g.bits
 
-  pub marked_fits : k < n → length t < 18446744073709551616 → lines + 1 < 18446744073709551616
-  marked_fits l small = omega (arith, room_small a.form t, ordinal_few a.dictionary a.form h t k g.inside, g.all, en)
-
   module _ (l : k < n) {e : CodeEntry} (ee : entry_of e ≡ entry_in a.form t k) {q : Bool} (eq : q ≡ holds a.dictionary e.kind) where
     pub marked_skip : q ≡ false → Marked s c a h t ms₀ ms slots₀ slots lines (k + 1)
     unfolding class_bits
@@ -203,6 +197,7 @@ module _ {s : Sought} {c : Class} {a : Asked} {h : Bytes} {t ms₀ ms slots₀ s
         record {
           inside = omega (arith, l, en);
           all = g.all ∙ rw b;
+          few = omega (arith, g.few);
           size = g.size;
           bits = sets_as g.bits (λ j. rw b);
           held = record { ids = λ i. held_skip b (g.held.ids i); numbers = λ i. held_skip b (g.held.numbers i) };
@@ -237,6 +232,7 @@ module _ {s : Sought} {c : Class} {a : Asked} {h : Bytes} {t ms₀ ms slots₀ s
       marked_next w u z = record {
         inside = omega (arith, l, en);
         all = omega (arith, g.all, one_more);
+        few = omega (arith, g.few);
         size = z ∙ g.size;
         bits = sets_then g.bits w next_bits;
         held = u;
@@ -252,7 +248,7 @@ module _ {s : Sought} {c : Class} {a : Asked} {h : Bytes} {t ms₀ ms slots₀ s
   pub marked_lines : lines ≡ line_number a h t k
   marked_lines = g.all
 
-pub ruleset markeds = (marked_start, marked_end, marked_fits, marked_skip, marked_next, marked_stands, marked_held, marked_lines)
+pub ruleset markeds = (marked_start, marked_end, marked_skip, marked_next, marked_stands, marked_held, marked_lines)
 
 -- The loop over the classes
 
@@ -297,8 +293,8 @@ module _ (a : Asked) (h : Bytes) (t : List ℕ) {ms ms' : List ℕ} (of : ℕ) (
   below Numbers k = go (line_at a.form h t k).idx
     where
       go : (o : Option ℕ) → ltb (class_for Numbers of (record { entry = k; id = (line_at a.form h t k).id; idx = o })) of ≡ true
-      go none = lt-ltb _ of (class_below of 0 l)
-      go (some n) = lt-ltb _ of (class_below of (number_hash n) l)
+      go None = lt-ltb _ of (class_below of 0 l)
+      go (Some n) = lt-ltb _ of (class_below of (number_hash n) l)
 
   only : (i p x y : Bool) → i ≡ false → (p && (x || (i && y))) ≡ (p && x)
   only true p x y e = absurd (true≢false e)
@@ -396,8 +392,8 @@ module _ (n : ℕ) (ms : List ℕ) (l : n ≤ length ms) (e : List ℕ) where
       let d : drop n (take n ms ++ (e ++ post)) ≡ e ++ post = drop_at (take n ms) (e ++ post) n f in
       let rest = length-drop n ms in
       let own : length e ≡ length ms - n = z ∙ length-take-le (length ms - n) (drop n ms) (omega (arith, rest)) in
-      let none : length post ≡ 0 = omega (arith, rest, length-drop (length ms - n) (drop n ms)) in
-      let m : length (take n ms ++ (e ++ post)) ≡ length ms = omega (arith, f, own, none, l, length-append (take n ms) (e ++ post), length-append e post) in
+      let None : length post ≡ 0 = omega (arith, rest, length-drop (length ms - n) (drop n ms)) in
+      let m : length (take n ms ++ (e ++ post)) ≡ length ms = omega (arith, f, own, None, l, length-append (take n ms) (e ++ post), length-append e post) in
       tells_as (rw (d, m) (take_at e post (length ms - n) own)) w
 
 pub ruleset parts = (front_open, behind_open, tells_as)

@@ -1,4 +1,5 @@
 -- The loops over a dictionary's entries, a turn of each on plain values. Assumes nothing.
+use Rattle.std.specs.Prelude.{Option, Some, None}
 use Prim.Native.Nat.{ℕ, suc, ◌+◌, ◌-◌, ◌*◌, ◌/◌, ◌^◌, ◌<◌, ◌≤◌}
 use native.Mathlib.Omega.{arith}
 use native.Mathlib.Numerals.{add-one}
@@ -23,15 +24,10 @@ use Rattle.dictionary.specs.Slots.{StandsAt}
 use Rattle.dictionary.specs.Pairs.{carried_by, EndsLines, put_pair, first_number, Counts, turn_of, turn_out, Uniform, numbering_of, NumbersLines}
 use Rattle.dictionary.specs.declared.line.Dictionary.{Dictionary}
 use Rattle.dictionary.specs.declared.line.Dictionary.TheVariants.{Strings, Contigs}
-use Rattle.dictionary.specs.declared.line.IdxRead.{IdxRead}
-use Rattle.dictionary.specs.declared.line.IdxRead.TheVariants as idx
 use Rattle.dictionary.specs.declared.place.Placed.{Placed}
 use Rattle.dictionary.specs.declared.place.Placed.TheVariants.{Numbered as Given, Due, Again, Clash}
 use Rattle.dictionary.specs.declared.numbering.Carried.{Carried}
 use Rattle.dictionary.specs.declared.numbering.Count.{Count}
-use Rattle.dictionary.specs.declared.numbering.Turn.{Turn}
-use Rattle.dictionary.specs.declared.numbering.Turn.TheVariants as turn
-use Rattle.dictionary.specs.declared.numbering.Numbering.TheVariants as numbering
 use Rattle.dictionary.proofs.Firsts.{ids, first_new, first_old, onto, in_onto, onto_append}
 use Rattle.dictionary.proofs.Left.{left, left_end, left_skip, left_take, split_at, before_skip, before_take, before_all}
 use Rattle.dictionary.proofs.Verdicts.{Mode, VerdictIs, verdict, mode_start, mode_end}
@@ -70,8 +66,8 @@ module _ {d : Dictionary} {form : Form} {h : Bytes} {t : List ℕ} {given missin
     one_more : q ≡ true → length (table_lines d form h t) ≡ lines + 1 + length (left d form h t (k + 1))
     one_more f = omega (arith, g.all ∙ ap (λ (ls : List Line). lines + length ls) (left_take d form h t k en l ee eq f))
 
-    module _ (f : q ≡ true) {r : IdxRead} (er : idx_meant r ≡ idx_at h e) where
-      pub carry_given : {m : ℕ} → r ≡ idx.Idx m → Carrying d form h t true missing (lines + 1) (k + 1)
+    module _ (f : q ≡ true) {r : Option ℕ} (er : idx_meant r ≡ idx_at h e) where
+      pub carry_given : {m : ℕ} → r ≡ Some m → Carrying d form h t true missing (lines + 1) (k + 1)
       unfolding any_of
       carry_given {m} i = let s = left_take d form h t k en l ee eq f in record {
         with_idx = g.with_idx ∙ rw (s, ← er, i) (on given (any_of carries (left d form h t (k + 1))));
@@ -80,7 +76,7 @@ module _ {d : Dictionary} {form : Form} {h : Bytes} {t : List ℕ} {given missin
         few = omega (arith, g.few);
       }
 
-      pub carry_missing : r ≡ idx.Missing → Carrying d form h t given true (lines + 1) (k + 1)
+      pub carry_missing : r ≡ None → Carrying d form h t given true (lines + 1) (k + 1)
       unfolding any_of
       carry_missing i = let s = left_take d form h t k en l ee eq f in record {
         with_idx = g.with_idx ∙ rw (s, ← er, i);
@@ -193,16 +189,16 @@ module _ {d : Dictionary} {indexed : Bool} {ls before : List Line} (l : Line) {l
 
 -- what answers the needs of `take_place`
 module _ (c : Count) (out : List ℕ) (entry : ℕ) (p : Placed) where
-  pub turn_given : {x : ℕ} → p ≡ Given x → turn.Next (record { pairs = c.pairs + 1; next = c.next }) ≡ turn_of c p
+  pub turn_given : {x : ℕ} → p ≡ Given x → Some (record { pairs = c.pairs + 1; next = c.next }) ≡ turn_of c p
   turn_given i = rw i
 
-  pub turn_due : p ≡ Due → turn.Next (record { pairs = c.pairs + 1; next = c.next + 1 }) ≡ turn_of c p
+  pub turn_due : p ≡ Due → Some (record { pairs = c.pairs + 1; next = c.next + 1 }) ≡ turn_of c p
   turn_due i = rw i
 
-  pub turn_again : p ≡ Again → turn.Next (record { pairs = c.pairs; next = c.next }) ≡ turn_of c p
+  pub turn_again : p ≡ Again → Some (record { pairs = c.pairs; next = c.next }) ≡ turn_of c p
   turn_again i = rw i
 
-  pub turn_clash : p ≡ Clash → turn.Clash ≡ turn_of c p
+  pub turn_clash : p ≡ Clash → None ≡ turn_of c p
   turn_clash i = rw i
 
   pub out_given : {x : ℕ} → p ≡ Given x → {o : List ℕ} → o ≡ put_pair out c.pairs entry x → o ≡ turn_out out entry c p
@@ -239,7 +235,7 @@ same_out out entry c false e Again = refl
 same_out out entry c false e Clash = refl
 
 module _ (c : Count) (needed : Bool) (p : Placed) {r : Placed} (er : r ≡ place_if needed p) where
-  pub placed_turn : {x : Turn} → x ≡ turn_of c r → x ≡ turn_of c p
+  pub placed_turn : {x : Option Count} → x ≡ turn_of c r → x ≡ turn_of c p
   placed_turn e = e ∙ ap (turn_of c) er ∙ same_turn c needed p
 
   pub placed_out : (out : List ℕ) (entry : ℕ) → needed ≡ ltb c.pairs (length out / 2) → {o : List ℕ} → o ≡ turn_out out entry c r → o ≡ turn_out out entry c p
@@ -288,7 +284,7 @@ module _ {d : Dictionary} {indexed : Bool} {form : Form} {h : Bytes} {t out₀ o
   abbrev Goes : List Line → List Line → List ℕ → ℕ → ℕ → Type 0
   Goes bs rs o m' next' = Going d indexed ls bs rs out₀ o m' next'
 
-  pub progress_end : n ≤ k → NumbersLines d indexed ls out₀ (numbering.Pairs c.pairs) out
+  pub progress_end : n ≤ k → NumbersLines d indexed ls out₀ (Some c.pairs) out
   unfolding numbering_of first_lines pair_words
   progress_end l =
       let e = left_end d form h t k en l in
@@ -344,9 +340,9 @@ module _ {d : Dictionary} {indexed : Bool} {form : Form} {h : Bytes} {t out₀ o
           told = verdict d ls (lines_before d form h t k) line (left d form h t (k + 1)) indexed u split c.next going.mode
 
         -- what the turn leaves, by the line's place
-        abbrev Leaves : Placed → Turn → List ℕ → Type 0
-        Leaves p (turn.Next c') o = Progress d indexed form h t out₀ o c' (lines + 1) (k + 1)
-        Leaves p turn.Clash o = NumbersLines d indexed ls out₀ numbering.Clash o
+        abbrev Leaves : Placed → Option Count → List ℕ → Type 0
+        Leaves p (Some c') o = Progress d indexed form h t out₀ o c' (lines + 1) (k + 1)
+        Leaves p None o = NumbersLines d indexed ls out₀ None o
 
         all_more : lines + 1 ≡ ordinal d form h t (k + 1)
         all_more = omega (arith, g.all, ap length before_more ∙ length-append (lines_before d form h t k) (line ∷ []))
@@ -380,14 +376,14 @@ module _ {d : Dictionary} {indexed : Bool} {form : Form} {h : Bytes} {t out₀ o
         leaves Clash i = record { is = λ w. let v = rw i at (told w) in rw v; output = λ w z. let v = rw i at (told w) in absurd (true≢false (sym v ∙ z)) }
 
         -- r and o are what it was left with
-        module _ {r : Turn} (er : r ≡ turn_of c placed) {o : List ℕ} (eo : o ≡ turn_out out k c placed) where
+        module _ {r : Option Count} (er : r ≡ turn_of c placed) {o : List ℕ} (eo : o ≡ turn_out out k c placed) where
           left_with : Leaves placed r o
           left_with = rw (er, eo) (leaves placed refl)
 
-          pub progress_clash : r ≡ turn.Clash → NumbersLines d indexed ls out₀ numbering.Clash o
+          pub progress_clash : r ≡ None → NumbersLines d indexed ls out₀ None o
           progress_clash i = rw i at left_with
 
-          pub progress_next : {c' : Count} → r ≡ turn.Next c' → Progress d indexed form h t out₀ o c' (lines + 1) (k + 1)
+          pub progress_next : {c' : Count} → r ≡ Some c' → Progress d indexed form h t out₀ o c' (lines + 1) (k + 1)
           progress_next i = rw i at left_with
 
 pub progress_lines : {d : Dictionary} {indexed : Bool} {form : Form} {h : Bytes} {t out₀ out : List ℕ} {c : Count} {lines k : ℕ} → Progress d indexed form h t out₀ out c lines k → lines ≡ ordinal d form h t k

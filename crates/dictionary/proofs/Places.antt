@@ -4,7 +4,7 @@ use native.Mathlib.Omega.{arith}
 use mathlib.Core.Path.{◌≡◌, refl, sym, ap, ◌∙◌}
 use mathlib.Core.Bool.{Bool, true, false, not, ◌||◌, ◌&&◌, or-false, true≢false, false≢true}
 use mathlib.Core.List.{List}
-use mathlib.Core.Option.{Option, none, some}
+use Rattle.std.specs.Prelude.{Option, None, Some}
 use lib.Dec.{eqb}
 use lib.ListN.{length}
 use Rattle.values.specs.Bytes.{Bytes, ascii, same}
@@ -25,10 +25,6 @@ use Rattle.dictionary.specs.Places.{idx_named, earlier_meant, number_seen, seen_
 use Rattle.dictionary.specs.Marks.{met_bit, is_again, id_bit, number_bit, named_before, bad_at, line_number, Tells, beside_met, beside_new, beside_by, beside_at}
 use Rattle.dictionary.specs.declared.line.Dictionary.{Dictionary}
 use Rattle.dictionary.specs.declared.line.Dictionary.TheVariants.{Strings, Contigs}
-use Rattle.dictionary.specs.declared.line.IdxRead.{IdxRead}
-use Rattle.dictionary.specs.declared.line.IdxRead.TheVariants as idx
-use Rattle.dictionary.specs.declared.place.Earlier.{Earlier}
-use Rattle.dictionary.specs.declared.place.Earlier.TheVariants as earlier
 use Rattle.dictionary.specs.declared.place.Asked.{Asked}
 use Rattle.dictionary.specs.declared.place.Beside.{Beside}
 use Rattle.dictionary.specs.declared.place.Beside.TheVariants as beside
@@ -48,7 +44,7 @@ pub find_start : {d : Dictionary} {form : Form} {h : Bytes} {t : List ℕ} {y : 
 find_start = record { still = refl }
 
 module _ {d : Dictionary} {form : Form} {h : Bytes} {t : List ℕ} {y : CodeEntry} {k : ℕ} (g : Finding d form h t y k) {n : ℕ} (en : n ≡ room form t) where
-  pub find_end : n ≤ k → none ≡ idx_named (id_at h y) (table_lines d form h t)
+  pub find_end : n ≤ k → None ≡ idx_named (id_at h y) (table_lines d form h t)
   unfolding idx_first
   find_end l = sym (g.still ∙ ap (idx_named (id_at h y)) (left_end d form h t k en l))
 
@@ -58,24 +54,24 @@ module _ {d : Dictionary} {form : Form} {h : Bytes} {t : List ℕ} {y : CodeEntr
 
     module _ (f : q ≡ true) {p : Bytes} (ep : p ≡ id_in h (entry_of e)) {i : Bytes} (ei : i ≡ id_in h (entry_of y))
         {s : Bool} (es : s ≡ same (meaning e.quoted p) (meaning y.quoted i)) where
-      find_turn : idx_named (id_at h y) (table_lines d form h t) ≡ elim s [ true ↦ some (idx_at h e) | false ↦ idx_named (id_at h y) (left d form h t (k + 1)) ]
+      find_turn : idx_named (id_at h y) (table_lines d form h t) ≡ elim s [ true ↦ Some (idx_at h e) | false ↦ idx_named (id_at h y) (left d form h t (k + 1)) ]
       unfolding idx_first
       find_turn = let i : same (id_at h e) (id_at h y) ≡ s = sym (es ∙ rw (ep, ei)) in g.still ∙ ap (idx_named (id_at h y)) (left_take d form h t k en l ee eq f) ∙ rw (idx_first, i)
 
       pub find_other : s ≡ false → Finding d form h t y (k + 1)
       find_other u = record { still = find_turn ∙ rw u }
 
-      pub find_here : s ≡ true → some (idx_at h e) ≡ idx_named (id_at h y) (table_lines d form h t)
+      pub find_here : s ≡ true → Some (idx_at h e) ≡ idx_named (id_at h y) (table_lines d form h t)
       find_here u = sym (find_turn ∙ rw u)
 
 pub ruleset finds = (find_start, find_end, find_skip, find_other, find_here)
 
 -- what answers the needs of `has_idx`
-module _ (h : Bytes) (e : CodeEntry) (n : ℕ) {r : IdxRead} (er : idx_meant r ≡ idx_at h e) where
-  pub no_idx : r ≡ idx.Missing → false ≡ is_idx n (idx_at h e)
+module _ (h : Bytes) (e : CodeEntry) (n : ℕ) {r : Option ℕ} (er : idx_meant r ≡ idx_at h e) where
+  pub no_idx : r ≡ None → false ≡ is_idx n (idx_at h e)
   no_idx q = rw (← er, q)
 
-  pub idx_tested : {m : ℕ} → r ≡ idx.Idx m → eqb m n ≡ is_idx n (idx_at h e)
+  pub idx_tested : {m : ℕ} → r ≡ Some m → eqb m n ≡ is_idx n (idx_at h e)
   idx_tested q = rw (← er, q)
 
 pub ruleset idxs = (no_idx, idx_tested)
@@ -138,11 +134,11 @@ module _ (h : Bytes) (indexed : Bool) (bad : ℕ → Bool) (e x : CodeEntry) whe
   pub again_always : indexed ≡ false → true ≡ is_again indexed bad (idx_at h e) (idx_at h x)
   again_always f = rw f
 
-  module _ (f : indexed ≡ true) {r : IdxRead} (er : idx_meant r ≡ idx_at h e) where
-    pub again_never : r ≡ idx.Missing → false ≡ is_again indexed bad (idx_at h e) (idx_at h x)
+  module _ (f : indexed ≡ true) {r : Option ℕ} (er : idx_meant r ≡ idx_at h e) where
+    pub again_never : r ≡ None → false ≡ is_again indexed bad (idx_at h e) (idx_at h x)
     again_never q = rw (f, ← er, q)
 
-    module _ {n : ℕ} (q : r ≡ idx.Idx n) {c : Bool} (ec : c ≡ bad n) where
+    module _ {n : ℕ} (q : r ≡ Some n) {c : Bool} (ec : c ≡ bad n) where
       pub again_bad : c ≡ true → false ≡ is_again indexed bad (idx_at h e) (idx_at h x)
       again_bad g = rw (f, ← er, q, ← ec, g)
 
@@ -153,39 +149,39 @@ pub ruleset agains = (again_always, again_never, again_bad, again_tested)
 
 -- of `place_new`
 module _ (h : Bytes) (e : CodeEntry) (indexed : Bool) (bad taken : ℕ → Bool) where
-  new_counted_lem : (i : Option ℕ) → New ≡ beside_by false bad i none taken
+  new_counted_lem : (i : Option ℕ) → New ≡ beside_by false bad i None taken
   new_counted_lem i = refl
 
-  pub met_counted : indexed ≡ false → New ≡ beside_by indexed bad (idx_at h e) none taken
+  pub met_counted : indexed ≡ false → New ≡ beside_by indexed bad (idx_at h e) None taken
   met_counted f = new_counted_lem (idx_at h e) ∙ rw f
 
-  module _ (f : indexed ≡ true) {r : IdxRead} (er : idx_meant r ≡ idx_at h e) where
-    pub met_bare : r ≡ idx.Missing → beside.Clash ≡ beside_by indexed bad (idx_at h e) none taken
+  module _ (f : indexed ≡ true) {r : Option ℕ} (er : idx_meant r ≡ idx_at h e) where
+    pub met_bare : r ≡ None → beside.Clash ≡ beside_by indexed bad (idx_at h e) None taken
     met_bare q = rw (f, ← er, q)
 
-    module _ {n : ℕ} (q : r ≡ idx.Idx n) {m : Bool} (em : m ≡ taken n) where
-      pub met_taken : m ≡ true → beside.Clash ≡ beside_by indexed bad (idx_at h e) none taken
+    module _ {n : ℕ} (q : r ≡ Some n) {m : Bool} (em : m ≡ taken n) where
+      pub met_taken : m ≡ true → beside.Clash ≡ beside_by indexed bad (idx_at h e) None taken
       met_taken g = rw (f, ← er, q, ← em, g)
 
       module _ (g : m ≡ false) {c : Bool} (ec : c ≡ bad n) where
-        pub met_bad : c ≡ true → beside.Clash ≡ beside_by indexed bad (idx_at h e) none taken
+        pub met_bad : c ≡ true → beside.Clash ≡ beside_by indexed bad (idx_at h e) None taken
         met_bad z = rw (f, ← er, q, ← em, g, ← ec, z)
 
-        pub met_free : c ≡ false → New ≡ beside_by indexed bad (idx_at h e) none taken
+        pub met_free : c ≡ false → New ≡ beside_by indexed bad (idx_at h e) None taken
         met_free z = rw (f, ← er, q, ← em, g, ← ec, z)
 
 pub ruleset mets = (met_counted, met_bare, met_taken, met_bad, met_free)
 
 -- of `search_beside`
-module _ (h : Bytes) (e : CodeEntry) (indexed : Bool) (bad taken : ℕ → Bool) {o : Earlier} {found : Option (Option ℕ)} (eo : earlier_meant h o ≡ found) where
-  module _ {x : CodeEntry} (q : o ≡ earlier.Found x) {m : Bool} (em : m ≡ is_again indexed bad (idx_at h e) (idx_at h x)) where
+module _ (h : Bytes) (e : CodeEntry) (indexed : Bool) (bad taken : ℕ → Bool) {o : Option CodeEntry} {found : Option (Option ℕ)} (eo : earlier_meant h o ≡ found) where
+  module _ {x : CodeEntry} (q : o ≡ Some x) {m : Bool} (em : m ≡ is_again indexed bad (idx_at h e) (idx_at h x)) where
     pub search_again : m ≡ true → beside.Again ≡ beside_by indexed bad (idx_at h e) found taken
     search_again f = rw (← eo, q, ← em, f)
 
     pub search_clash : m ≡ false → beside.Clash ≡ beside_by indexed bad (idx_at h e) found taken
     search_clash f = rw (← eo, q, ← em, f)
 
-  pub search_new : o ≡ earlier.Missing → {r : Beside} → r ≡ beside_by indexed bad (idx_at h e) none taken → r ≡ beside_by indexed bad (idx_at h e) found taken
+  pub search_new : o ≡ None → {r : Beside} → r ≡ beside_by indexed bad (idx_at h e) None taken → r ≡ beside_by indexed bad (idx_at h e) found taken
   search_new q er = er ∙ rw (← eo, q)
 
 pub ruleset searches = (search_again, search_clash, search_new)
@@ -196,8 +192,8 @@ bit_by : Bool → (ℕ → Bool) → Option ℕ → Option (Option ℕ) → (ℕ
 bit_by indexed bad i o taken b = id_bit indexed bad i o b || (indexed && number_bit bad i taken b)
 
 number_bare : (bad : ℕ → Bool) (i : Option ℕ) (taken : ℕ → Bool) → number_bit bad i taken 0 ≡ false
-number_bare bad none taken = refl
-number_bare bad (some n) taken = and_off (taken n || bad n) refl
+number_bare bad None taken = refl
+number_bare bad (Some n) taken = and_off (taken n || bad n) refl
 
 module _ (indexed : Bool) (bad : ℕ → Bool) (i : Option ℕ) (taken : ℕ → Bool) where
   first_bit : (o : Option (Option ℕ)) → bit_by indexed bad i o taken 0 ≡ id_bit indexed bad i o 0
@@ -205,15 +201,15 @@ module _ (indexed : Bool) (bad : ℕ → Bool) (i : Option ℕ) (taken : ℕ →
   first_bit o = rw (number_bare bad i taken, and_off indexed refl) (or-false (id_bit indexed bad i o 0))
 
   by_again : (o : Option (Option ℕ)) → bit_by indexed bad i o taken 0 ≡ true → beside.Again ≡ beside_by indexed bad i o taken
-  by_again none e = absurd (false≢true (sym (first_bit none) ∙ e))
-  by_again (some m) e = go (is_again indexed bad i m) (sym (first_bit (some m)) ∙ e)
+  by_again None e = absurd (false≢true (sym (first_bit None) ∙ e))
+  by_again (Some m) e = go (is_again indexed bad i m) (sym (first_bit (Some m)) ∙ e)
     where
       go : (q : Bool) → eqb 0 (met_bit q) ≡ true → beside.Again ≡ beside_met q
       go true f = refl
       go false f = absurd (false≢true f)
 
-  met_not : (m : Option ℕ) → bit_by indexed bad i (some m) taken 0 ≡ false → is_again indexed bad i m ≡ false
-  met_not m e = go (is_again indexed bad i m) (sym (first_bit (some m)) ∙ e)
+  met_not : (m : Option ℕ) → bit_by indexed bad i (Some m) taken 0 ≡ false → is_again indexed bad i m ≡ false
+  met_not m e = go (is_again indexed bad i m) (sym (first_bit (Some m)) ∙ e)
     where
       go : (q : Bool) → eqb 0 (met_bit q) ≡ false → q ≡ false
       go true f = absurd (true≢false f)
@@ -221,16 +217,16 @@ module _ (indexed : Bool) (bad : ℕ → Bool) (i : Option ℕ) (taken : ℕ →
 
   by_second : (b : Bool) (o : Option (Option ℕ)) → bit_by indexed bad i o taken 0 ≡ false → bit_by indexed bad i o taken 1 ≡ b → beside_new b ≡ beside_by indexed bad i o taken
   unfolding bit_by
-  by_second b (some m) e f =
+  by_second b (Some m) e f =
       let q = met_not m e in
       let t : true ≡ b = sym (rw q) ∙ f in
       rw (← t, q)
-  by_second b none e f = go indexed i f
+  by_second b None e f = go indexed i f
     where
-      go : (x : Bool) (y : Option ℕ) → (false || (x && number_bit bad y taken 1)) ≡ b → beside_new b ≡ beside_by x bad y none taken
+      go : (x : Bool) (y : Option ℕ) → (false || (x && number_bit bad y taken 1)) ≡ b → beside_new b ≡ beside_by x bad y None taken
       go false y z = rw (← z)
-      go true none z = rw (← z)
-      go true (some n) z = let w : (taken n || bad n) ≡ b = sym (and_on (taken n || bad n)) ∙ z in rw w
+      go true None z = rw (← z)
+      go true (Some n) z = let w : (taken n || bad n) ≡ b = sym (and_on (taken n || bad n)) ∙ z in rw w
 
 -- what answers the needs of `find_beside`
 module _ (a : Asked) (h : Bytes) {t : List ℕ} {k : ℕ} {e : CodeEntry} (s : StandsAt a.dictionary a.form t k e) where
@@ -281,20 +277,20 @@ pub ruleset besides = (beside_far, beside_again, beside_clash, beside_new_lem)
 
 -- of `place_indexed`
 as_again : (needed : Bool) (i : Option ℕ) → Again ≡ place_if needed (indexed_beside i beside.Again)
-as_again true none = refl
-as_again true (some n) = refl
-as_again false none = refl
-as_again false (some n) = refl
+as_again true None = refl
+as_again true (Some n) = refl
+as_again false None = refl
+as_again false (Some n) = refl
 
 as_clash : (needed : Bool) (i : Option ℕ) → Clash ≡ place_if needed (indexed_beside i beside.Clash)
-as_clash true none = refl
-as_clash true (some n) = refl
-as_clash false none = refl
-as_clash false (some n) = refl
+as_clash true None = refl
+as_clash true (Some n) = refl
+as_clash false None = refl
+as_clash false (Some n) = refl
 
 as_new : (i : Option ℕ) → Numbered 0 ≡ place_if false (indexed_beside i New)
-as_new none = refl
-as_new (some n) = refl
+as_new None = refl
+as_new (Some n) = refl
 
 module _ (h : Bytes) (e : CodeEntry) {b : Beside} (needed : Bool) where
   pub index_again : b ≡ beside.Again → Again ≡ place_if needed (indexed_beside (idx_at h e) b)
@@ -307,11 +303,11 @@ module _ (h : Bytes) (e : CodeEntry) {b : Beside} (needed : Bool) where
     pub index_unneeded : needed ≡ false → Numbered 0 ≡ place_if needed (indexed_beside (idx_at h e) b)
     index_unneeded f = rw (g, f) (as_new (idx_at h e))
 
-    module _ (f : needed ≡ true) {r : IdxRead} (er : idx_meant r ≡ idx_at h e) where
-      pub index_missing : r ≡ idx.Missing → Numbered 0 ≡ place_if needed (indexed_beside (idx_at h e) b)
+    module _ (f : needed ≡ true) {r : Option ℕ} (er : idx_meant r ≡ idx_at h e) where
+      pub index_missing : r ≡ None → Numbered 0 ≡ place_if needed (indexed_beside (idx_at h e) b)
       index_missing q = rw (g, f, ← er, q)
 
-      pub index_new : {n : ℕ} → r ≡ idx.Idx n → Numbered n ≡ place_if needed (indexed_beside (idx_at h e) b)
+      pub index_new : {n : ℕ} → r ≡ Some n → Numbered n ≡ place_if needed (indexed_beside (idx_at h e) b)
       index_new q = rw (g, f, ← er, q)
 
 pub ruleset indexeds = (index_again, index_clash, index_unneeded, index_missing, index_new)
@@ -336,16 +332,16 @@ pub ruleset counteds = (counted_again, counted_clash, counted_zero, counted_due)
 -- of `place_line`
 indexed_as_lem : (d : Dictionary) (x : Bytes) (i : Option ℕ) (o : Option (Option ℕ)) (taken : ℕ → Bool)
     → indexed_beside i (beside_by true (implied_clash d x) i o taken) ≡ indexed_place d x i o taken
-indexed_as_lem d x none none taken = refl
-indexed_as_lem d x none (some m) taken = refl
-indexed_as_lem d x (some n) none taken = go (taken n) (implied_clash d x n)
+indexed_as_lem d x None None taken = refl
+indexed_as_lem d x None (Some m) taken = refl
+indexed_as_lem d x (Some n) None taken = go (taken n) (implied_clash d x n)
   where
     go : (q c : Bool) → beside_place n (beside_new (q || c)) ≡ elim c [ true ↦ Clash | false ↦ new_place n q ]
     go true true = refl
     go true false = refl
     go false true = refl
     go false false = refl
-indexed_as_lem d x (some n) (some m) taken = go (is_idx n m) (implied_clash d x n)
+indexed_as_lem d x (Some n) (Some m) taken = go (is_idx n m) (implied_clash d x n)
   where
     go : (q c : Bool) → beside_place n (beside_met (not c && q)) ≡ elim c [ true ↦ Clash | false ↦ again_place q ]
     go q true = refl
@@ -353,12 +349,12 @@ indexed_as_lem d x (some n) (some m) taken = go (is_idx n m) (implied_clash d x 
     go false false = refl
 
 counted_as_lem : (needed i : Bool) (bad : ℕ → Bool) (x : Option ℕ) (o : Option (Option ℕ)) (taken : ℕ → Bool) → counted_beside i (beside_by false bad x o taken) ≡ place_if needed (counted_place i o)
-counted_as_lem true i bad x (some m) taken = refl
-counted_as_lem true true bad x none taken = refl
-counted_as_lem true false bad x none taken = refl
-counted_as_lem false i bad x (some m) taken = refl
-counted_as_lem false true bad x none taken = refl
-counted_as_lem false false bad x none taken = refl
+counted_as_lem true i bad x (Some m) taken = refl
+counted_as_lem true true bad x None taken = refl
+counted_as_lem true false bad x None taken = refl
+counted_as_lem false i bad x (Some m) taken = refl
+counted_as_lem false true bad x None taken = refl
+counted_as_lem false false bad x None taken = refl
 
 module _ (a : Asked) (h : Bytes) {t : List ℕ} {k : ℕ} {e : CodeEntry} (s : StandsAt a.dictionary a.form t k e) {b : Beside} (eb : b ≡ beside_at a h t k) (needed : Bool) where
   abbrev ahead : List Line

@@ -3,7 +3,7 @@ use Prim.Native.Nat.{ℕ, ◌+◌}
 use mathlib.Core.Path.{◌≡◌, refl, sym, ap, ap₂, ◌∙◌}
 use mathlib.Core.Bool.{Bool, true, false, true≢false}
 use mathlib.Core.List.{List, [], ◌∷◌, ◌++◌, map}
-use mathlib.Core.Option.{Option}
+use Rattle.std.specs.Prelude.{Option}
 use lib.ListN.{length}
 use Rattle.values.specs.Bytes.{Bytes, ascii, same}
 use Rattle.values.specs.Field.{Field}
@@ -62,7 +62,7 @@ keyed_by d k h = elim (test (same k (ascii "INFO"))) [
     | fail b ↦ elim (test (same k (ascii "FORMAT"))) [
       | pass c ↦ format (same_sound k (ascii "FORMAT") c)
       | fail c ↦ elim (test (same k (ascii "ALT"))) [
-        | pass e ↦ absurd (true≢false (sym h ∙ rw (kind_of, a, b, c, e) (none d)))
+        | pass e ↦ absurd (true≢false (sym h ∙ rw (kind_of, a, b, c, e) (None d)))
         | fail e ↦ elim (test (same k (ascii "contig"))) [
           | pass f ↦ sequence (same_sound k (ascii "contig") f)
           | fail f ↦ absurd (true≢false (sym h ∙ rw (kind_of, a, b, c, e, f) (last d)))
@@ -72,9 +72,9 @@ keyed_by d k h = elim (test (same k (ascii "INFO"))) [
   ]
 ]
   where
-    none : (d : Dictionary) → belongs d ALT ≡ false
-    none Strings = refl
-    none Contigs = refl
+    None : (d : Dictionary) → belongs d ALT ≡ false
+    None Strings = refl
+    None Contigs = refl
 
     last : (d : Dictionary) → belongs d other ≡ false
     last Strings = refl
@@ -118,11 +118,11 @@ module _ (lim : Limits) (h : Bytes) (v : Version) (d : Dictionary) where
         kind = rw s.kind (holds_kind d (kind_of k));
         line = λ b. ap₂ (λ (x : Bytes) (i : Option ℕ). record { entry = n; id = x; idx = i }) s.id (idx_is k fs e (keyed_by d k b) row.line row.read s.line s.kind);
       }
-  row_same n e (text k t) row g = record { kind = rw row.entry (none d); line = λ b. absurd (true≢false (sym b)) }
+  row_same n e (text k t) row g = record { kind = rw row.entry (None d); line = λ b. absurd (true≢false (sym b)) }
     where
-      none : (d : Dictionary) → holds d text_kind ≡ false
-      none Strings = refl
-      none Contigs = refl
+      None : (d : Dictionary) → holds d text_kind ≡ false
+      None Strings = refl
+      None Contigs = refl
 
   picked : (q : Bool) {x y : Line} {xs ys : List Line} → (q ≡ true → x ≡ y) → xs ≡ ys → line_if q x xs ≡ line_if q y ys
   picked true f e = ap₂ ◌∷◌ (f refl) e

@@ -5,7 +5,7 @@ use native.Mathlib.Nat.{mod-lt}
 use mathlib.Core.Path.{◌≡◌, refl, sym, ap, subst, ◌∙◌}
 use mathlib.Core.Bool.{Bool, true, false, true≢false, false≢true}
 use mathlib.Core.List.{List, [], ◌∷◌, ◌++◌}
-use mathlib.Core.Option.{Option, none, some}
+use Rattle.std.specs.Prelude.{Option, None, Some}
 use lib.Dec.{eqb, ltb}
 use lib.ListN.{length, get_or, set, replicate, length-set}
 use lib.Seq.{get_or-set_same, get_or-set_other}
@@ -30,8 +30,6 @@ use Rattle.dictionary.specs.Lines.{entry_lines, lines_before, ordinal, table_lin
 use Rattle.dictionary.specs.Slots.{idx_first, is_named, is_numbered, slot_by, class_of, id_hash, number_hash, id_slot, number_slot, AllOpen, line_at, NoneIn, Passed, LookedIs, Looks, Held, HeldAt, StandsAt, Stands}
 use Rattle.dictionary.specs.Places.{idx_named, number_seen}
 use Rattle.dictionary.specs.declared.line.Dictionary.{Dictionary}
-use Rattle.dictionary.specs.declared.line.IdxRead.{IdxRead}
-use Rattle.dictionary.specs.declared.line.IdxRead.TheVariants as idx
 use Rattle.dictionary.specs.declared.slots.Class.{Class}
 use Rattle.dictionary.specs.declared.slots.Looked.{Looked}
 use Rattle.dictionary.specs.declared.slots.Looked.TheVariants.{Found, Open, Full}
@@ -173,21 +171,21 @@ pub ruleset looks = (pass_start, id_start_lem, pass_end, pass_open, id_other, id
 -- The first line that is sought, and one line more
 
 module _ (u : Line → Bool) where
-  first_kept : (ls ms : List Line) {i : Option ℕ} → idx_first u ls ≡ some i → idx_first u (ls ++ ms) ≡ some i
+  first_kept : (ls ms : List Line) {i : Option ℕ} → idx_first u ls ≡ Some i → idx_first u (ls ++ ms) ≡ Some i
   unfolding idx_first
   first_kept [] ms e = none_not e
   first_kept (l ∷ ls) ms e = elim (test (u l)) [ pass f ↦ rw (idx_first, f) (rw (idx_first, f) at e) | fail f ↦ rw (idx_first, f) (first_kept ls ms (rw (idx_first, f) at e)) ]
 
-  first_later : (ls ms : List Line) → idx_first u ls ≡ none → idx_first u (ls ++ ms) ≡ idx_first u ms
+  first_later : (ls ms : List Line) → idx_first u ls ≡ None → idx_first u (ls ++ ms) ≡ idx_first u ms
   unfolding idx_first
   first_later [] ms e = refl
   first_later (l ∷ ls) ms e = elim (test (u l)) [ pass f ↦ none_not (sym (rw (idx_first, f) at e)) | fail f ↦ rw (idx_first, f) (first_later ls ms (rw (idx_first, f) at e)) ]
 
-  first_one : (l : Line) {i : Option ℕ} → idx_first u (l ∷ []) ≡ some i → u l ≡ true
+  first_one : (l : Line) {i : Option ℕ} → idx_first u (l ∷ []) ≡ Some i → u l ≡ true
   unfolding idx_first
   first_one l e = elim (test (u l)) [ pass f ↦ f | fail f ↦ none_not (rw (idx_first, f) at e) ]
 
-  first_here : (l : Line) → u l ≡ true → idx_first u (l ∷ []) ≡ some l.idx
+  first_here : (l : Line) → u l ≡ true → idx_first u (l ∷ []) ≡ Some l.idx
   unfolding idx_first
   first_here l f = rw (idx_first, f)
 
@@ -207,26 +205,26 @@ pub numbered_sole : Sole is_numbered
 numbered_sole l a b e f = go l.idx e f
   where
     go : (o : Option ℕ) → is_idx a o ≡ true → is_idx b o ≡ true → a ≡ b
-    go none e f = absurd (false≢true e)
-    go (some m) e f = sym (eqb-true m a e) ∙ eqb-true m b f
+    go None e f = absurd (false≢true e)
+    go (Some m) e f = sym (eqb-true m a e) ∙ eqb-true m b f
 
 module _ {K : Type 0} {u : K → Line → Bool} {slot : ℕ → K → ℕ} {hash : K → ℕ} {c₀ : Class} {form : Form} {h : Bytes} {t : List ℕ} {ls : List Line} where
   -- the slots stay as they are
   held_more : {slots : List ℕ} → Held u slot hash c₀ form h t ls slots → (l : Line)
-      → ((w : K) → class_of c₀.of (hash w) ≡ c₀.at → idx_first (u w) ls ≡ none → u w l ≡ true → (p : ℕ) → slot (length slots) w ≤ p → p < length slots → get_or slots p 0 ≡ 0 → ⊥)
+      → ((w : K) → class_of c₀.of (hash w) ≡ c₀.at → idx_first (u w) ls ≡ None → u w l ≡ true → (p : ℕ) → slot (length slots) w ≤ p → p < length slots → get_or slots p 0 ≡ 0 → ⊥)
       → Held u slot hash c₀ form h t (ls ++ l ∷ []) slots
   held_more {slots} g l new = record {
     own = λ q m c w e. first_kept (u w) ls (l ∷ []) (g.own q m c w e);
     behind = λ w y i e p a b c n. go w y i e p a b c n (idx_first (u w) ls) refl;
   }
     where
-      go : (w : K) → class_of c₀.of (hash w) ≡ c₀.at → (i : Option ℕ) → idx_first (u w) (ls ++ l ∷ []) ≡ some i → (p : ℕ) → slot (length slots) w ≤ p → p < length slots → get_or slots p 0 ≡ 0
+      go : (w : K) → class_of c₀.of (hash w) ≡ c₀.at → (i : Option ℕ) → idx_first (u w) (ls ++ l ∷ []) ≡ Some i → (p : ℕ) → slot (length slots) w ≤ p → p < length slots → get_or slots p 0 ≡ 0
           → NoneIn u slot form h t slots w p → (o : Option (Option ℕ)) → idx_first (u w) ls ≡ o → ⊥
-      go w y i e p a b c n (some j) f = g.behind w y j f p a b c n
-      go w y i e p a b c n none f = new w y f (first_one (u w) l (sym (first_later (u w) ls (l ∷ []) f) ∙ e)) p a b c
+      go w y i e p a b c n (Some j) f = g.behind w y j f p a b c n
+      go w y i e p a b c n None f = new w y f (first_one (u w) l (sym (first_later (u w) ls (l ∷ []) f) ∙ e)) p a b c
 
   -- entry k's line, which is new, has the open slot r
-  held_put : Sole u → {slots : List ℕ} → Held u slot hash c₀ form h t ls slots → (k : ℕ) (w₀ : K) → u w₀ (line_at form h t k) ≡ true → idx_first (u w₀) ls ≡ none
+  held_put : Sole u → {slots : List ℕ} → Held u slot hash c₀ form h t ls slots → (k : ℕ) (w₀ : K) → u w₀ (line_at form h t k) ≡ true → idx_first (u w₀) ls ≡ None
       → (r : ℕ) → r < length slots → get_or slots r 0 ≡ 0 → Passed u slot form h t slots w₀ r → Held u slot hash c₀ form h t (ls ++ line_at form h t k ∷ []) (set slots r (k + 1))
   held_put sole {slots} g k w₀ here absent r inside free passed = record {
     own = λ q m c w e. elim (test (eqb q r)) [
@@ -234,7 +232,7 @@ module _ {K : Type 0} {u : K → Line → Bool} {slot : ℕ → K → ℕ} {hash
           let i = eqb-true q r f in
           let j : k + 1 ≡ m + 1 = sym (get_or-set_same slots r (k + 1) 0 inside) ∙ ap (λ (x : ℕ). get_or (set slots r (k + 1)) x 0) (sym i) ∙ c in
           let n : k ≡ m = omega arith in
-          subst (λ (x : ℕ). idx_first (u w) (ls ++ line_at form h t k ∷ []) ≡ some (line_at form h t x).idx) n
+          subst (λ (x : ℕ). idx_first (u w) (ls ++ line_at form h t k ∷ []) ≡ Some (line_at form h t x).idx) n
           (new w (subst (λ (x : ℕ). u w (line_at form h t x) ≡ true) (sym n) e))
       | fail f ↦ first_kept (u w) ls (line_at form h t k ∷ []) (g.own q m (sym (other q f) ∙ c) w e)
     ];
@@ -247,10 +245,10 @@ module _ {K : Type 0} {u : K → Line → Bool} {slot : ℕ → K → ℕ} {hash
       other : (q : ℕ) → eqb q r ≡ false → get_or (set slots r (k + 1)) q 0 ≡ get_or slots q 0
       other q f = get_or-set_other slots r q (k + 1) 0 (eqb-false q r f)
 
-      new : (w : K) → u w (line_at form h t k) ≡ true → idx_first (u w) (ls ++ line_at form h t k ∷ []) ≡ some (line_at form h t k).idx
+      new : (w : K) → u w (line_at form h t k) ≡ true → idx_first (u w) (ls ++ line_at form h t k ∷ []) ≡ Some (line_at form h t k).idx
       new w e =
           let i = sole (line_at form h t k) w₀ w here e in
-          first_later (u w) ls (line_at form h t k ∷ []) (subst (λ (x : K). idx_first (u x) ls ≡ none) i absent) ∙ first_here (u w) (line_at form h t k) e
+          first_later (u w) ls (line_at form h t k ∷ []) (subst (λ (x : K). idx_first (u x) ls ≡ None) i absent) ∙ first_here (u w) (line_at form h t k) e
 
       closed : (p : ℕ) → get_or (set slots r (k + 1)) p 0 ≡ 0 → eqb p r ≡ false
       closed p c = elim (test (eqb p r)) [
@@ -258,14 +256,14 @@ module _ {K : Type 0} {u : K → Line → Bool} {slot : ℕ → K → ℕ} {hash
         | pass f ↦ let j : k + 1 ≡ 0 = sym (get_or-set_same slots r (k + 1) 0 inside) ∙ ap (λ (x : ℕ). get_or (set slots r (k + 1)) x 0) (sym (eqb-true p r f)) ∙ c in absurd (omega arith)
       ]
 
-      go : (w : K) → class_of c₀.of (hash w) ≡ c₀.at → (i : Option ℕ) → idx_first (u w) (ls ++ line_at form h t k ∷ []) ≡ some i → (p : ℕ) → slot (length slots) w ≤ p → p < length slots
+      go : (w : K) → class_of c₀.of (hash w) ≡ c₀.at → (i : Option ℕ) → idx_first (u w) (ls ++ line_at form h t k ∷ []) ≡ Some i → (p : ℕ) → slot (length slots) w ≤ p → p < length slots
           → get_or (set slots r (k + 1)) p 0 ≡ 0 → NoneIn u slot form h t (set slots r (k + 1)) w p → (o : Option (Option ℕ)) → idx_first (u w) ls ≡ o → ⊥
-      go w z i e p a b c n (some j) f =
+      go w z i e p a b c n (Some j) f =
           g.behind w z j f p a b (sym (other p (closed p c)) ∙ c) (λ q m x y v. elim (test (eqb q r)) [
             | pass s ↦ let z : m + 1 ≡ 0 = sym v ∙ ap (λ (x : ℕ). get_or slots x 0) (eqb-true q r s) ∙ free in absurd (omega arith)
             | fail s ↦ n q m (rw size x) y (other q s ∙ v)
           ])
-      go w z i e p a b c n none f =
+      go w z i e p a b c n None f =
           let l = first_one (u w) (line_at form h t k) (sym (first_later (u w) ls (line_at form h t k ∷ []) f) ∙ e) in
           let j : w₀ ≡ w = sole (line_at form h t k) w₀ w here l in
           let from : slot (length slots) w ≤ r = subst (λ (x : K). slot (length slots) x ≤ r) j passed.from in
@@ -320,13 +318,13 @@ module _ {K : Type 0} {u : K → Line → Bool} {slot : ℕ → K → ℕ} {hash
     held : Held u slot hash c₀ form h t before slots
     held = g.is (omega arith)
 
-    first_found : {x : CodeEntry} → r ≡ Found x → some (idx_at h x) ≡ idx_first (u w) before
-    first_found e = let f = rw e at look.is in sym (held.own f.0 f.1 f.2 w f.3 ∙ ap some (sym f.4))
+    first_found : {x : CodeEntry} → r ≡ Found x → Some (idx_at h x) ≡ idx_first (u w) before
+    first_found e = let f = rw e at look.is in sym (held.own f.0 f.1 f.2 w f.3 ∙ ap Some (sym f.4))
 
     pub held_found : {x : CodeEntry} → r ≡ Found x → HeldAt u slot hash c₀ d form h t (k + 1) slots
     held_found e = record {
       is = λ b. rw more (held_more held (line_at form h t k) (λ v y n i p.
-          none_not (sym (subst (λ (a : K). idx_first (u a) before ≡ none) (sole (line_at form h t k) v w i s.is) n) ∙ sym (first_found e))));
+          none_not (sym (subst (λ (a : K). idx_first (u a) before ≡ None) (sole (line_at form h t k) v w i s.is) n) ∙ sym (first_found e))));
     }
 
     module _ {p : ℕ} (e : r ≡ Open p) where
@@ -337,12 +335,12 @@ module _ {K : Type 0} {u : K → Line → Bool} {slot : ℕ → K → ℕ} {hash
       open_inside = opened.0
 
       module _ (mine : class_of c₀.of (hash w) ≡ c₀.at) where
-        first_open : none ≡ idx_first (u w) before
+        first_open : None ≡ idx_first (u w) before
         first_open = go (idx_first (u w) before) refl
           where
-            go : (o : Option (Option ℕ)) → idx_first (u w) before ≡ o → none ≡ idx_first (u w) before
-            go none f = sym f
-            go (some i) f = let x = opened.2 in absurd (held.behind w mine i f p x.from opened.0 opened.1 x.others)
+            go : (o : Option (Option ℕ)) → idx_first (u w) before ≡ o → None ≡ idx_first (u w) before
+            go None f = sym f
+            go (Some i) f = let x = opened.2 in absurd (held.behind w mine i f p x.from opened.0 opened.1 x.others)
 
         pub held_open : HeldAt u slot hash c₀ d form h t (k + 1) (set slots p (k + 1))
         held_open = record { is = λ b. rw more (held_put sole held k w s.is (sym first_open) p opened.0 opened.1 opened.2) }
@@ -373,10 +371,10 @@ seen_first n ls e = ap is_some e ∙ sym (first_any (is_numbered n) ls)
 
 module _ {c₀ : Class} {d : Dictionary} {form : Form} {h : Bytes} {t : List ℕ} {k : ℕ} {y : Bytes} (s : Stands is_named d form h t k y) {slots : List ℕ}
     (g : HeldAt is_named id_slot id_hash c₀ d form h t k slots) (l : k ≤ 4294967294) {r : Looked} (look : Looks is_named id_slot form h t slots y r) where
-  pub named_found : {x : CodeEntry} → r ≡ Found x → some (idx_at h x) ≡ idx_named y (lines_before d form h t k)
+  pub named_found : {x : CodeEntry} → r ≡ Found x → Some (idx_at h x) ≡ idx_named y (lines_before d form h t k)
   named_found i = first_found named_sole s g l look i
 
-  pub named_open : {p : ℕ} → r ≡ Open p → class_of c₀.of (id_hash y) ≡ c₀.at → none ≡ idx_named y (lines_before d form h t k)
+  pub named_open : {p : ℕ} → r ≡ Open p → class_of c₀.of (id_hash y) ≡ c₀.at → None ≡ idx_named y (lines_before d form h t k)
   named_open i m = first_open named_sole s g l look i m
 
 module _ {c₀ : Class} {d : Dictionary} {form : Form} {h : Bytes} {t : List ℕ} {k n : ℕ} (s : Stands is_numbered d form h t k n) {slots : List ℕ}
@@ -394,14 +392,14 @@ pub ruleset meets = (held_large, held_found, open_inside, held_open, held_full, 
 pub stands_id : {d : Dictionary} {form : Form} (h : Bytes) {t : List ℕ} {k : ℕ} {e : CodeEntry} → StandsAt d form t k e → Stands is_named d form h t k (id_at h e)
 stands_id {d} {form} h {t} {k} {e} s = record { inside = s.inside; held = rw (← s.is) s.held; is = rw (← s.is) (same_self (id_at h e)) }
 
-module _ (h : Bytes) {d : Dictionary} {form : Form} {t : List ℕ} {k : ℕ} {e : CodeEntry} (s : StandsAt d form t k e) {r : IdxRead} (er : idx_meant r ≡ idx_at h e) where
-  pub stands_number : {n : ℕ} → r ≡ idx.Idx n → Stands is_numbered d form h t k n
+module _ (h : Bytes) {d : Dictionary} {form : Form} {t : List ℕ} {k : ℕ} {e : CodeEntry} (s : StandsAt d form t k e) {r : Option ℕ} (er : idx_meant r ≡ idx_at h e) where
+  pub stands_number : {n : ℕ} → r ≡ Some n → Stands is_numbered d form h t k n
   stands_number {n} i = record { inside = s.inside; held = rw (← s.is) s.held; is = rw (← s.is, ← er, i) (eq-eqb n n refl) }
 
-  pub held_unnumbered : r ≡ idx.Missing → {c₀ : Class} {slots : List ℕ} → HeldAt is_numbered number_slot number_hash c₀ d form h t k slots
+  pub held_unnumbered : r ≡ None → {c₀ : Class} {slots : List ℕ} → HeldAt is_numbered number_slot number_hash c₀ d form h t k slots
       → HeldAt is_numbered number_slot number_hash c₀ d form h t (k + 1) slots
   held_unnumbered i g =
-      let none_here : (line_at form h t k).idx ≡ none = rw (← s.is, ← er, i) in
+      let none_here : (line_at form h t k).idx ≡ None = rw (← s.is, ← er, i) in
       record {
         is = λ b. rw (before_take d form h t k s.inside refl refl (rw (← s.is) s.held)) (held_more (g.is (omega arith)) (line_at form h t k) (λ v y n f p a c z.
             false≢true (rw none_here at f)));
@@ -412,7 +410,7 @@ module _ {c₀ : Class} {d : Dictionary} {form : Form} {h : Bytes} {t : List ℕ
       → HeldAt is_named id_slot id_hash c₀ d form h t (k + 1) slots
   id_elsewhere g ea eq f = held_other named_sole (stands_id h s) g (eq ∙ rw ea) f
 
-  pub number_elsewhere : HeldAt is_numbered number_slot number_hash c₀ d form h t k slots → {r : IdxRead} → idx_meant r ≡ idx_at h e → {n : ℕ} → r ≡ idx.Idx n → {a : ℕ} → a ≡ number_hash n
+  pub number_elsewhere : HeldAt is_numbered number_slot number_hash c₀ d form h t k slots → {r : Option ℕ} → idx_meant r ≡ idx_at h e → {n : ℕ} → r ≡ Some n → {a : ℕ} → a ≡ number_hash n
       → {q : Bool} → q ≡ eqb (class_of c₀.of a) c₀.at → q ≡ false → HeldAt is_numbered number_slot number_hash c₀ d form h t (k + 1) slots
   number_elsewhere g er i ea eq f = held_other numbered_sole (stands_number h s er i) g (eq ∙ rw ea) f
 

@@ -6,7 +6,7 @@ use mathlib.Core.Path.{◌≡◌, refl, sym, ap, ap₂, subst, ◌∙◌}
 use mathlib.Core.Bool.{Bool, true, false, not, true≢false, false≢true, or_comm, or-false}
 use mathlib.Core.List.{List, [], ◌∷◌, ◌++◌, map, append_assoc}
 use mathlib.Core.Logic.{◌⊎◌, inl, inr}
-use mathlib.Core.Option.{Option, none, some}
+use Rattle.std.specs.Prelude.{Option, None, Some}
 use lib.Dec.{eqb}
 use lib.ListN.{length, length-append}
 use borrow.Author.Tests.{eqb-true, eqb-false, eq-eqb}
@@ -193,14 +193,14 @@ pass_zero ls = inl refl
 -- Without IDX
 
 abbrev Bare : Line → Type 0
-Bare l = l.idx ≡ none
+Bare l = l.idx ≡ None
 
 bare : (l : Line) → carries l ≡ false → Bare l
 bare l h = go l.idx refl h
   where
-    go : (o : Option ℕ) → l.idx ≡ o → is_some o ≡ false → l.idx ≡ none
-    go none e f = e
-    go (some n) e f = absurd (true≢false f)
+    go : (o : Option ℕ) → l.idx ≡ o → is_some o ≡ false → l.idx ≡ None
+    go None e f = e
+    go (Some n) e f = absurd (true≢false f)
 
 all_bare : (ls : List Line) → any_of carries ls ≡ false → All Bare ls
 unfolding any_of
@@ -215,7 +215,7 @@ all_first P seen (l ∷ ls) h = elim (test (is_in l.id seen)) [
   | fail e ↦ subst (All P) (sym (first_new seen l ls e)) (h.0, all_first P (l.id ∷ seen) ls h.1)
 ]
 
-pub placed_number : (d : Dictionary) (ls : List Line) (l : Line) → l.idx ≡ none → id_number d ls l ≡ place l.id (ids_of d ls)
+pub placed_number : (d : Dictionary) (ls : List Line) (l : Line) → l.idx ≡ None → id_number d ls l ≡ place l.id (ids_of d ls)
 unfolding id_number
 placed_number d ls l e = rw e
 

@@ -3,7 +3,7 @@ use Prim.Native.Nat.{ℕ, ◌+◌}
 use mathlib.Core.Path.{◌≡◌, refl, sym, ap, subst, ◌∙◌}
 use mathlib.Core.Bool.{Bool, true, false, not, ◌||◌, true≢false, false≢true, or_comm, or-false}
 use mathlib.Core.List.{List, [], ◌∷◌, ◌++◌, append_assoc, append-nil, map-append}
-use mathlib.Core.Option.{Option, none, some}
+use Rattle.std.specs.Prelude.{Option, None, Some}
 use lib.ListN.{length, length-append}
 use Rattle.values.specs.Bytes.{Bytes, ascii, same}
 use Rattle.values.proofs.Tests.{pass, fail, test, or_l, or_r, or_on, not_false}
@@ -46,7 +46,7 @@ VerdictIs i d ls before l left next Clash = dictionary_clash d ls ≡ true
 module _ (d : Dictionary) (ls before : List Line) (l : Line) (left : List Line) where
   -- With IDX
 
-  module _ (g : Indexed d ls before (l ∷ left)) {n : ℕ} (en : l.idx ≡ some n) where
+  module _ (g : Indexed d ls before (l ∷ left)) {n : ℕ} (en : l.idx ≡ Some n) where
     abbrev p : Numbered
     p = (l.id, n)
 
@@ -82,7 +82,7 @@ module _ (d : Dictionary) (ls before : List Line) (l : Line) (left : List Line) 
       abbrev Tells : Placed → Type 0
       Tells r = VerdictIs true d ls before l left next r
 
-      beside_none : idx_named l.id before ≡ none → any_of (clashes p) (implied_numbers d) ≡ false → Tells (new_place n (taken n))
+      beside_none : idx_named l.id before ≡ None → any_of (clashes p) (implied_numbers d) ≡ false → Tells (new_place n (taken n))
       beside_none e h =
           let out = named_none l.id before e in
           let c = clashes_new d ls l.id n before carry out in
@@ -91,32 +91,32 @@ module _ (d : Dictionary) (ls before : List Line) (l : Line) (left : List Line) 
             | fail s ↦ rw s (out, sym (idx_number d ls l en), onward h (g.alike (clashes p) ∙ c ∙ s))
           ]
 
-      beside_some : {m : Option ℕ} → idx_named l.id before ≡ some m → any_of (clashes p) (implied_numbers d) ≡ false → Tells (again_place (is_idx n m))
+      beside_some : {m : Option ℕ} → idx_named l.id before ≡ Some m → any_of (clashes p) (implied_numbers d) ≡ false → Tells (again_place (is_idx n m))
       beside_some {m} e h = elim (test (is_idx n m)) [
         | pass s ↦ rw s (named_some l.id before e, onward h (free_has p g.book g.free (g.alike (is_pair p) ∙ named_pair d ls l.id n before carry e s)))
         | fail s ↦ rw s (by_book (named_clash d ls l.id n before carry e s))
       ]
 
       beside : (o : Option (Option ℕ)) → idx_named l.id before ≡ o → any_of (clashes p) (implied_numbers d) ≡ false → Tells (place_beside n o (taken n))
-      beside none e h = beside_none e h
-      beside (some m) e h = beside_some e h
+      beside None e h = beside_none e h
+      beside (Some m) e h = beside_some e h
 
       pub indexed_tells : Tells (indexed_place d l.id l.idx (idx_named l.id before) taken)
       indexed_tells = elim (test (any_of (clashes p) (implied_numbers d))) [
         | pass h ↦
-            let i : indexed_place d l.id (some n) (idx_named l.id before) taken ≡ Clash = rw (indexed_place, h) in
+            let i : indexed_place d l.id (Some n) (idx_named l.id before) taken ≡ Clash = rw (indexed_place, h) in
             subst Tells (sym (place_is ∙ i)) (by_implied h)
         | fail h ↦
-            let i : indexed_place d l.id (some n) (idx_named l.id before) taken ≡ place_beside n (idx_named l.id before) (taken n) = rw (indexed_place, h) in
+            let i : indexed_place d l.id (Some n) (idx_named l.id before) taken ≡ place_beside n (idx_named l.id before) (taken n) = rw (indexed_place, h) in
             subst Tells (sym (place_is ∙ i)) (beside (idx_named l.id before) refl h)
       ]
         where
-          place_is : indexed_place d l.id l.idx (idx_named l.id before) taken ≡ indexed_place d l.id (some n) (idx_named l.id before) taken
+          place_is : indexed_place d l.id l.idx (idx_named l.id before) taken ≡ indexed_place d l.id (Some n) (idx_named l.id before) taken
           place_is = ap (λ (o : Option ℕ). indexed_place d l.id o (idx_named l.id before) taken) en
 
   -- Without IDX
 
-  module _ (split : ls ≡ before ++ l ∷ left) (bare : l.idx ≡ none) where
+  module _ (split : ls ≡ before ++ l ∷ left) (bare : l.idx ≡ None) where
     abbrev firsts : List Line
     firsts = first_lines (implied d) before
 
@@ -154,8 +154,8 @@ module _ (d : Dictionary) (ls before : List Line) (l : Line) (left : List Line) 
     module _ {next : ℕ} (en : next ≡ length (ids_of d before)) where
       counted_by : (o : Option (Option ℕ)) → idx_named l.id before ≡ o → VerdictIs false d ls before l left next (counted_place (is_in l.id (implied d)) o)
       unfolding first_lines
-      counted_by (some m) e = let i = named_some l.id before e in (i, en ∙ sym (ap length (ids_kept (rw i))))
-      counted_by none e = let out = named_none l.id before e in elim (test (is_in l.id (implied d))) [
+      counted_by (Some m) e = let i = named_some l.id before e in (i, en ∙ sym (ap length (ids_kept (rw i))))
+      counted_by None e = let out = named_none l.id before e in elim (test (is_in l.id (implied d))) [
         | pass h ↦ rw h (out, sym (number_zero h), en ∙ sym (ap length (ids_kept (or_on (is_in l.id (ids before)) h))))
         | fail h ↦ rw h (out, en ∙ sym (number_due out h), one_more (ap length (ids_more [] out h)))
       ]
@@ -179,13 +179,13 @@ module _ (d : Dictionary) (ls before : List Line) (l : Line) (left : List Line) 
       let a : (any_of t before || (t l || any_of t left)) ≡ false = sym (ap (any_of t) e ∙ any_append t before (l ∷ left)) ∙ h in
       (or_l (any_of t before) (t l || any_of t left) a, or_l (t l) (any_of t left) (or_r (any_of t before) (t l || any_of t left) a))
 
-  the_idx : (o : Option ℕ) → l.idx ≡ o → not (is_some o) ≡ false → (n : ℕ) × (l.idx ≡ some n)
-  the_idx none e h = absurd (true≢false h)
-  the_idx (some n) e h = (n, e)
+  the_idx : (o : Option ℕ) → l.idx ≡ o → not (is_some o) ≡ false → (n : ℕ) × (l.idx ≡ Some n)
+  the_idx None e h = absurd (true≢false h)
+  the_idx (Some n) e h = (n, e)
 
-  no_idx : (o : Option ℕ) → l.idx ≡ o → is_some o ≡ false → l.idx ≡ none
-  no_idx none e h = e
-  no_idx (some n) e h = absurd (true≢false h)
+  no_idx : (o : Option ℕ) → l.idx ≡ o → is_some o ≡ false → l.idx ≡ None
+  no_idx None e h = e
+  no_idx (Some n) e h = absurd (true≢false h)
 
   pub verdict : (indexed : Bool) → Uniform indexed ls → ls ≡ before ++ l ∷ left → (next : ℕ) → Mode indexed d ls before (l ∷ left) next
       → VerdictIs indexed d ls before l left next (place_by indexed d l.id l.idx (idx_named l.id before) (λ (m : ℕ). number_seen m before))

@@ -1,6 +1,5 @@
 -- What a dictionary call answers. Assumes nothing.
-use Rattle.std.specs.Prelude.{ℕ, ◌/◌, ◌≡◌, Bool, true, false, ◌||◌, ◌&&◌, List, [], leb, length}
-use Rattle.std.proofs.Math.Option.{Option, none, some}
+use Rattle.std.specs.Prelude.{ℕ, ◌/◌, ◌≡◌, Bool, true, false, ◌||◌, ◌&&◌, List, [], leb, length, Option, None, Some, Result, Ok, Err}
 use Rattle.std.proofs.lemmas.List.Edits.{sets}
 use Rattle.values.specs.Bytes.{Bytes}
 use Rattle.rules.specs.Version.{Version}
@@ -19,28 +18,27 @@ use Rattle.dictionary.specs.Pairs.{carried_by, Uniform, numbering_of}
 use Rattle.dictionary.specs.declared.line.Dictionary.{Dictionary}
 use Rattle.dictionary.specs.declared.line.Dictionary.TheVariants.{Strings, Contigs}
 use Rattle.dictionary.specs.declared.numbering.Carried.{Carried}
-use Rattle.dictionary.specs.declared.numbering.Numbering.{Numbering}
 use Rattle.dictionary.specs.declared.string_maps.Judged.{Judged}
 use Rattle.dictionary.specs.declared.string_maps.Judged.TheVariants as judged
-use Rattle.dictionary.specs.declared.string_maps.DictionaryOutcome.{DictionaryOutcome}
-use Rattle.dictionary.specs.declared.string_maps.DictionaryOutcome.TheVariants as outcome
+use Rattle.dictionary.specs.declared.string_maps.DictionaryRefusal.{DictionaryRefusal}
+use Rattle.dictionary.specs.declared.string_maps.DictionaryRefusal.TheVariants as outcome
 use Rattle.dictionary.specs.declared.string_maps.DictionaryAnswer.{DictionaryAnswer}
 use Rattle.rules.specs.Claims.{Sized}
 
 -- document 02's number of an outcome, and of an accepted header the version in force and the number of samples
-abbrev pub dictionary_number : DictionaryOutcome → ℕ
-dictionary_number (outcome.Accepted f n) = 0
-dictionary_number (outcome.Refused x) = number x
-dictionary_number outcome.PartlyIndexed = 34
-dictionary_number outcome.NumberClash = 35
-dictionary_number outcome.SliceTooSmall = 36
+abbrev pub dictionary_number : Result (FileFormat × ℕ) DictionaryRefusal → ℕ
+dictionary_number (Ok (f, n)) = 0
+dictionary_number (Err (outcome.Unread x)) = number x
+dictionary_number (Err outcome.PartlyIndexed) = 34
+dictionary_number (Err outcome.NumberClash) = 35
+dictionary_number (Err outcome.SliceTooSmall) = 36
 
-abbrev pub dictionary_says : DictionaryOutcome → Option (Version × ℕ)
-dictionary_says (outcome.Accepted f n) = some (version_of f, n)
-dictionary_says (outcome.Refused x) = none
-dictionary_says outcome.PartlyIndexed = none
-dictionary_says outcome.NumberClash = none
-dictionary_says outcome.SliceTooSmall = none
+abbrev pub dictionary_says : Result (FileFormat × ℕ) DictionaryRefusal → Option (Version × ℕ)
+dictionary_says (Ok (f, n)) = Some (version_of f, n)
+dictionary_says (Err (outcome.Unread x)) = None
+dictionary_says (Err outcome.PartlyIndexed) = None
+dictionary_says (Err outcome.NumberClash) = None
+dictionary_says (Err outcome.SliceTooSmall) = None
 
 -- the number, the place, the number of entries, the pairs of strings and of contigs
 pub record DictionariesMeaning : Type 0 where
@@ -104,7 +102,7 @@ pairs_written judged.PartlyIndexed ws = []
 pairs_written judged.NumberClash ws = []
 pairs_written judged.SliceTooSmall ws = []
 
-pub record CountsPairs (d : Dictionary) (indexed : Bool) (ls : List Line) (r : Numbering) : Type 0 where
+pub record CountsPairs (d : Dictionary) (indexed : Bool) (ls : List Line) (r : Option ℕ) : Type 0 where
   pub is : Uniform indexed ls → r ≡ numbering_of d ls
 
 -- x and y tell which lines carry IDX
@@ -116,15 +114,15 @@ pub record NumbersBoth (form : Form) (h : Bytes) (t s c : List ℕ) (r : Judged)
   pub strings_are : s' ≡ sets s 0 (pairs_written r (pairs Strings (string_lines form h t)))
   pub contigs_are : c' ≡ sets c 0 (pairs_written r (pairs Contigs (contig_lines form h t)))
 
-abbrev pub dictionary_refused_as : DictionaryOutcome → ℕ → ℕ → ℕ → DictionaryAnswer
+abbrev pub dictionary_refused_as : Result (FileFormat × ℕ) DictionaryRefusal → ℕ → ℕ → ℕ → DictionaryAnswer
 dictionary_refused_as x line start entries = record { outcome = x; line = line; start = start; entries = entries; strings = 0; contigs = 0 }
 
 -- after an accepted reading, with the version in force and the number of samples
 abbrev pub answer_of : ReadAnswer → FileFormat → ℕ → Judged → DictionaryAnswer
-answer_of a f k (judged.Whole n m) = record { outcome = outcome.Accepted f k; line = a.line; start = a.start; entries = a.entries; strings = n; contigs = m }
-answer_of a f k judged.PartlyIndexed = dictionary_refused_as outcome.PartlyIndexed 0 0 a.entries
-answer_of a f k judged.NumberClash = dictionary_refused_as outcome.NumberClash 0 0 a.entries
-answer_of a f k judged.SliceTooSmall = dictionary_refused_as outcome.SliceTooSmall 0 0 a.entries
+answer_of a f k (judged.Whole n m) = record { outcome = Ok (f, k); line = a.line; start = a.start; entries = a.entries; strings = n; contigs = m }
+answer_of a f k judged.PartlyIndexed = dictionary_refused_as (Err outcome.PartlyIndexed) 0 0 a.entries
+answer_of a f k judged.NumberClash = dictionary_refused_as (Err outcome.NumberClash) 0 0 a.entries
+answer_of a f k judged.SliceTooSmall = dictionary_refused_as (Err outcome.SliceTooSmall) 0 0 a.entries
 
 pub record AnswersBoth (form : Form) (a : ReadAnswer) (f : FileFormat) (k : ℕ) (h : Bytes) (t s c : List ℕ) (r : DictionaryAnswer) (s' c' : List ℕ) : Type 0 where
   pub judgement : Judged

@@ -1,12 +1,9 @@
 -- Document 02, §9: the two dictionaries of BCF, from the records of an accepted header. Assumes nothing.
-use Rattle.std.specs.Prelude.{ℕ, zero, suc, ◌+◌, Bool, true, false, not, ◌||◌, ◌&&◌, List, [], ◌∷◌, ◌++◌, map, eqb, leb, length}
-use Rattle.std.proofs.Math.Option.{Option, none, some}
+use Rattle.std.specs.Prelude.{ℕ, zero, suc, ◌+◌, Bool, true, false, not, ◌||◌, ◌&&◌, List, [], ◌∷◌, ◌++◌, map, eqb, leb, length, Option, None, Some}
 use Rattle.values.specs.Bytes.{Bytes, ascii, same}
 use Rattle.values.specs.Integer.{u64_read}
 use Rattle.values.specs.Value.{meaning_of}
 use Rattle.values.specs.Field.{Field}
-use Rattle.values.specs.declared.integer.IntegerRead.{IntegerRead}
-use Rattle.values.specs.declared.integer.IntegerRead.TheVariants as integer
 use Rattle.rules.specs.Answer.{unless, first}
 use Rattle.rules.specs.Sizes.{Limits}
 use Rattle.rules.specs.Version.{Version}
@@ -38,18 +35,18 @@ pub record Line : Type 0 where
   pub id : Bytes
   pub idx : Option ℕ
 
-abbrev pub integer_in : IntegerRead → Option ℕ
-integer_in (integer.Value n plain) = some n
-integer_in integer.Refused = none
+abbrev pub integer_in : Option (ℕ × Bool) → Option ℕ
+integer_in (Some (n, plain)) = Some n
+integer_in None = None
 
 abbrev pub idx_of : Option Field → Option ℕ
-idx_of none = none
-idx_of (some f) = integer_in (u64_read (meaning_of f.value))
+idx_of None = None
+idx_of (Some f) = integer_in (u64_read (meaning_of f.value))
 
 abbrev pub idx_in : Version → Record → Option ℕ
-idx_in v (fileformat w) = none
+idx_in v (fileformat w) = None
 idx_in v (fields k fs) = idx_of (field_named v k (ascii "IDX") fs)
-idx_in v (text k t) = none
+idx_in v (text k t) = None
 
 abbrev pub is_of : Dictionary → Record → Bool
 is_of d (fileformat v) = false
@@ -101,8 +98,8 @@ place x (y ∷ ys) = elim (same y x) [ true ↦ 0 | false ↦ suc (place x ys) ]
 
 -- the number of a line's ID: the IDX, or else its place
 abbrev pub placed_by : ℕ → Option ℕ → ℕ
-placed_by p none = p
-placed_by p (some n) = n
+placed_by p None = p
+placed_by p (Some n) = n
 
 unfoldable pub id_number : Dictionary → List Line → Line → ℕ
 id_number d ls l = placed_by (place l.id (ids_of d ls)) l.idx

@@ -1,7 +1,6 @@
 -- Document 02, §9: dictionaries that the checker computes, every refusal among them. Assumes nothing.
-use Rattle.std.specs.Prelude.{ℕ, ◌≡◌, refl, List, [], ◌∷◌, ◌++◌, map}
+use Rattle.std.specs.Prelude.{ℕ, ◌≡◌, refl, List, [], ◌∷◌, ◌++◌, map, None, Some}
 use Prim.Native.String.{String}
-use Rattle.std.proofs.Math.Option.{none, some}
 use Rattle.values.specs.Bytes.{Bytes, ascii}
 use Rattle.values.specs.Hash.{wide_step, wide_from}
 use Rattle.rules.specs.Sizes.{limits}
@@ -38,7 +37,7 @@ Answer = ℕ × (List ℕ × List ℕ)
 
 abbrev pub answer : Case → Answer
 answer c =
-    let d = dictionaries limits none 64 c.0 c.1.0 (ascii "##fileformat=VCFv4.3\n" ++ header c.1.1) in
+    let d = dictionaries limits None 64 c.0 c.1.0 (ascii "##fileformat=VCFv4.3\n" ++ header c.1.1) in
     (d.number, (d.strings, d.contigs))
 
 -- what the definitions need to compute
@@ -99,9 +98,9 @@ id_slots = refl
 
 -- the IDX of the first line of an ID, or of a number
 abbrev pub lines : List Line
-lines = record { entry = 1; id = ascii "q"; idx = some 7 } ∷ record { entry = 2; id = ascii "DP"; idx = some 2 } ∷ record { entry = 4; id = ascii "q"; idx = some 2 } ∷ []
+lines = record { entry = 1; id = ascii "q"; idx = Some 7 } ∷ record { entry = 2; id = ascii "DP"; idx = Some 2 } ∷ record { entry = 4; id = ascii "q"; idx = Some 2 } ∷ []
 
 firsts : (idx_first (is_named (ascii "q")) lines ∷ idx_first (is_named (ascii "r")) lines ∷ idx_first (is_numbered 2) lines ∷ idx_first (is_numbered 3) lines ∷ [])
-    ≡ (some (some 7) ∷ none ∷ some (some 2) ∷ none ∷ [])
+    ≡ (Some (Some 7) ∷ None ∷ Some (Some 2) ∷ None ∷ [])
 unfolding opened idx_first
 firsts = refl

@@ -1,6 +1,5 @@
 -- A dictionary's lines, as a header's bytes and its entries tell them. Assumes nothing.
-use Rattle.std.specs.Prelude.{ℕ, zero, suc, ◌+◌, Bool, true, false, ◌&&◌, List, [], ◌∷◌, eqb, leb, length, take}
-use Rattle.std.proofs.Math.Option.{Option, none, some}
+use Rattle.std.specs.Prelude.{ℕ, zero, suc, ◌+◌, Bool, true, false, ◌&&◌, List, [], ◌∷◌, eqb, leb, length, take, Option, None, Some}
 use Rattle.values.specs.Bytes.{Bytes, ascii}
 use Rattle.rules.specs.Known.{is_in}
 use Rattle.rules.specs.Entry.{Entry}
@@ -12,8 +11,6 @@ use Rattle.entries.specs.declared.entry.Entry.{Entry as CodeEntry}
 use Rattle.dictionary.specs.Dictionary.{Line, idx_of, line_if, implied}
 use Rattle.dictionary.specs.declared.line.Dictionary.{Dictionary}
 use Rattle.dictionary.specs.declared.line.Dictionary.TheVariants.{Strings, Contigs}
-use Rattle.dictionary.specs.declared.line.IdxRead.{IdxRead}
-use Rattle.dictionary.specs.declared.line.IdxRead.TheVariants.{Idx, Missing}
 use Rattle.rules.specs.Map.{field_keyed, fields_at}
 
 -- the kinds of a dictionary's entries: INFO 2, FILTER 3 and FORMAT 4; contig 6
@@ -25,9 +22,9 @@ holds Contigs kind = eqb kind 6
 abbrev pub fields_place : ℕ → ℕ
 fields_place kind = elim (eqb kind 2) [ true ↦ 8 | false ↦ 10 ]
 
-abbrev pub idx_meant : IdxRead → Option ℕ
-idx_meant (Idx n) = some n
-idx_meant Missing = none
+abbrev pub idx_meant : Option ℕ → Option ℕ
+idx_meant (Some n) = Some n
+idx_meant None = None
 
 unfoldable pub entry_idx : Bytes → Entry → Option ℕ
 entry_idx h e = idx_of (field_keyed (ascii "IDX") (fields_at false (line_in h e) (fields_place e.kind)))
@@ -56,8 +53,8 @@ abbrev pub idx_at : Bytes → CodeEntry → Option ℕ
 idx_at h e = entry_idx h (entry_of e)
 
 abbrev pub is_idx : ℕ → Option ℕ → Bool
-is_idx n none = false
-is_idx n (some m) = eqb m n
+is_idx n None = false
+is_idx n (Some m) = eqb m n
 
 -- the lines before entry k
 abbrev pub lines_before : Dictionary → Form → Bytes → List ℕ → ℕ → List Line

@@ -1,6 +1,5 @@
 -- Bits that tell of lines what they are beside the lines before them. Assumes nothing.
-use Rattle.std.specs.Prelude.{ℕ, ◌+◌, ◌-◌, ◌*◌, ◌/◌, ◌%◌, ◌<◌, ◌≡◌, Bool, true, false, not, ◌&&◌, ◌||◌, List, eqb, ltb, length, take, drop}
-use Rattle.std.proofs.Math.Option.{Option, none, some}
+use Rattle.std.specs.Prelude.{ℕ, ◌+◌, ◌-◌, ◌*◌, ◌/◌, ◌%◌, ◌<◌, ◌≡◌, Bool, true, false, not, ◌&&◌, ◌||◌, List, eqb, ltb, length, take, drop, Option, None, Some}
 use Rattle.values.specs.Bytes.{Bytes}
 use Rattle.values.specs.Bits.{bit_at}
 use Rattle.entries.specs.declared.form.Form.{Form}
@@ -31,17 +30,17 @@ met_bit false = 1
 -- m is the IDX of the line before; `bad`: the number clashes with an implied one
 abbrev pub is_again : Bool → (ℕ → Bool) → Option ℕ → Option ℕ → Bool
 is_again false bad i m = true
-is_again true bad none m = false
-is_again true bad (some n) m = not (bad n) && is_idx n m
+is_again true bad None m = false
+is_again true bad (Some n) m = not (bad n) && is_idx n m
 
 abbrev pub id_bit : Bool → (ℕ → Bool) → Option ℕ → Option (Option ℕ) → ℕ → Bool
-id_bit indexed bad i none b = false
-id_bit indexed bad i (some m) b = eqb b (met_bit (is_again indexed bad i m))
+id_bit indexed bad i None b = false
+id_bit indexed bad i (Some m) b = eqb b (met_bit (is_again indexed bad i m))
 
 -- bit 1 tells of a number that was met before, or is bad or missing
 abbrev pub number_bit : (ℕ → Bool) → Option ℕ → (ℕ → Bool) → ℕ → Bool
-number_bit bad none taken b = eqb b 1
-number_bit bad (some n) taken b = (taken n || bad n) && eqb b 1
+number_bit bad None taken b = eqb b 1
+number_bit bad (Some n) taken b = (taken n || bad n) && eqb b 1
 
 abbrev pub asked_of : Form → Dictionary → Carried → Asked
 asked_of form d x = record { form = form; dictionary = d; indexed = x.given; lines = x.lines }
@@ -60,8 +59,8 @@ bit_for Numbers a h t k b = number_bit (bad_at a h t k) (line_at a.form h t k).i
 
 -- the class of a line
 abbrev pub number_class : ℕ → Option ℕ → ℕ
-number_class n none = class_of n 0
-number_class n (some m) = class_of n (number_hash m)
+number_class n None = class_of n 0
+number_class n (Some m) = class_of n (number_hash m)
 
 abbrev pub class_for : Sought → ℕ → Line → ℕ
 class_for Ids n l = class_of n (id_hash l.id)
@@ -123,10 +122,10 @@ beside_new true = Clash
 beside_new false = New
 
 abbrev pub beside_by : Bool → (ℕ → Bool) → Option ℕ → Option (Option ℕ) → (ℕ → Bool) → Beside
-beside_by indexed bad i (some m) taken = beside_met (is_again indexed bad i m)
-beside_by false bad i none taken = New
-beside_by true bad none none taken = Clash
-beside_by true bad (some n) none taken = beside_new (taken n || bad n)
+beside_by indexed bad i (Some m) taken = beside_met (is_again indexed bad i m)
+beside_by false bad i None taken = New
+beside_by true bad None None taken = Clash
+beside_by true bad (Some n) None taken = beside_new (taken n || bad n)
 
 abbrev pub beside_at : Asked → Bytes → List ℕ → ℕ → Beside
 beside_at a h t k = beside_by a.indexed (bad_at a h t k) (line_at a.form h t k).idx (named_before a h t k) (taken_before a.dictionary a.form h t k)

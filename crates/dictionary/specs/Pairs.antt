@@ -1,5 +1,5 @@
 -- The pairs of a dictionary, as the code counts and writes them. Assumes nothing.
-use Rattle.std.specs.Prelude.{ℕ, ◌+◌, ◌*◌, ◌/◌, ◌^◌, ◌<◌, ◌≤◌, ◌≡◌, Bool, true, false, List, [], ◌∷◌, ltb, length}
+use Rattle.std.specs.Prelude.{ℕ, ◌+◌, ◌*◌, ◌/◌, ◌^◌, ◌<◌, ◌≤◌, ◌≡◌, Bool, true, false, List, [], ◌∷◌, ltb, length, Option, Some, None}
 use Rattle.std.proofs.lemmas.List.Edits.{sets}
 use Rattle.values.specs.Bytes.{Bytes}
 use Rattle.entries.specs.declared.form.Form.{Form}
@@ -11,10 +11,6 @@ use Rattle.dictionary.specs.declared.place.Placed.{Placed}
 use Rattle.dictionary.specs.declared.place.Placed.TheVariants as place
 use Rattle.dictionary.specs.declared.numbering.Carried.{Carried}
 use Rattle.dictionary.specs.declared.numbering.Count.{Count}
-use Rattle.dictionary.specs.declared.numbering.Turn.{Turn}
-use Rattle.dictionary.specs.declared.numbering.Turn.TheVariants as turn
-use Rattle.dictionary.specs.declared.numbering.Numbering.{Numbering}
-use Rattle.dictionary.specs.declared.numbering.Numbering.TheVariants as numbering
 
 abbrev pub carried_by : List Line → Carried
 carried_by ls = record { given = any_of carries ls; missing = any_of lacks ls; lines = length ls }
@@ -38,11 +34,11 @@ pub record Counts (c : Count) : Type 0 where
   pub next_small : c.next < 2 ^ 63
 
 -- what the place of a line does to the counts and to the pairs
-abbrev pub turn_of : Count → Placed → Turn
-turn_of c (place.Numbered n) = turn.Next (record { pairs = c.pairs + 1; next = c.next })
-turn_of c place.Due = turn.Next (record { pairs = c.pairs + 1; next = c.next + 1 })
-turn_of c place.Again = turn.Next (record { pairs = c.pairs; next = c.next })
-turn_of c place.Clash = turn.Clash
+abbrev pub turn_of : Count → Placed → Option Count
+turn_of c (place.Numbered n) = Some (record { pairs = c.pairs + 1; next = c.next })
+turn_of c place.Due = Some (record { pairs = c.pairs + 1; next = c.next + 1 })
+turn_of c place.Again = Some (record { pairs = c.pairs; next = c.next })
+turn_of c place.Clash = None
 
 abbrev pub turn_out : List ℕ → ℕ → Count → Placed → List ℕ
 turn_out out entry c (place.Numbered n) = put_pair out c.pairs entry n
@@ -55,14 +51,14 @@ abbrev pub Uniform : Bool → List Line → Type 0
 Uniform true ls = any_of lacks ls ≡ false
 Uniform false ls = any_of carries ls ≡ false
 
-abbrev pub count_or_none : Bool → ℕ → Numbering
-count_or_none true n = numbering.Clash
-count_or_none false n = numbering.Pairs n
+abbrev pub count_or_none : Bool → ℕ → Option ℕ
+count_or_none true n = None
+count_or_none false n = Some n
 
-unfoldable pub numbering_of : Dictionary → List Line → Numbering
+unfoldable pub numbering_of : Dictionary → List Line → Option ℕ
 numbering_of d ls = count_or_none (dictionary_clash d ls) (length (first_lines [] ls))
 
 -- the lines were counted, and the pairs written where they have room
-pub record NumbersLines (d : Dictionary) (indexed : Bool) (ls : List Line) (out : List ℕ) (r : Numbering) (out' : List ℕ) : Type 0 where
+pub record NumbersLines (d : Dictionary) (indexed : Bool) (ls : List Line) (out : List ℕ) (r : Option ℕ) (out' : List ℕ) : Type 0 where
   pub is : Uniform indexed ls → r ≡ numbering_of d ls
   pub output : Uniform indexed ls → dictionary_clash d ls ≡ false → length (pairs d ls) ≤ length out → out' ≡ sets out 0 (pairs d ls)

@@ -1,6 +1,5 @@
 -- The number of a line beside the lines before it, as the code works it out. Assumes nothing.
-use Rattle.std.specs.Prelude.{ℕ, Bool, true, false, List}
-use Rattle.std.proofs.Math.Option.{Option, none, some}
+use Rattle.std.specs.Prelude.{ℕ, Bool, true, false, List, Option, None, Some}
 use Rattle.values.specs.Bytes.{Bytes}
 use Rattle.rules.specs.Known.{is_in}
 use Rattle.entries.specs.declared.form.Form.{Form}
@@ -9,8 +8,6 @@ use Rattle.entries.specs.declared.entry.Entry.{Entry as CodeEntry}
 use Rattle.dictionary.specs.Lines.{lines_before, table_lines, id_at, idx_at, is_idx}
 use Rattle.dictionary.specs.Slots.{idx_first, is_named, is_numbered}
 use Rattle.dictionary.specs.declared.line.Dictionary.{Dictionary}
-use Rattle.dictionary.specs.declared.place.Earlier.{Earlier}
-use Rattle.dictionary.specs.declared.place.Earlier.TheVariants as earlier
 use Rattle.dictionary.specs.declared.place.Beside.{Beside}
 use Rattle.dictionary.specs.declared.place.Beside.TheVariants as beside
 use Rattle.dictionary.specs.declared.place.Placed.{Placed}
@@ -20,9 +17,9 @@ use Rattle.dictionary.specs.declared.place.Placed.TheVariants.{Numbered, Due, Ag
 abbrev pub idx_named : Bytes → List Line → Option (Option ℕ)
 idx_named x ls = idx_first (is_named x) ls
 
-abbrev pub earlier_meant : Bytes → Earlier → Option (Option ℕ)
-earlier_meant h (earlier.Found e) = some (idx_at h e)
-earlier_meant h earlier.Missing = none
+abbrev pub earlier_meant : Bytes → Option CodeEntry → Option (Option ℕ)
+earlier_meant h (Some e) = Some (idx_at h e)
+earlier_meant h None = None
 
 -- one of these lines carries this number
 abbrev pub number_seen : ℕ → List Line → Bool
@@ -42,8 +39,8 @@ again_place true = Again
 again_place false = Clash
 
 abbrev pub place_beside : ℕ → Option (Option ℕ) → Bool → Placed
-place_beside n none taken = new_place n taken
-place_beside n (some m) taken = again_place (is_idx n m)
+place_beside n None taken = new_place n taken
+place_beside n (Some m) taken = again_place (is_idx n m)
 
 -- the number of the ID x clashes with an implied one
 abbrev pub implied_clash : Dictionary → Bytes → ℕ → Bool
@@ -51,14 +48,14 @@ implied_clash d x n = any_of (clashes (x, n)) (implied_numbers d)
 
 -- where lines carry IDX: x is the ID, `before` the IDX of the line before that has it
 abbrev pub indexed_place : Dictionary → Bytes → Option ℕ → Option (Option ℕ) → (ℕ → Bool) → Placed
-indexed_place d x none before taken = Clash
-indexed_place d x (some n) before taken = elim (implied_clash d x n) [ true ↦ Clash | false ↦ place_beside n before (taken n) ]
+indexed_place d x None before taken = Clash
+indexed_place d x (Some n) before taken = elim (implied_clash d x n) [ true ↦ Clash | false ↦ place_beside n before (taken n) ]
 
 -- where they don't; `zero`: the ID is implied
 abbrev pub counted_place : Bool → Option (Option ℕ) → Placed
-counted_place zero (some m) = Again
-counted_place true none = Numbered 0
-counted_place false none = Due
+counted_place zero (Some m) = Again
+counted_place true None = Numbered 0
+counted_place false None = Due
 
 abbrev pub place_by : Bool → Dictionary → Bytes → Option ℕ → Option (Option ℕ) → (ℕ → Bool) → Placed
 place_by true d x idx before taken = indexed_place d x idx before taken
@@ -72,8 +69,8 @@ beside_place n beside.Again = Again
 beside_place n beside.Clash = Clash
 
 abbrev pub indexed_beside : Option ℕ → Beside → Placed
-indexed_beside none b = beside_place 0 b
-indexed_beside (some n) b = beside_place n b
+indexed_beside None b = beside_place 0 b
+indexed_beside (Some n) b = beside_place n b
 
 abbrev pub new_counted : Bool → Placed
 new_counted true = Numbered 0

@@ -1,6 +1,5 @@
 -- Slots that tell in which line an ID, or a number, stands first. Assumes nothing.
-use Rattle.std.specs.Prelude.{ℕ, ◌+◌, ◌-◌, ◌/◌, ◌%◌, ◌^◌, ◌<◌, ◌≤◌, ◌≡◌, Bool, true, false, List, [], ◌∷◌, eqb, ltb, length, get_or}
-use Rattle.std.proofs.Math.Option.{Option, none, some}
+use Rattle.std.specs.Prelude.{ℕ, ◌+◌, ◌-◌, ◌/◌, ◌%◌, ◌^◌, ◌<◌, ◌≤◌, ◌≡◌, Bool, true, false, List, [], ◌∷◌, eqb, ltb, length, get_or, Option, None, Some}
 use Rattle.values.specs.Bytes.{Bytes, same}
 use Rattle.values.specs.Hash.{wide_basis, wide_step, wide_from}
 use Rattle.entries.specs.declared.entry.Entry.{Entry as CodeEntry}
@@ -16,8 +15,8 @@ use Rattle.dictionary.specs.declared.slots.Looked.TheVariants.{Found, Open, Full
 
 -- the IDX of the first of these lines that passes a test
 unfoldable pub idx_first : (Line → Bool) → List Line → Option (Option ℕ)
-idx_first t [] = none
-idx_first t (l ∷ ls) = elim (t l) [ true ↦ some l.idx | false ↦ idx_first t ls ]
+idx_first t [] = None
+idx_first t (l ∷ ls) = elim (t l) [ true ↦ Some l.idx | false ↦ idx_first t ls ]
 
 -- what is sought: an ID, or a number
 abbrev pub is_named : Bytes → Line → Bool
@@ -76,8 +75,8 @@ pub record Looks {K : Type 0} (test : K → Line → Bool) (slot : ℕ → K →
 
 -- a line in a slot is the first of these lines for whatever it is sought for; what is among these lines, and of a class, stands before any open slot from its own on
 pub record Held {K : Type 0} (test : K → Line → Bool) (slot : ℕ → K → ℕ) (hash : K → ℕ) (c : Class) (form : Form) (h : Bytes) (t : List ℕ) (ls : List Line) (slots : List ℕ) : Type 0 where
-  pub own : (q m : ℕ) → get_or slots q 0 ≡ m + 1 → (w : K) → test w (line_at form h t m) ≡ true → idx_first (test w) ls ≡ some (line_at form h t m).idx
-  pub behind : (w : K) → class_of c.of (hash w) ≡ c.at → (i : Option ℕ) → idx_first (test w) ls ≡ some i → (p : ℕ) → slot (length slots) w ≤ p → p < length slots → get_or slots p 0 ≡ 0
+  pub own : (q m : ℕ) → get_or slots q 0 ≡ m + 1 → (w : K) → test w (line_at form h t m) ≡ true → idx_first (test w) ls ≡ Some (line_at form h t m).idx
+  pub behind : (w : K) → class_of c.of (hash w) ≡ c.at → (i : Option ℕ) → idx_first (test w) ls ≡ Some i → (p : ℕ) → slot (length slots) w ≤ p → p < length slots → get_or slots p 0 ≡ 0
       → NoneIn test slot form h t slots w p → ⊥
 
 -- of the lines before entry k, as far as a slot has room for its number

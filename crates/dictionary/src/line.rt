@@ -6,8 +6,6 @@ ghost use Rattle.dictionary.specs.Lines.{holds, fields_place, idx_meant, entry_i
 use entries::entry::Entry;
 use entries::{kind, part};
 use records::field;
-use records::field::FieldFound;
-use values::integer::IntegerRead;
 use values::{bytes, integer, string};
 
 // FILTER, INFO and FORMAT lines; contig lines.
@@ -17,24 +15,12 @@ pub enum Dictionary {
     Contigs,
 }
 
-// The IDX that a line carries.
-#[derive(Clone, Copy)]
-pub enum IdxRead {
-    Idx(u64),
-    Missing,
-}
-
 // Whether lines of this kind belong to the dictionary.
 pub fn has_kind(dictionary: Dictionary, kind: u8) -> bool
     ensures { result ≡ holds dictionary kind }
 {
     match dictionary {
-        Dictionary::Strings => {
-            if kind < kind::INFO {
-                return false;
-            }
-            kind <= kind::FORMAT
-        }
+        Dictionary::Strings => kind::INFO <= kind && kind <= kind::FORMAT,
         Dictionary::Contigs => kind == kind::CONTIG,
     }
 }
@@ -43,32 +29,29 @@ pub fn has_kind(dictionary: Dictionary, kind: u8) -> bool
 fn fields_start(kind: u8) -> usize
     ensures { result ≡ fields_place kind }
 {
-    if kind == kind::INFO {
-        return 8;
-    }
-    10
+    if kind == kind::INFO { 8 } else { 10 }
 }
 
-pub fn line_idx(h: &[u8], e: Entry) -> IdxRead
+// The IDX that a line carries.
+pub fn line_idx(h: &[u8], e: Entry) -> Option<u64>
     ensures { idx_meant result ≡ entry_idx h.now (entry_of e) }
 {
     let line = part::line_part(h, e);
     let start = fields_start(e.kind);
-    let FieldFound::Found(text) = field::find_field(line, start, false, b"IDX") else {
-        return IdxRead::Missing;
+    let Some(text) = field::find_field(line, start, false, b"IDX") else {
+        return None;
     };
-    let IntegerRead::Value(n, _) = integer::parse_u64(bytes::part(line, text.start, text.end))
-    else {
-        return IdxRead::Missing;
+    let Some((n, _)) = integer::parse_u64(bytes::part(line, text.start, text.end)) else {
+        return None;
     };
-    IdxRead::Idx(n)
+    Some(n)
 }
 
 // Whether an entry carries this number.
 pub fn has_idx(h: &[u8], e: Entry, n: u64) -> bool
     ensures { result ≡ is_idx n (idx_at h.now e) }
 {
-    let IdxRead::Idx(m) = line_idx(h, e) else {
+    let Some(m) = line_idx(h, e) else {
         return false;
     };
     m == n

@@ -8,8 +8,7 @@ ghost use Rattle.dictionary.specs.Slots.{is_named, is_numbered, id_hash, number_
 ghost use Rattle.dictionary.specs.Marks.{Sets, line_number, met_bits, line_bits, class_bits, sought_bits, all_bits, HeldFor};
 ghost use Rattle.dictionary.specs.declared.marking.Sought.TheVariants.{Ids, Numbers};
 
-use crate::line::IdxRead;
-use crate::place::{Asked, Earlier};
+use crate::place::Asked;
 use crate::slots::Class;
 use crate::{line, place, slots};
 use entries::entry::Entry;
@@ -24,19 +23,26 @@ pub enum Sought {
 }
 
 // For a line whose ID was looked for. Lines are so few that twice the number of one is a number too.
-fn mark_met(h: &[u8], asked: Asked, e: Entry, line: usize, earlier: Earlier, marks: &mut [u64])
+fn mark_met(
+    h: &[u8],
+    asked: Asked,
+    e: Entry,
+    line: usize,
+    earlier: Option<Entry>,
+    marks: &mut [u64],
+)
     requires { line < 9223372036854775808 }
     ensures { Sets marks.old marks.new (met_bits asked.indexed (implied_clash asked.dictionary (id_at h.now e)) (idx_at h.now e) (earlier_meant h.now earlier) line) }
 {
-    let Earlier::Found(x) = earlier else {
+    let Some(x) = earlier else {
         return;
     };
     let at = 2 * line;
     if place::is_again(h, asked, e, x) {
         bits::set(marks, at);
-        return;
+    } else {
+        bits::set(marks, at + 1);
     }
-    bits::set(marks, at + 1);
 }
 
 fn mark_id(
@@ -83,18 +89,15 @@ fn mark_number(
     let at = 2 * line + 1;
     let dictionary = asked.dictionary;
     match line::line_idx(h, e) {
-        IdxRead::Idx(n) => {
-            if slots::is_in(class, slots::number_hash(n)) {
-                if place::is_taken(h, kept, asked, class, n, entry, slots) {
-                    bits::set(marks, at);
-                    return;
-                }
-                if place::clashes_implied(h, dictionary, e, n) {
-                    bits::set(marks, at);
-                }
+        Some(n) => {
+            if slots::is_in(class, slots::number_hash(n))
+                && (place::is_taken(h, kept, asked, class, n, entry, slots)
+                    || place::clashes_implied(h, dictionary, e, n))
+            {
+                bits::set(marks, at);
             }
         }
-        IdxRead::Missing => {
+        None => {
             if slots::is_in(class, 0) {
                 bits::set(marks, at);
             }
@@ -141,87 +144,50 @@ fn mark_lines(
     let form = asked.form;
     let dictionary = asked.dictionary;
     let mut lines = 0;
-    let mut k = 0;
-    while k < table::count(kept, form) {
+    for k in 0..table::count(kept, form) {
         let e = table::get(kept, form, k);
-        let entry = k;
-        k += 1;
         if line::has_kind(dictionary, e.kind) {
-            let line = lines;
+            mark_line(h, kept, asked, sought, class, e, k, lines, marks, slots);
             lines += 1;
-            mark_line(h, kept, asked, sought, class, e, entry, line, marks, slots);
         }
     }
 }
 
-fn mark_some(h: &[u8], kept: &[u64], asked: Asked, sought: Sought, class: Class, marks: &mut [u64])
-    ensures { Sets marks.old marks.new (class_bits sought asked h.now kept.now class (room asked.form kept.now)) }
-{
-    let mut slots = [0u32; 8192];
-    mark_lines(h, kept, asked, sought, class, marks, &mut slots);
-}
-
-fn mark_many(h: &[u8], kept: &[u64], asked: Asked, sought: Sought, class: Class, marks: &mut [u64])
-    ensures { Sets marks.old marks.new (class_bits sought asked h.now kept.now class (room asked.form kept.now)) }
-{
-    let mut slots = [0u32; 65536];
-    mark_lines(h, kept, asked, sought, class, marks, &mut slots);
-}
-
-fn mark_most(h: &[u8], kept: &[u64], asked: Asked, sought: Sought, class: Class, marks: &mut [u64])
-    ensures { Sets marks.old marks.new (class_bits sought asked h.now kept.now class (room asked.form kept.now)) }
-{
-    let mut slots = [0u32; 163840];
-    mark_lines(h, kept, asked, sought, class, marks, &mut slots);
-}
-
-// With slots of its own where none are lent: few lines need few, and clearing more costs more than it spares. It calls itself so that the
-// compiler leaves the large slots in functions of their own, and a call that needs few does not touch the stack of all.
-fn mark_sized(
+// With so many slots of its own. They are in a function of its own, so that a call that needs few does not touch the stack of all.
+#[inline(never)]
+fn mark_with<const SLOTS: usize>(
     h: &[u8],
     kept: &[u64],
     asked: Asked,
     sought: Sought,
     class: Class,
     marks: &mut [u64],
-    slots: &mut [u32],
 )
-    requires { AllOpen slots.old }
+    requires { SLOTS < 4294967296 }
     ensures { Sets marks.old marks.new (class_bits sought asked h.now kept.now class (room asked.form kept.now)) }
 {
-    if 0 < slots.len() {
-        return mark_lines(h, kept, asked, sought, class, marks, slots);
-    }
-    let lines = asked.lines;
-    if lines < 512 {
-        let mut own = [0u32; 1024];
-        return mark_sized(h, kept, asked, sought, class, marks, &mut own);
-    }
-    if lines < 4096 {
-        return mark_some(h, kept, asked, sought, class, marks);
-    }
-    if lines < 32768 {
-        return mark_many(h, kept, asked, sought, class, marks);
-    }
-    mark_most(h, kept, asked, sought, class, marks)
+    let mut slots = [0u32; SLOTS];
+    mark_lines(h, kept, asked, sought, class, marks, &mut slots);
 }
 
+// Few lines need few slots, and clearing more costs more than it spares.
 fn mark_class(h: &[u8], kept: &[u64], asked: Asked, sought: Sought, class: Class, marks: &mut [u64])
     ensures { Sets marks.old marks.new (class_bits sought asked h.now kept.now class (room asked.form kept.now)) }
 {
-    let mut none = [0u32; 0];
-    mark_sized(h, kept, asked, sought, class, marks, &mut none)
+    match asked.lines {
+        0..512 => mark_with::<1024>(h, kept, asked, sought, class, marks),
+        512..4096 => mark_with::<8192>(h, kept, asked, sought, class, marks),
+        4096..32768 => mark_with::<65536>(h, kept, asked, sought, class, marks),
+        _ => mark_with::<163840>(h, kept, asked, sought, class, marks),
+    }
 }
 
 // In so many classes.
 fn mark_sought(h: &[u8], kept: &[u64], asked: Asked, sought: Sought, of: u64, marks: &mut [u64])
     ensures { Sets marks.old marks.new (sought_bits sought asked h.now kept.now of of) }
 {
-    let mut at = 0;
-    while at < of {
-        let class = Class { of, at };
-        at += 1;
-        mark_class(h, kept, asked, sought, class, marks);
+    for at in 0..of {
+        mark_class(h, kept, asked, sought, Class { of, at }, marks);
     }
 }
 
@@ -231,8 +197,7 @@ pub fn mark(h: &[u8], kept: &[u64], asked: Asked, marks: &mut [u64])
 {
     let classes = (asked.lines / 98304) as u64 + 1;
     mark_sought(h, kept, asked, Sought::Ids, classes, marks);
-    let indexed = asked.indexed;
-    if indexed {
+    if asked.indexed {
         mark_sought(h, kept, asked, Sought::Numbers, classes, marks);
     }
 }

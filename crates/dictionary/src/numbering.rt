@@ -6,7 +6,7 @@ ghost use Rattle.dictionary.specs.Slots.{StandsAt};
 ghost use Rattle.dictionary.specs.Marks.{line_number, Tells};
 ghost use Rattle.dictionary.specs.Pairs.{carried_by, EndsLines, put_pair, first_number, Counts, turn_of, turn_out, NumbersLines};
 
-use crate::line::{Dictionary, IdxRead};
+use crate::line::Dictionary;
 use crate::place::{Asked, Placed};
 use crate::{line, place};
 use entries::entry::Entry;
@@ -28,35 +28,19 @@ pub struct Count {
     pub next: u64,
 }
 
-// One line further, or a clash.
-#[derive(Clone, Copy)]
-pub enum Turn {
-    Next(Count),
-    Clash,
-}
-
-// How many pairs a dictionary has, or a clash.
-#[derive(Clone, Copy)]
-pub enum Numbering {
-    Pairs(usize),
-    Clash,
-}
-
 pub fn carried_in(h: &[u8], kept: &[u64], form: Form, dictionary: Dictionary) -> Carried
     ensures { result ≡ carried_by (table_lines dictionary form h.now kept.now) }
 {
     let mut given = false;
     let mut missing = false;
     let mut lines = 0;
-    let mut k = 0;
-    while k < table::count(kept, form) {
+    for k in 0..table::count(kept, form) {
         let e = table::get(kept, form, k);
-        k += 1;
         if line::has_kind(dictionary, e.kind) {
             lines += 1;
             match line::line_idx(h, e) {
-                IdxRead::Idx(_) => given = true,
-                IdxRead::Missing => missing = true,
+                Some(_) => given = true,
+                None => missing = true,
             }
         }
     }
@@ -71,17 +55,11 @@ pub fn carried_in(h: &[u8], kept: &[u64], form: Form, dictionary: Dictionary) ->
 pub fn lines_end(kept: &[u64], form: Form) -> usize
     ensures { EndsLines form kept.now result }
 {
-    let mut end = table::count(kept, form);
-    while 0 < end {
-        let last = end - 1;
-        let kind = table::get(kept, form, last).kind;
-        if line::has_kind(Dictionary::Strings, kind) {
-            return end;
+    for k in (0..table::count(kept, form)).rev() {
+        let kind = table::get(kept, form, k).kind;
+        if line::has_kind(Dictionary::Strings, kind) || line::has_kind(Dictionary::Contigs, kind) {
+            return k + 1;
         }
-        if line::has_kind(Dictionary::Contigs, kind) {
-            return end;
-        }
-        end = last;
     }
     0
 }
@@ -90,12 +68,11 @@ pub fn lines_end(kept: &[u64], form: Form) -> usize
 fn put_pair(out: &mut [u64], pair: usize, entry: u64, number: u64)
     ensures { out.new ≡ put_pair out.old pair entry number }
 {
-    if out.len() / 2 <= pair {
-        return;
+    if pair < out.len() / 2 {
+        let at = 2 * pair;
+        out[at] = entry;
+        out[at + 1] = number;
     }
-    let at = 2 * pair;
-    out[at] = entry;
-    out[at + 1] = number;
 }
 
 fn first_number(dictionary: Dictionary) -> u64
@@ -108,30 +85,30 @@ fn first_number(dictionary: Dictionary) -> u64
 }
 
 // What the place of an entry's line does to the counts; its pair is written if it is the first of its ID.
-fn take_place(count: Count, placed: Placed, entry: u64, out: &mut [u64]) -> Turn
+// One line further; none where numbers clash.
+fn take_place(count: Count, placed: Placed, entry: u64, out: &mut [u64]) -> Option<Count>
     requires { Counts count }
     ensures turn { result ≡ turn_of count placed }
     ensures out { out.new ≡ turn_out out.old entry count placed }
 {
-    let pairs = count.pairs;
-    let next = count.next;
+    let Count { pairs, next } = count;
     match placed {
         Placed::Numbered(n) => {
             put_pair(out, pairs, entry, n);
-            let more = pairs + 1;
-            Turn::Next(Count { pairs: more, next })
+            Some(Count {
+                pairs: pairs + 1,
+                next,
+            })
         }
         Placed::Due => {
             put_pair(out, pairs, entry, next);
-            let more = pairs + 1;
-            let following = next + 1;
-            Turn::Next(Count {
-                pairs: more,
-                next: following,
+            Some(Count {
+                pairs: pairs + 1,
+                next: next + 1,
             })
         }
-        Placed::Again => Turn::Next(Count { pairs, next }),
-        Placed::Clash => Turn::Clash,
+        Placed::Again => Some(count),
+        Placed::Clash => None,
     }
 }
 
@@ -146,7 +123,7 @@ fn number_line(
     line: usize,
     marks: &[u64],
     out: &mut [u64],
-) -> Turn
+) -> Option<Count>
     requires counts { Counts count }
     requires stands_at { StandsAt asked.dictionary asked.form kept.now entry e }
     requires line_value { line ≡ line_number asked h.now kept.now entry }
@@ -161,13 +138,14 @@ fn number_line(
 }
 
 // By the marks of the dictionary's lines.
+// How many pairs; none where numbers clash.
 pub fn number_lines(
     h: &[u8],
     kept: &[u64],
     asked: Asked,
     marks: &[u64],
     out: &mut [u64],
-) -> Numbering
+) -> Option<usize>
     requires { Tells asked h.now kept.now marks.now }
     ensures { NumbersLines asked.dictionary asked.indexed (table_lines asked.dictionary asked.form h.now kept.now) out.old result
         out.new }
@@ -179,19 +157,15 @@ pub fn number_lines(
         next: first_number(dictionary),
     };
     let mut lines = 0;
-    let mut k = 0;
-    while k < table::count(kept, form) {
+    for k in 0..table::count(kept, form) {
         let e = table::get(kept, form, k);
-        let entry = k;
-        k += 1;
         if line::has_kind(dictionary, e.kind) {
-            let line = lines;
-            lines += 1;
-            match number_line(h, kept, asked, e, count, entry, line, marks, out) {
-                Turn::Next(c) => count = c,
-                Turn::Clash => return Numbering::Clash,
+            match number_line(h, kept, asked, e, count, k, lines, marks, out) {
+                Some(c) => count = c,
+                None => return None,
             }
+            lines += 1;
         }
     }
-    Numbering::Pairs(count.pairs)
+    Some(count.pairs)
 }

@@ -1,13 +1,13 @@
 // The number of a line beside the lines before it.
 ghost use Rattle.std.specs.Prelude.{◌≡◌, ◌+◌};
-ghost use Rattle.std.proofs.Math.Option.{none};
+ghost use Rattle.std.specs.Prelude.{None};
 ghost use Rattle.entries.specs.Values.{entry_of};
 ghost use Rattle.dictionary.specs.Lines.{id_at, idx_at, is_implied, table_lines, lines_before};
 ghost use Rattle.dictionary.specs.Places.{implied_clash, idx_named, earlier_meant, number_seen, seen_in, indexed_beside, counted_beside, place_if, place_at};
 ghost use Rattle.dictionary.specs.Slots.{is_named, is_numbered, class_of, id_hash, number_hash, id_slot, number_slot, Stands, StandsAt, HeldAt};
 ghost use Rattle.dictionary.specs.Marks.{is_again, line_number, beside_by, beside_at, Tells};
 
-use crate::line::{Dictionary, IdxRead};
+use crate::line::Dictionary;
 use crate::slots::{Class, Looked};
 use crate::{line, slots};
 use entries::entry::Entry;
@@ -32,13 +32,6 @@ pub enum Beside {
     Clash,
 }
 
-// A line before with the same ID.
-#[derive(Clone, Copy)]
-pub enum Earlier {
-    Found(Entry),
-    Missing,
-}
-
 // A line's ID is new, with its number, or due the next one; it was met with the same number; or the line clashes with one before.
 #[derive(Clone, Copy)]
 pub enum Placed {
@@ -48,34 +41,28 @@ pub enum Placed {
     Clash,
 }
 
-fn find_id(h: &[u8], ahead: &[u64], form: Form, dictionary: Dictionary, e: Entry) -> Earlier
+fn find_id(h: &[u8], ahead: &[u64], form: Form, dictionary: Dictionary, e: Entry) -> Option<Entry>
     ensures { earlier_meant h.now result ≡ idx_named (id_at h.now e) (table_lines dictionary form h.now ahead.now) }
 {
     let id = part::id_part(h, e);
-    let mut k = 0;
-    while k < table::count(ahead, form) {
+    for k in 0..table::count(ahead, form) {
         let x = table::get(ahead, form, k);
-        k += 1;
-        if line::has_kind(dictionary, x.kind) {
-            if string::same_meaning(part::id_part(h, x), x.quoted, id, e.quoted) {
-                return Earlier::Found(x);
-            }
+        if line::has_kind(dictionary, x.kind)
+            && string::same_meaning(part::id_part(h, x), x.quoted, id, e.quoted)
+        {
+            return Some(x);
         }
     }
-    Earlier::Missing
+    None
 }
 
 fn has_number(h: &[u8], ahead: &[u64], form: Form, dictionary: Dictionary, n: u64) -> bool
     ensures { result ≡ number_seen n (table_lines dictionary form h.now ahead.now) }
 {
-    let mut k = 0;
-    while k < table::count(ahead, form) {
+    for k in 0..table::count(ahead, form) {
         let x = table::get(ahead, form, k);
-        k += 1;
-        if line::has_kind(dictionary, x.kind) {
-            if line::has_idx(h, x, n) {
-                return true;
-            }
+        if line::has_kind(dictionary, x.kind) && line::has_idx(h, x, n) {
+            return true;
         }
     }
     false
@@ -91,7 +78,7 @@ pub fn find_earlier(
     hash: u64,
     k: usize,
     ids: &mut [u32],
-) -> Earlier
+) -> Option<Entry>
     requires hash_value { hash ≡ id_hash (id_at h.now e) }
     requires e_value { class_of class.of (id_hash (id_at h.now e)) ≡ class.at }
     requires stands { Stands is_named asked.dictionary asked.form h.now kept.now k (id_at h.now e) }
@@ -106,10 +93,10 @@ pub fn find_earlier(
         return find_id(h, table::kept(kept, form, k), form, dictionary, e);
     }
     match slots::look_id(h, kept, form, e, hash, ids) {
-        Looked::Found(x) => Earlier::Found(x),
+        Looked::Found(x) => Some(x),
         Looked::Open(at) => {
             ids[at] = (k + 1) as u32;
-            Earlier::Missing
+            None
         }
         Looked::Full => find_id(h, table::kept(kept, form, k), form, dictionary, e),
     }
@@ -153,9 +140,10 @@ pub fn clashes_implied(h: &[u8], dictionary: Dictionary, e: Entry, n: u64) -> bo
     match dictionary {
         Dictionary::Strings => {
             if line::is_implied(h, e, dictionary) {
-                return n != 0;
+                n != 0
+            } else {
+                n == 0
             }
-            n == 0
         }
         Dictionary::Contigs => false,
     }
@@ -165,39 +153,29 @@ pub fn clashes_implied(h: &[u8], dictionary: Dictionary, e: Entry, n: u64) -> bo
 pub fn is_again(h: &[u8], asked: Asked, e: Entry, before: Entry) -> bool
     ensures { result ≡ is_again asked.indexed (implied_clash asked.dictionary (id_at h.now e)) (idx_at h.now e) (idx_at h.now before) }
 {
-    let indexed = asked.indexed;
-    let dictionary = asked.dictionary;
-    if indexed {
-        let IdxRead::Idx(n) = line::line_idx(h, e) else {
-            return false;
-        };
-        if clashes_implied(h, dictionary, e, n) {
-            return false;
-        }
-        return line::has_idx(h, before, n);
+    if !asked.indexed {
+        return true;
     }
-    true
+    let Some(n) = line::line_idx(h, e) else {
+        return false;
+    };
+    !clashes_implied(h, asked.dictionary, e, n) && line::has_idx(h, before, n)
 }
 
 // What a line of a new ID is beside those ahead.
 fn place_new(h: &[u8], ahead: &[u64], asked: Asked, e: Entry) -> Beside
-    ensures { result ≡ beside_by asked.indexed (implied_clash asked.dictionary (id_at h.now e)) (idx_at h.now e) none
+    ensures { result ≡ beside_by asked.indexed (implied_clash asked.dictionary (id_at h.now e)) (idx_at h.now e) None
         (seen_in asked.dictionary asked.form h.now ahead.now) }
 {
-    let form = asked.form;
     let dictionary = asked.dictionary;
-    let indexed = asked.indexed;
-    if indexed {
-        let IdxRead::Idx(n) = line::line_idx(h, e) else {
-            return Beside::Clash;
-        };
-        if has_number(h, ahead, form, dictionary, n) {
-            return Beside::Clash;
-        }
-        if clashes_implied(h, dictionary, e, n) {
-            return Beside::Clash;
-        }
+    if !asked.indexed {
         return Beside::New;
+    }
+    let Some(n) = line::line_idx(h, e) else {
+        return Beside::Clash;
+    };
+    if has_number(h, ahead, asked.form, dictionary, n) || clashes_implied(h, dictionary, e, n) {
+        return Beside::Clash;
     }
     Beside::New
 }
@@ -211,13 +189,14 @@ fn search_beside(h: &[u8], ahead: &[u64], asked: Asked, e: Entry) -> Beside
     let form = asked.form;
     let dictionary = asked.dictionary;
     match find_id(h, ahead, form, dictionary, e) {
-        Earlier::Found(x) => {
+        Some(x) => {
             if is_again(h, asked, e, x) {
-                return Beside::Again;
+                Beside::Again
+            } else {
+                Beside::Clash
             }
-            Beside::Clash
         }
-        Earlier::Missing => place_new(h, ahead, asked, e),
+        None => place_new(h, ahead, asked, e),
     }
 }
 
@@ -256,7 +235,7 @@ fn place_indexed(h: &[u8], e: Entry, beside: Beside, needed: bool) -> Placed
     match beside {
         Beside::New => {
             if needed {
-                let IdxRead::Idx(n) = line::line_idx(h, e) else {
+                let Some(n) = line::line_idx(h, e) else {
                     return Placed::Numbered(0);
                 };
                 return Placed::Numbered(n);
@@ -275,12 +254,12 @@ fn place_counted(h: &[u8], dictionary: Dictionary, e: Entry, beside: Beside) -> 
     match beside {
         Beside::New => {
             if line::is_implied(h, e, dictionary) {
-                return Placed::Numbered(0);
+                Placed::Numbered(0)
+            } else {
+                Placed::Due
             }
-            Placed::Due
         }
-        Beside::Again => Placed::Again,
-        Beside::Clash => Placed::Again,
+        Beside::Again | Beside::Clash => Placed::Again,
     }
 }
 
@@ -301,10 +280,9 @@ pub fn place_line(
     ensures { result ≡ place_if needed (place_at asked.indexed asked.dictionary asked.form h.now kept.now k e) }
 {
     let beside = find_beside(h, kept, asked, e, k, line, marks);
-    let dictionary = asked.dictionary;
-    let indexed = asked.indexed;
-    if indexed {
-        return place_indexed(h, e, beside, needed);
+    if asked.indexed {
+        place_indexed(h, e, beside, needed)
+    } else {
+        place_counted(h, asked.dictionary, e, beside)
     }
-    place_counted(h, dictionary, e, beside)
 }

@@ -88,14 +88,12 @@ pub fn look_id(h: &[u8], kept: &[u64], form: Form, e: Entry, hash: u64, slots: &
     ensures { Looks is_named id_slot form h.now kept.now slots.now (id_at h.now e) result }
 {
     let id = part::id_part(h, e);
-    let mut at = slot_by(slots.len(), hash);
-    while at < slots.len() {
+    for at in slot_by(slots.len(), hash)..slots.len() {
         let word = wide(slots[at]);
         if word == 0 {
             return Looked::Open(at);
         }
         let x = table::get(kept, form, word - 1);
-        at += 1;
         if string::same_meaning(part::id_part(h, x), x.quoted, id, e.quoted) {
             return Looked::Found(x);
         }
@@ -106,14 +104,12 @@ pub fn look_id(h: &[u8], kept: &[u64], form: Form, e: Entry, hash: u64, slots: &
 pub fn look_number(h: &[u8], kept: &[u64], form: Form, n: u64, slots: &[u32]) -> Looked
     ensures { Looks is_numbered number_slot form h.now kept.now slots.now n result }
 {
-    let mut at = number_slot(slots.len(), n);
-    while at < slots.len() {
+    for at in number_slot(slots.len(), n)..slots.len() {
         let word = wide(slots[at]);
         if word == 0 {
             return Looked::Open(at);
         }
         let x = table::get(kept, form, word - 1);
-        at += 1;
         if line::has_idx(h, x, n) {
             return Looked::Found(x);
         }

@@ -1,5 +1,5 @@
 // Both dictionaries of a header: checked and counted first, then written if all may stand and fits.
-ghost use Rattle.std.specs.Prelude.{◌≡◌, ◌&&◌, ◌≤◌, length, take};
+ghost use Rattle.std.specs.Prelude.{◌≡◌, ◌&&◌, ◌<◌, ◌≤◌, length, take};
 ghost use Rattle.header.specs.Verdicts.{imposed_of};
 ghost use Rattle.dictionary.specs.Lines.{table_lines, string_lines, contig_lines};
 ghost use Rattle.dictionary.specs.Pairs.{carried_by};
@@ -9,40 +9,38 @@ ghost use Rattle.dictionary.specs.declared.line.Dictionary.TheVariants.{Strings,
 ghost use Rattle.dictionary.specs.Answers.{dictionary_number, DictionaryCall, CountsPairs, Judges, NumbersBoth, dictionary_refused_as, answer_of, AnswersBoth};
 
 use crate::line::Dictionary;
-use crate::numbering::{Carried, Numbering};
+use crate::numbering::Carried;
 use crate::place::Asked;
 use crate::{marking, numbering};
 use entries::form::Form;
 use entries::table;
-use header::file_format_option::FileFormatOption;
 use header::parser;
-use header::parser::{Outcome, ReadAnswer};
+use header::parser::ReadAnswer;
 use records::file_format::FileFormat;
 use records::refusal::Refusal;
 
 // What came of a call: the version in force and the number of samples; the reading's refusal; or IDX on some lines only, a clash of
 // numbers, a slice too small.
+pub type DictionaryOutcome = Result<(FileFormat, usize), DictionaryRefusal>;
+
 #[derive(Clone, Copy)]
-pub enum DictionaryOutcome {
-    Accepted(FileFormat, usize),
-    Refused(Refusal),
+pub enum DictionaryRefusal {
+    Unread(Refusal),
     PartlyIndexed,
     NumberClash,
     SliceTooSmall,
 }
 
-impl DictionaryOutcome {
-    // Document 02's number, 0 if accepted.
-    pub fn number(self) -> u64
-        ensures { result ≡ dictionary_number self }
-    {
-        match self {
-            DictionaryOutcome::Accepted(_, _) => 0,
-            DictionaryOutcome::Refused(refusal) => refusal.number(),
-            DictionaryOutcome::PartlyIndexed => 34,
-            DictionaryOutcome::NumberClash => 35,
-            DictionaryOutcome::SliceTooSmall => 36,
-        }
+// Document 02's number, 0 if accepted.
+pub fn number(outcome: DictionaryOutcome) -> u64
+    ensures { result ≡ dictionary_number outcome }
+{
+    match outcome {
+        Ok((_, _)) => 0,
+        Err(DictionaryRefusal::Unread(refusal)) => refusal.number(),
+        Err(DictionaryRefusal::PartlyIndexed) => 34,
+        Err(DictionaryRefusal::NumberClash) => 35,
+        Err(DictionaryRefusal::SliceTooSmall) => 36,
     }
 }
 
@@ -69,18 +67,33 @@ enum Judged {
 fn is_mixed(carried: Carried) -> bool
     ensures { result ≡ carried.given && carried.missing }
 {
-    let given = carried.given;
-    if given {
-        return carried.missing;
-    }
-    false
+    carried.given && carried.missing
 }
 
-fn count_pairs(h: &[u8], kept: &[u64], asked: Asked, marks: &[u64]) -> Numbering
-    requires { Tells asked h.now kept.now marks.now }
-    ensures { CountsPairs asked.dictionary asked.indexed (table_lines asked.dictionary asked.form h.now kept.now) result }
+fn asked_of(form: Form, dictionary: Dictionary, carried: Carried) -> Asked
+    ensures { result ≡ asked_of form dictionary carried }
+{
+    Asked {
+        form,
+        dictionary,
+        indexed: carried.given,
+        lines: carried.lines,
+    }
+}
+
+fn count_pairs(
+    h: &[u8],
+    kept: &[u64],
+    form: Form,
+    dictionary: Dictionary,
+    carried: Carried,
+    marks: &[u64],
+) -> Option<usize>
+    requires { Tells (asked_of form dictionary carried) h.now kept.now marks.now }
+    ensures { CountsPairs dictionary carried.given (table_lines dictionary form h.now kept.now) result }
 {
     let mut nothing = [0u64; 0];
+    let asked = asked_of(form, dictionary, carried);
     numbering::number_lines(h, kept, asked, marks, &mut nothing)
 }
 
@@ -100,34 +113,16 @@ fn judge(
     requires tells_2 { Tells (asked_of form Contigs c) h.now kept.now cmarks.now }
     ensures { Judges form s c h.now kept.now strings contigs result }
 {
-    if is_mixed(s) {
+    if is_mixed(s) || is_mixed(c) {
         return Judged::PartlyIndexed;
     }
-    if is_mixed(c) {
-        return Judged::PartlyIndexed;
-    }
-    let for_strings = Asked {
-        form,
-        dictionary: Dictionary::Strings,
-        indexed: s.given,
-        lines: s.lines,
-    };
-    let Numbering::Pairs(n) = count_pairs(h, kept, for_strings, smarks) else {
+    let Some(n) = count_pairs(h, kept, form, Dictionary::Strings, s, smarks) else {
         return Judged::NumberClash;
     };
-    let for_contigs = Asked {
-        form,
-        dictionary: Dictionary::Contigs,
-        indexed: c.given,
-        lines: c.lines,
-    };
-    let Numbering::Pairs(m) = count_pairs(h, kept, for_contigs, cmarks) else {
+    let Some(m) = count_pairs(h, kept, form, Dictionary::Contigs, c, cmarks) else {
         return Judged::NumberClash;
     };
-    if strings / 2 < n {
-        return Judged::SliceTooSmall;
-    }
-    if contigs / 2 < m {
+    if strings / 2 < n || contigs / 2 < m {
         return Judged::SliceTooSmall;
     }
     Judged::Whole(n, m)
@@ -152,21 +147,11 @@ fn number_marked(
     requires tells_2 { Tells (asked_of form Contigs c) h.now kept.now (behind n marks.now) }
     ensures { NumbersBoth form h.now kept.now strings.old contigs.old result strings.new contigs.new }
 {
-    let for_strings = Asked {
-        form,
-        dictionary: Dictionary::Strings,
-        indexed: s.given,
-        lines: s.lines,
-    };
-    let for_contigs = Asked {
-        form,
-        dictionary: Dictionary::Contigs,
-        indexed: c.given,
-        lines: c.lines,
-    };
+    let for_strings = asked_of(form, Dictionary::Strings, s);
+    let for_contigs = asked_of(form, Dictionary::Contigs, c);
     let smarks = &marks[..n];
     let cmarks = &marks[n..];
-    match judge(
+    let judged = judge(
         h,
         kept,
         form,
@@ -176,16 +161,12 @@ fn number_marked(
         cmarks,
         strings.len(),
         contigs.len(),
-    ) {
-        Judged::Whole(x, y) => {
-            numbering::number_lines(h, kept, for_strings, smarks, strings);
-            numbering::number_lines(h, kept, for_contigs, cmarks, contigs);
-            Judged::Whole(x, y)
-        }
-        Judged::PartlyIndexed => Judged::PartlyIndexed,
-        Judged::NumberClash => Judged::NumberClash,
-        Judged::SliceTooSmall => Judged::SliceTooSmall,
+    );
+    if let Judged::Whole(_, _) = judged {
+        numbering::number_lines(h, kept, for_strings, smarks, strings);
+        numbering::number_lines(h, kept, for_contigs, cmarks, contigs);
     }
+    judged
 }
 
 // Marks that are not set yet. Nothing is to be marked where a dictionary has no lines.
@@ -201,28 +182,16 @@ fn mark_any(
     requires all_open { AllOpen marks.old }
     ensures { Tells (asked_of form dictionary carried) h.now kept.now marks.new }
 {
-    let lines = carried.lines;
-    if lines == 0 {
-        return;
+    if carried.lines != 0 {
+        marking::mark(h, kept, asked_of(form, dictionary, carried), marks);
     }
-    let asked = Asked {
-        form,
-        dictionary,
-        indexed: carried.given,
-        lines,
-    };
-    marking::mark(h, kept, asked, marks);
 }
 
 // How many of so many words have the marks of the strings; those behind have those of the contigs.
 fn string_words(strings: Carried, words: usize) -> usize
     ensures { result ≤ words }
 {
-    let needed = strings.lines / 32 + 1;
-    if words < needed {
-        return words;
-    }
-    needed
+    words.min(strings.lines / 32 + 1)
 }
 
 // In the first n words.
@@ -289,8 +258,9 @@ fn number_by(
     number_marked(h, kept, form, s, c, n, marks, strings, contigs)
 }
 
-// Two bits for each of so many lines as a header of sixteen megabytes can have; the shortest, `##contig=<ID=a>`, has sixteen bytes.
-fn number_most(
+// With so many words of marks of its own, in a function of its own, so that they are not on the stack where a header is read.
+#[inline(never)]
+fn number_with<const WORDS: usize>(
     h: &[u8],
     kept: &[u64],
     form: Form,
@@ -301,39 +271,15 @@ fn number_most(
 ) -> Judged
     requires s_value { s ≡ carried_by (string_lines form h.now kept.now) }
     requires c_value { c ≡ carried_by (contig_lines form h.now kept.now) }
+    requires words_small { WORDS < 4294967296 }
     ensures { NumbersBoth form h.now kept.now strings.old contigs.old result strings.new contigs.new }
 {
-    let mut marks = [0u64; 32770];
+    let mut marks = [0u64; WORDS];
     number_by(h, kept, form, s, c, &mut marks, strings, contigs)
 }
 
-// With marks of its own where none are lent. It calls itself so that the compiler leaves the marks of most lines in a function of their own, and they
-// are not on the stack where a header is read.
-fn number_sized(
-    h: &[u8],
-    kept: &[u64],
-    form: Form,
-    s: Carried,
-    c: Carried,
-    marks: &mut [u64],
-    strings: &mut [u64],
-    contigs: &mut [u64],
-) -> Judged
-    requires s_value { s ≡ carried_by (string_lines form h.now kept.now) }
-    requires c_value { c ≡ carried_by (contig_lines form h.now kept.now) }
-    requires all_open { AllOpen marks.old }
-    ensures { NumbersBoth form h.now kept.now strings.old contigs.old result strings.new contigs.new }
-{
-    if 0 < marks.len() {
-        return number_by(h, kept, form, s, c, marks, strings, contigs);
-    }
-    if 510 < s.lines / 32 + c.lines / 32 {
-        return number_most(h, kept, form, s, c, strings, contigs);
-    }
-    let mut own = [0u64; 512];
-    number_sized(h, kept, form, s, c, &mut own, strings, contigs)
-}
-
+// Two bits for each line: few lines need few words, and most have two bits for each of so many lines as a header of sixteen megabytes can have;
+// the shortest, `##contig=<ID=a>`, has sixteen bytes.
 fn number_used(
     h: &[u8],
     used: &[u64],
@@ -345,8 +291,11 @@ fn number_used(
 {
     let s = numbering::carried_in(h, used, form, Dictionary::Strings);
     let c = numbering::carried_in(h, used, form, Dictionary::Contigs);
-    let mut none = [0u64; 0];
-    number_sized(h, used, form, s, c, &mut none, strings, contigs)
+    if s.lines / 32 + c.lines / 32 <= 510 {
+        number_with::<512>(h, used, form, s, c, strings, contigs)
+    } else {
+        number_with::<32770>(h, used, form, s, c, strings, contigs)
+    }
 }
 
 // `kept` are the entries of an accepted header; samples, which stand behind all lines, are not gone over each time.
@@ -383,16 +332,16 @@ fn answer(read: ReadAnswer, version: FileFormat, samples: usize, judged: Judged)
     let entries = read.entries;
     match judged {
         Judged::Whole(strings, contigs) => DictionaryAnswer {
-            outcome: DictionaryOutcome::Accepted(version, samples),
+            outcome: Ok((version, samples)),
             line: read.line,
             start: read.start,
             entries,
             strings,
             contigs,
         },
-        Judged::PartlyIndexed => refuse(DictionaryOutcome::PartlyIndexed, 0, 0, entries),
-        Judged::NumberClash => refuse(DictionaryOutcome::NumberClash, 0, 0, entries),
-        Judged::SliceTooSmall => refuse(DictionaryOutcome::SliceTooSmall, 0, 0, entries),
+        Judged::PartlyIndexed => refuse(Err(DictionaryRefusal::PartlyIndexed), 0, 0, entries),
+        Judged::NumberClash => refuse(Err(DictionaryRefusal::NumberClash), 0, 0, entries),
+        Judged::SliceTooSmall => refuse(Err(DictionaryRefusal::SliceTooSmall), 0, 0, entries),
     }
 }
 
@@ -417,7 +366,7 @@ fn answer_accepted(
 // written to them if it is refused.
 pub fn dictionaries(
     header: &[u8],
-    imposed: FileFormatOption,
+    imposed: Option<FileFormat>,
     form: Form,
     table: &mut [u64],
     strings: &mut [u64],
@@ -430,13 +379,13 @@ pub fn dictionaries(
     let entries = read.entries;
     let outcome = read.outcome;
     match outcome {
-        Outcome::Refused(x) => refuse(
-            DictionaryOutcome::Refused(x),
+        Err(x) => refuse(
+            Err(DictionaryRefusal::Unread(x)),
             read.line,
             read.start,
             entries,
         ),
-        Outcome::Accepted(version, samples) => answer_accepted(
+        Ok((version, samples)) => answer_accepted(
             header,
             table::kept(table, form, entries),
             form,

@@ -4,7 +4,7 @@ use native.Mathlib.Omega.{arith}
 use mathlib.Core.Path.{◌≡◌, refl, sym, ap, ap₂, ◌∙◌}
 use mathlib.Core.Bool.{Bool, true, false, not, ◌||◌, ◌&&◌, and-true, and-false}
 use mathlib.Core.List.{List}
-use mathlib.Core.Option.{Option, none, some}
+use Rattle.std.specs.Prelude.{Option, None, Some}
 use lib.Dec.{eqb, leb}
 use lib.ListN.{length, take, drop, length-drop}
 use lib.Seq.{take_all, drop-drop}
@@ -22,38 +22,10 @@ use Rattle.entries.specs.Tables.{entry_in, words_clear, entry_at, shown_entry, s
 use Rattle.entries.specs.Values.{entry_of, limits_of, limits_by}
 use Rattle.entries.specs.declared.entry.Entry.{Entry}
 use Rattle.entries.specs.declared.form.Form.{Form}
-use Rattle.entries.specs.declared.shown.Shown.{Shown}
-use Rattle.entries.specs.declared.shown.Shown.TheVariants.{Part, Refused}
 use Rattle.entries.specs.declared.limits.Limits.{Limits}
-use Rattle.entries.specs.declared.shown.KeyShown.{KeyShown}
-use Rattle.entries.specs.declared.shown.KeyShown.TheVariants as key
-use Rattle.entries.specs.declared.shown.EntryRead.{EntryRead}
-use Rattle.entries.specs.declared.shown.EntryRead.TheVariants as read
 use Rattle.entries.specs.Shown.{answered, or_refused, key_answered, key_or_refused, shown_as, entry_meant, bytes_of, Inside, KeyInside}
 
 -- The tests of an entry
-
-module _ (a b k : ℕ) where
-  pub below : k < a → false ≡ (leb a k && leb k b)
-  below h = rw (lt-leb a k h)
-
-  pub not_below : a ≤ k → leb k b ≡ (leb a k && leb k b)
-  not_below h = rw (le-leb a k h)
-
-pub ruleset ranges = (below, not_below)
-
-module _ (k t : ℕ) where
-  pub untagged : t ≡ 0 → true ≡ (eqb t 0 || (eqb k 7 && leb t 2))
-  untagged e = rw (eq-eqb t 0 e)
-
-  module _ (n : t ≡ 0 → ⊥) where
-    pub tagged_else : (k ≡ 7 → ⊥) → false ≡ (eqb t 0 || (eqb k 7 && leb t 2))
-    tagged_else m = rw (ne_eqb t 0 n, ne_eqb k 7 m)
-
-    pub tagged : k ≡ 7 → leb t 2 ≡ (eqb t 0 || (eqb k 7 && leb t 2))
-    tagged e = rw (ne_eqb t 0 n, eq-eqb k 7 e)
-
-pub ruleset tags = (untagged, tagged_else, tagged)
 
 module _ (e : Entry) where
   pub offset_said : (e.offset ≡ 0 → ⊥) → false ≡ says_no_id (entry_of e)
@@ -160,16 +132,6 @@ module _ (size : ℕ) (e : RuleEntry) {u : Bool} (g : u ≡ leb (e.start + e.len
 
 pub ruleset wells = (line_outside, id_outside, with_id, wrong_kind, wrong_id, without_id)
 
--- an entry of the table, by its words and what they tell
-module _ (form : Form) (size : ℕ) (table : List ℕ) (n : ℕ) {p : Bool} (a : p ≡ words_clear form table n) where
-  pub is_unclear : not p ≡ true → false ≡ (words_clear form table n && well_formed size (entry_in form table n))
-  is_unclear f = rw (← a, not_true p f)
-
-  pub is_well : not p ≡ false → {e : RuleEntry} → e ≡ entry_in form table n → {q : Bool} → q ≡ well_formed size e → q ≡ (words_clear form table n && well_formed size (entry_in form table n))
-  is_well f c b = b ∙ rw (← a, not_false p f, c)
-
-pub ruleset entry_tests = (is_unclear, is_well)
-
 -- The parts
 
 pub id_text : (h : Bytes) (e : RuleEntry) {p r : Bytes} → p ≡ take (length h) (drop e.start h) → r ≡ take e.id_length (drop e.offset p) → r ≡ id_in h e
@@ -179,16 +141,16 @@ id_text h e a b = b ∙ rw (a, take_all (length h) (drop e.start h) (simp length
 -- The entry
 
 module _ (form : Form) (h : Bytes) (table : List ℕ) (n : ℕ) {p : Bool} (a : p ≡ words_clear form table n) where
-  pub entry_unclear : not p ≡ true → none ≡ entry_at form h table n
+  pub entry_unclear : not p ≡ true → None ≡ entry_at form h table n
   unfolding entry_at
   entry_unclear f = rw (entry_at, ← a, not_true p f)
 
   module _ (on : not p ≡ false) {e : RuleEntry} (c : e ≡ entry_in form table n) {q : Bool} (b : q ≡ well_formed (length h) e) where
-    pub entry_formed : q ≡ true → some e ≡ entry_at form h table n
+    pub entry_formed : q ≡ true → Some e ≡ entry_at form h table n
     unfolding entry_at
-    entry_formed f = rw (entry_at, ← a, not_false p on, ← c, ← b, f) (ap some c)
+    entry_formed f = rw (entry_at, ← a, not_false p on, ← c, ← b, f) (ap Some c)
 
-    pub entry_malformed : q ≡ false → none ≡ entry_at form h table n
+    pub entry_malformed : q ≡ false → None ≡ entry_at form h table n
     unfolding entry_at
     entry_malformed f = rw (entry_at, ← a, not_false p on, ← c, ← b, f)
 
@@ -260,7 +222,7 @@ pub record FoundAt (form : Form) (h : Bytes) (table : List ℕ) (n : ℕ) (e : R
   pub held : entry_in form table n ≡ e
   pub well : well_formed (length h) e ≡ true
 
-pub found_at : (form : Form) (h : Bytes) (table : List ℕ) (n : ℕ) {e : RuleEntry} → entry_at form h table n ≡ some e → FoundAt form h table n e
+pub found_at : (form : Form) (h : Bytes) (table : List ℕ) (n : ℕ) {e : RuleEntry} → entry_at form h table n ≡ Some e → FoundAt form h table n e
 unfolding entry_at
 found_at form h table n {e} a = elim (test (words_clear form table n && well_formed (length h) (entry_in form table n))) [
   | pass f ↦
@@ -269,46 +231,46 @@ found_at form h table n {e} a = elim (test (words_clear form table n && well_for
   | fail f ↦ none_not (rw (entry_at, f) at a)
 ]
 
-pub entry_inside : (form : Form) (h : Bytes) (table : List ℕ) (n : ℕ) {e : RuleEntry} → entry_at form h table n ≡ some e → Formed (length h) e
+pub entry_inside : (form : Form) (h : Bytes) (table : List ℕ) (n : ℕ) {e : RuleEntry} → entry_at form h table n ≡ Some e → Formed (length h) e
 entry_inside form h table n {e} a = formed (length h) e (found_at form h table n a).well
 
-pub refused_inside : (size : ℕ) → Inside size Refused
+pub refused_inside : (size : ℕ) → Inside size None
 refused_inside size = tt
 
-module _ (form : Form) (h : Bytes) (table : List ℕ) (n : ℕ) {r : EntryRead} (a : entry_meant r ≡ entry_at form h table n) where
-  missing : r ≡ read.Missing → entry_at form h table n ≡ none
+module _ (form : Form) (h : Bytes) (table : List ℕ) (n : ℕ) {r : Option Entry} (a : entry_meant r ≡ entry_at form h table n) where
+  missing : r ≡ None → entry_at form h table n ≡ None
   missing e = sym a ∙ ap entry_meant e
 
-  pub entry_unshown : r ≡ read.Missing → answered Refused ≡ or_refused (shown_entry form h table n)
+  pub entry_unshown : r ≡ None → answered None ≡ or_refused (shown_entry form h table n)
   entry_unshown e = rw (missing e)
 
-  pub key_unshown : r ≡ read.Missing → key_answered key.Refused ≡ key_or_refused (shown_key form h table n)
+  pub key_unshown : r ≡ None → key_answered None ≡ key_or_refused (shown_key form h table n)
   key_unshown e = rw (missing e)
 
-  pub id_unshown : r ≡ read.Missing → answered Refused ≡ or_refused (shown_id form h table n)
+  pub id_unshown : r ≡ None → answered None ≡ or_refused (shown_id form h table n)
   id_unshown e = rw (missing e)
 
-  module _ {x : Entry} (b : r ≡ read.Entry x) where
-    pub found : entry_at form h table n ≡ some (entry_of x)
+  module _ {x : Entry} (b : r ≡ Some x) where
+    pub found : entry_at form h table n ≡ Some (entry_of x)
     found = sym a ∙ ap entry_meant b
 
     pub found_inside : Formed (length h) (entry_of x)
     found_inside = entry_inside form h table n found
 
-    pub entry_shown : answered (Part x.start (x.start + x.length)) ≡ or_refused (shown_entry form h table n)
+    pub entry_shown : answered (Some (x.start, x.start + x.length)) ≡ or_refused (shown_entry form h table n)
     entry_shown = rw found
 
-    pub entry_part_inside : Inside (length h) (Part x.start (x.start + x.length))
+    pub entry_part_inside : Inside (length h) (Some (x.start, x.start + x.length))
     entry_part_inside = let i = found_inside in (omega arith, omega arith)
 
-    pub id_part_inside : Inside (length h) (Part (x.start + x.offset) (x.start + x.offset + x.id_length))
+    pub id_part_inside : Inside (length h) (Some (x.start + x.offset, x.start + x.offset + x.id_length))
     id_part_inside = let i = found_inside in (omega arith, omega arith)
 
     module _ {q : Bool} (d : q ≡ has_id x.kind) where
-      pub id_not_due : not q ≡ true → answered Refused ≡ or_refused (shown_id form h table n)
+      pub id_not_due : not q ≡ true → answered None ≡ or_refused (shown_id form h table n)
       id_not_due e = rw (found, id_part, ← d, not_true q e)
 
-      pub id_shown : not q ≡ false → answered (Part (x.start + x.offset) (x.start + x.offset + x.id_length)) ≡ or_refused (shown_id form h table n)
+      pub id_shown : not q ≡ false → answered (Some (x.start + x.offset, x.start + x.offset + x.id_length)) ≡ or_refused (shown_id form h table n)
       id_shown e = rw (found, id_part, ← d, not_false q e)
 
     -- the key, where the form tells it
@@ -316,18 +278,18 @@ module _ (form : Form) (h : Bytes) (table : List ℕ) (n : ℕ) {r : EntryRead} 
       counted_is : (limits_by form).counted ≡ l.counted
       counted_is = sym (ap (λ (y : RuleLimits). y.counted) c)
 
-      pub key_uncounted : not l.counted ≡ true → key_answered key.Refused ≡ key_or_refused (shown_key form h table n)
+      pub key_uncounted : not l.counted ≡ true → key_answered None ≡ key_or_refused (shown_key form h table n)
       key_uncounted e = rw (found, entry_key_part, counted_is, not_true l.counted e)
 
       module _ (on : not l.counted ≡ false) where
-        pub key_none : 8 < x.kind → key_answered key.Refused ≡ key_or_refused (shown_key form h table n)
+        pub key_none : 8 < x.kind → key_answered None ≡ key_or_refused (shown_key form h table n)
         key_none e = rw (found, entry_key_part, counted_is, not_false l.counted on, lt-leb x.kind 8 e)
 
         module _ (low : x.kind ≤ 8) {q : Bool} (d : q ≡ leb (2 + x.key_length) x.length) where
-          pub key_outside : not q ≡ true → key_answered key.Refused ≡ key_or_refused (shown_key form h table n)
+          pub key_outside : not q ≡ true → key_answered None ≡ key_or_refused (shown_key form h table n)
           key_outside e = rw (found, entry_key_part, counted_is, not_false l.counted on, le-leb x.kind 8 low, ← d, not_true q e)
 
-          pub key_shown_lem : not q ≡ false → key_answered (key.Key (x.start + 2) (x.start + 2 + x.key_length) x.field_count) ≡ key_or_refused (shown_key form h table n)
+          pub key_shown_lem : not q ≡ false → key_answered (Some (x.start + 2, x.start + 2 + x.key_length, x.field_count)) ≡ key_or_refused (shown_key form h table n)
           key_shown_lem e = rw (found, entry_key_part, counted_is, not_false l.counted on, le-leb x.kind 8 low, ← d, not_false q e)
 
     module _ (few : length h * 1 < 2 ^ 63) {q : Bool} (d : q ≡ leb (2 + x.key_length) x.length) (e : not q ≡ false) where
@@ -343,7 +305,7 @@ module _ (form : Form) (h : Bytes) (table : List ℕ) (n : ℕ) {r : EntryRead} 
           let k = leb-true (2 + x.key_length) x.length (sym d ∙ not_false q e) in
           record { fits = omega arith }
 
-    pub key_part_inside : {q : Bool} → q ≡ leb (2 + x.key_length) x.length → not q ≡ false → KeyInside (length h) (key.Key (x.start + 2) (x.start + 2 + x.key_length) x.field_count)
+    pub key_part_inside : {q : Bool} → q ≡ leb (2 + x.key_length) x.length → not q ≡ false → KeyInside (length h) (Some (x.start + 2, x.start + 2 + x.key_length, x.field_count))
     key_part_inside {q} d e =
         let i = found_inside in
         let k = leb-true (2 + x.key_length) x.length (sym d ∙ not_false q e) in
@@ -353,7 +315,7 @@ pub ruleset shown_entries = (entry_unshown, entry_shown, entry_part_inside, refu
 
 pub ruleset shown_ids = (id_unshown, id_not_due, id_shown, id_part_inside, refused_inside, found_inside)
 
-pub key_refused_inside : (size : ℕ) → KeyInside size key.Refused
+pub key_refused_inside : (size : ℕ) → KeyInside size None
 key_refused_inside size = tt
 
 pub ruleset shown_keys = (key_unshown, key_uncounted, key_none, key_outside, key_shown_lem, key_start_fits, key_end_fits, key_part_inside, key_refused_inside, found_inside)
@@ -365,39 +327,39 @@ part_in (ok p) = p
 part_in (refuse n) = (0, 0)
 
 -- two answers that say the same are one
-pub answered_injective : (x y : Shown) → answered x ≡ answered y → x ≡ y
-answered_injective (Part a b) (Part c d) e = ap₂ Part (ap (λ (x : Answer RulePart). (part_in x).0) e) (ap (λ (x : Answer RulePart). (part_in x).1) e)
-answered_injective (Part a b) Refused e = never cc
-answered_injective Refused (Part c d) e = never cc
-answered_injective Refused Refused e = refl
+pub answered_injective : (x y : Option (ℕ × ℕ)) → answered x ≡ answered y → x ≡ y
+answered_injective (Some (a, b)) (Some (c, d)) e = ap (λ (x : Answer RulePart). Some ((part_in x).0, (part_in x).1)) e
+answered_injective (Some (a, b)) None e = never cc
+answered_injective None (Some (c, d)) e = never cc
+answered_injective None None e = refl
 
 abbrev key_in : Answer (RulePart × ℕ) → RulePart × ℕ
 key_in (ok p) = p
 key_in (refuse n) = ((0, 0), 0)
 
-pub key_answered_injective : (x y : KeyShown) → key_answered x ≡ key_answered y → x ≡ y
-key_answered_injective (key.Key a b n) (key.Key c d m) e =
-    ap (λ (z : RulePart × ℕ). key.Key z.0.0 z.0.1 z.1) (ap key_in e)
-key_answered_injective (key.Key a b n) key.Refused e = never cc
-key_answered_injective key.Refused (key.Key c d m) e = never cc
-key_answered_injective key.Refused key.Refused e = refl
+pub key_answered_injective : (x y : Option (ℕ × ℕ × ℕ)) → key_answered x ≡ key_answered y → x ≡ y
+key_answered_injective (Some (a, b, n)) (Some (c, d, m)) e =
+    ap (λ (z : RulePart × ℕ). Some (z.0.0, z.0.1, z.1)) (ap key_in e)
+key_answered_injective (Some (a, b, n)) None e = never cc
+key_answered_injective None (Some (c, d, m)) e = never cc
+key_answered_injective None None e = refl
 
 says : (o : Option RulePart) → answered (shown_as o) ≡ or_refused o
-says none = refl
-says (some p) = refl
+says None = refl
+says (Some p) = refl
 
 -- the answer that says this, and what an answer says
-pub answer_is : (r : Shown) (o : Option RulePart) → answered r ≡ or_refused o → r ≡ shown_as o
+pub answer_is : (r : Option (ℕ × ℕ)) (o : Option RulePart) → answered r ≡ or_refused o → r ≡ shown_as o
 answer_is r o a = answered_injective r (shown_as o) (a ∙ sym (says o))
 
-pub answer_says : {r : Shown} (o : Option RulePart) → r ≡ shown_as o → answered r ≡ or_refused o
+pub answer_says : {r : Option (ℕ × ℕ)} (o : Option RulePart) → r ≡ shown_as o → answered r ≡ or_refused o
 answer_says o a = ap answered a ∙ says o
 
-module _ (h : Bytes) {r : Shown} where
-  pub part_bytes : {a b : ℕ} → r ≡ Part a b → {t : Bytes} → t ≡ take (b - a) (drop a h) → t ≡ bytes_of h r
+module _ (h : Bytes) {r : Option (ℕ × ℕ)} where
+  pub part_bytes : {a b : ℕ} → r ≡ Some (a, b) → {t : Bytes} → t ≡ take (b - a) (drop a h) → t ≡ bytes_of h r
   part_bytes e f = rw e f
 
-  pub no_bytes : r ≡ Refused → take 0 (drop 0 h) ≡ bytes_of h r
+  pub no_bytes : r ≡ None → take 0 (drop 0 h) ≡ bytes_of h r
   no_bytes e = rw e
 
 pub ruleset shown_bytes = (part_bytes, no_bytes)

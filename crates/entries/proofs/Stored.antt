@@ -5,7 +5,7 @@ use native.Mathlib.Omega.{arith}
 use mathlib.Core.Path.{◌≡◌, refl, sym, ap, ap₂, subst, ◌∙◌}
 use mathlib.Core.Bool.{Bool, true, false, not, ◌&&◌}
 use mathlib.Core.List.{List, [], ◌∷◌, ◌++◌, append_assoc}
-use mathlib.Core.Option.{Option, none, some}
+use Rattle.std.specs.Prelude.{Option, None, Some}
 use lib.Dec.{leb, ltb}
 use lib.ListN.{length, take, drop, set, drop_of_length-le, length-append, length-take, length-drop, take-append-drop}
 use lib.Seq.{sets, length-sets, sets-eq, length-take-le, take-nil, take-append_seam, take-set-le, take_all, take-take, take-add, take_at, drop-drop, drop-append-add}
@@ -63,7 +63,7 @@ module _ (form : Form) where
   from_append t a zero n = let e : a + 0 ≡ a = omega arith in let z : 0 + n ≡ n = omega arith in rw (e, z)
   from_append t a (suc k) n = let e : a + suc k ≡ a + 1 + k = omega arith in let f : suc k + n ≡ suc (k + n) = omega arith in rw (f, e) (ap (entry_in form t a ∷◌) (from_append t (a + 1) k n))
 
-  from_nth : (t : List ℕ) (a : ℕ) (es : List Entry) → ((n : ℕ) (e : Entry) → nth es n ≡ some e → entry_in form t (a + n) ≡ e) → entries_from form t a (length es) ≡ es
+  from_nth : (t : List ℕ) (a : ℕ) (es : List Entry) → ((n : ℕ) (e : Entry) → nth es n ≡ Some e → entry_in form t (a + n) ≡ e) → entries_from form t a (length es) ≡ es
   unfolding entries_from
   from_nth t a [] h = refl
   from_nth t a (e ∷ es) h =
@@ -132,7 +132,7 @@ module _ (form : Form) where
   words_append (e ∷ es) fs = ap (words_of form e ++◌) (words_append es fs) ∙ sym (append_assoc (words_of form e) (words form es) (words form fs))
 
   -- the words of one of several entries, whatever stands after them
-  words_nth : (es : List Entry) (rest : List ℕ) (n : ℕ) {e : Entry} → nth es n ≡ some e
+  words_nth : (es : List Entry) (rest : List ℕ) (n : ℕ) {e : Entry} → nth es n ≡ Some e
       → (n < length es) × (take (word_count form) (drop (word_count form * n) (words form es ++ rest)) ≡ words_of form e)
   unfolding words
   words_nth [] rest n h = none_not h
@@ -197,7 +197,7 @@ module _ (form : Form) where
       (put_roomy (stored form t n (e ∷ [])) (n + 1) es (rw (stored_room t n (e ∷ [])) (omega arith)) ∙ stored_more t n (e ∷ []) es refl)
 
   -- the words of an entry that was stored
-  words_stored : (t : List ℕ) (m : ℕ) (es : List Entry) (n : ℕ) {e : Entry} → m + length es ≤ room form t → nth es n ≡ some e
+  words_stored : (t : List ℕ) (m : ℕ) (es : List Entry) (n : ℕ) {e : Entry} → m + length es ≤ room form t → nth es n ≡ Some e
       → (m + n < room form (stored form t m es)) × (words_at form (stored form t m es) (m + n) ≡ words_of form e)
   unfolding stored words_at
   words_stored t m es n l a =
@@ -215,21 +215,21 @@ module _ (form : Form) where
             (ap (λ (x : List ℕ). take c (drop (c * (m + n)) x)) s ∙ rw (z, drop-append-add (take (c * m) t) (ws ++ drop (c * m + length ws) t) (c * n)) d.1),
       )
 
-  entry_back : (t : List ℕ) (m : ℕ) (es : List Entry) (n : ℕ) {e : Entry} → m + length es ≤ room form t → nth es n ≡ some e → Storable form e → entry_in form (stored form t m es) (m + n) ≡ e
+  entry_back : (t : List ℕ) (m : ℕ) (es : List Entry) (n : ℕ) {e : Entry} → m + length es ≤ room form t → nth es n ≡ Some e → Storable form e → entry_in form (stored form t m es) (m + n) ≡ e
   unfolding entry_in
   entry_back t m es n {e} l a s = ap (unpacked form) (words_stored t m es n l a).1 ∙ unpacked_words form e s
 
   -- the calls find it
-  pub entry_stored : (t : List ℕ) (es : List Entry) (n : ℕ) {e : Entry} → length es ≤ room form t → nth es n ≡ some e
-      → (h : Bytes) → Storable form e → well_formed (length h) e ≡ true → entry_at form h (stored form t 0 es) n ≡ some e
+  pub entry_stored : (t : List ℕ) (es : List Entry) (n : ℕ) {e : Entry} → length es ≤ room form t → nth es n ≡ Some e
+      → (h : Bytes) → Storable form e → well_formed (length h) e ≡ true → entry_at form h (stored form t 0 es) n ≡ Some e
   unfolding entry_at words_clear
   entry_stored t es n {e} l a h s w =
       let z : 0 + n ≡ n = omega arith in
       let d = rw z at (words_stored t 0 es n (omega arith) a) in
       let b = rw z at (entry_back t 0 es n (omega arith) a s) in
-      rw (lt-ltb n (room form (stored form t 0 es)) d.0, d.1, words_clear_lem form e s, b, w, entry_at) (ap some b)
+      rw (lt-ltb n (room form (stored form t 0 es)) d.0, d.1, words_clear_lem form e s, b, w, entry_at) (ap Some b)
 
-  storable_nth : (es : List Entry) (n : ℕ) {e : Entry} → All (Storable form) es → nth es n ≡ some e → Storable form e
+  storable_nth : (es : List Entry) (n : ℕ) {e : Entry} → All (Storable form) es → nth es n ≡ Some e → Storable form e
   storable_nth [] n a h = none_not h
   storable_nth (x ∷ es) zero a h = subst (Storable form) (some_is h) a.0
   storable_nth (x ∷ es) (suc n) a h = storable_nth es n a.1 h
@@ -319,7 +319,7 @@ module _ (form : Form) where
   entry_at_first h t n i l m = ap₂ found clear (entry_first form t n i l m)
     where
       found : Bool → Entry → Option Entry
-      found b e = elim (b && well_formed (length h) e) [ true ↦ some e | false ↦ none ]
+      found b e = elim (b && well_formed (length h) e) [ true ↦ Some e | false ↦ None ]
 
       clear : words_clear form (first_entries form t n) i ≡ words_clear form t i
       clear = rw (first_room form t n l, lt-ltb i n m, lt-ltb i (room form t) (omega arith), words_first form t n i l m)

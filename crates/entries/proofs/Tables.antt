@@ -7,7 +7,7 @@ use mathlib.Core.Path.{◌≡◌, sym, ap, ◌∙◌}
 use mathlib.Core.Bool.{Bool, true, false, not, false≢true}
 use mathlib.Core.List.{List, [], ◌∷◌}
 use lib.Dec.{ltb}
-use lib.ListN.{length, get_or, take, drop, set, get_or-eq_default, length-take, length-drop}
+use lib.ListN.{length, get_or, take, drop, set, length-take, length-drop}
 use lib.Seq.{take_all}
 use borrow.Author.Tests.{lt-ltb, le-ltb, ltb-true}
 use Rattle.values.proofs.Tests.{pass, fail, test, never, not_false}
@@ -129,10 +129,6 @@ module _ (form : Form) (t : List ℕ) (n : ℕ) {k : ℕ} (a : k ≡ room form t
         three Second f l = let i : 3 * n + 2 ≡ suc (suc (3 * n)) = omega arith in rw (l, put, add-one, i)
 
 pub ruleset counts = (kept_all, kept_some, none_there, words_there)
-
--- a word past the end is 0
-pub third_missing : (ws : List ℕ) → length ws ≤ 2 → 0 ≡ get_or ws 2 0
-third_missing ws h = sym (get_or-eq_default ws 0 h)
 
 -- the words that were found
 module _ (form : Form) (t : List ℕ) (n : ℕ) {ws : List ℕ} (a : ws ≡ words_at form t n) where

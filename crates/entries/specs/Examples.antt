@@ -1,6 +1,5 @@
 -- Document 01, "Lines on both sides": the words that the starred cases leave, and what the calls show of other words, computed by the checker; both in each form of document 02, §5. Assumes nothing.
-use Rattle.std.specs.Prelude.{ℕ, ◌-◌, ◌^◌, ◌≡◌, refl, Bool, true, false, List, [], ◌∷◌, ◌++◌, map, ltb}
-use Rattle.std.proofs.Math.Option.{none}
+use Rattle.std.specs.Prelude.{ℕ, ◌-◌, ◌^◌, ◌≡◌, refl, Bool, true, false, List, [], ◌∷◌, ◌++◌, map, ltb, None}
 use Rattle.rules.specs.Answer.{Answer, ok, refuse}
 use Rattle.rules.specs.Version.{v4_3}
 use Rattle.rules.specs.Shown.{Part, says_no_id, counts_in_place, well_formed, line_in, read_alone, tells, entry_record, nth_field_part}
@@ -55,7 +54,7 @@ unfolding words word_one word_two
 starred_words = refl
 
 -- those of a header with an entry of every sort, in the second form
-second_words : words Second (reading raised_limits none 99 keyed).entries ≡ (
+second_words : words Second (reading raised_limits None 99 keyed).entries ≡ (
     0x1000000000014000 ∷ 0 ∷ 0x00000A0000000000
     ∷ 0x700001500001C000 ∷ 0x00000B0000010000 ∷ 0x0000040000020000
     ∷ 0x8000032000005000 ∷ 0 ∷ 0x0000010000000000

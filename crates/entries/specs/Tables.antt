@@ -1,6 +1,5 @@
 -- A lent table: so many words for each entry, the words left over are never used. Assumes nothing.
-use Rattle.std.specs.Prelude.{ℕ, zero, suc, ◌+◌, ◌*◌, ◌/◌, ◌^◌, ◌≤◌, ◌<◌, ◌≡◌, Bool, true, false, ◌&&◌, List, [], ◌∷◌, ◌++◌, ltb, length, take, drop}
-use Rattle.std.proofs.Math.Option.{Option, none, some}
+use Rattle.std.specs.Prelude.{ℕ, zero, suc, ◌+◌, ◌*◌, ◌/◌, ◌^◌, ◌≤◌, ◌<◌, ◌≡◌, Bool, true, false, ◌&&◌, List, [], ◌∷◌, ◌++◌, ltb, length, take, drop, Option, None, Some}
 use Rattle.std.proofs.lemmas.List.Edits.{sets}
 use Rattle.values.specs.Bytes.{Bytes}
 use Rattle.rules.specs.Version.{Version}
@@ -64,11 +63,11 @@ words_clear form t n = ltb n (room form t) && is_clear form (words_at form t n)
 
 -- entry n, if that holds and it is well formed in this header
 unfoldable pub entry_at : Form → Bytes → List ℕ → ℕ → Option Entry
-entry_at form h t n = elim (words_clear form t n && well_formed (length h) (entry_in form t n)) [ true ↦ some (entry_in form t n) | false ↦ none ]
+entry_at form h t n = elim (words_clear form t n && well_formed (length h) (entry_in form t n)) [ true ↦ Some (entry_in form t n) | false ↦ None ]
 
 abbrev pub is_found : Option Entry → Bool
-is_found none = false
-is_found (some e) = true
+is_found None = false
+is_found (Some e) = true
 
 -- so many entries from number n on are well formed
 unfoldable pub all_formed : Form → Bytes → List ℕ → ℕ → ℕ → Bool

@@ -41,15 +41,8 @@ impl Entry {
         ensures { entry_of result ≡ with_counts (record { key_length = key_length; field_count = 0 }) (plain_entry kind start length) }
     {
         Entry {
-            kind,
-            start,
-            length,
-            offset: 0,
-            id_length: 0,
-            quoted: false,
-            tag: 0,
             key_length,
-            field_count: 0,
+            ..Entry::plain(kind, start, length)
         }
     }
 }

@@ -9,47 +9,32 @@ use crate::{shown, word};
 fn are_plain(size: usize, table: &[u64], from: usize, to: usize) -> bool
     ensures { ArePlain size table.now from to result }
 {
-    if table.len() / 2 < to {
-        return false;
-    }
-    if 0xFFFF_FFFF < size {
+    if table.len() / 2 < to || 0xFFFF_FFFF < size {
         return false;
     }
     let room = 0x7FFF_FFFF_FFFF_FFFF - (size as u64);
     let mut strays: u64 = 0;
     let mut excess: u64 = 0;
-    let mut n = from;
-    while n < to {
+    for n in from..to {
         let w = table[2 * n];
         let x = table[2 * n + 1];
-        strays = strays | word::strays(w, x);
-        excess = excess | word::excess(room, w, x);
-        n += 1;
+        strays |= word::strays(w, x);
+        excess |= word::excess(room, w, x);
     }
-    if strays != 0 {
-        return false;
-    }
-    excess < 0x8000_0000_0000_0000
+    strays == 0 && excess < 0x8000_0000_0000_0000
 }
 
 // Whether the entries from number `from` up to `to` are well formed in the header.
 fn are_formed(h: &[u8], table: &[u64], form: Form, from: usize, to: usize) -> bool
     ensures { result ≡ all_formed form h.now table.now from (to - from) }
 {
-    match form {
-        Form::First => {
-            if are_plain(h.len(), table, from, to) {
-                return true;
-            }
-        }
-        Form::Second => {}
+    if matches!(form, Form::First) && are_plain(h.len(), table, from, to) {
+        return true;
     }
-    let mut n = from;
-    while n < to {
+    for n in from..to {
         if !shown::is_entry(h.len(), table, form, n) {
             return false;
         }
-        n += 1;
     }
     true
 }
@@ -60,10 +45,7 @@ fn block_end(n: usize, count: usize) -> usize
     ensures later { n < result }
     ensures inside { result ≤ count }
 {
-    if count - n <= 64 {
-        return count;
-    }
-    n + 64
+    n + (count - n).min(64)
 }
 
 // Whether the table's first entries are all well formed in the header, block by block.
@@ -71,6 +53,7 @@ pub fn all_formed(h: &[u8], table: &[u64], form: Form, count: usize) -> bool
     ensures { result ≡ all_formed form h.now table.now 0 count }
 {
     let mut n: usize = 0;
+    // Kept: no plainer: a `for n in (0..count).step_by(64)` needs `block_end` and a measure too.
     while n < count {
         let end = block_end(n, count);
         if !are_formed(h, table, form, n, end) {

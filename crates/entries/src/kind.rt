@@ -2,6 +2,7 @@
 ghost use Rattle.std.specs.Prelude.{◌≡◌};
 ghost use Rattle.rules.specs.Shown.{has_id};
 
+// Kept: what may not change: an entry is what its words say (`get`, for any words), and a kind may be any of 16 numbers there.
 pub const FILE_FORMAT: u8 = 1;
 
 pub const INFO: u8 = 2;
@@ -26,8 +27,5 @@ pub const SAMPLE: u8 = 10;
 pub fn has_id(kind: u8) -> bool
     ensures { result ≡ has_id kind }
 {
-    if kind < INFO {
-        return false;
-    }
-    kind <= OTHER_MAP
+    INFO <= kind && kind <= OTHER_MAP
 }

@@ -42,10 +42,7 @@ pub fn set(table: &mut [u64], form: Form, n: usize, x: usize)
 pub fn clear(table: &mut [u64])
     ensures { table.new ≡ bare table.old }
 {
-    let mut i: usize = 0;
-    while i < table.len() {
-        let w = table[i];
-        table[i] = with_note(w, 0);
-        i += 1;
+    for w in table.iter_mut() {
+        *w = with_note(*w, 0);
     }
 }

@@ -11,94 +11,45 @@ use crate::form::Form;
 use crate::{kind, table};
 use values::bytes;
 use values::cursor::Cursor;
-use values::field::{FieldRead, Separator};
 
 // A part of the header, or refusal 29: no such entry, no such field, or an entry that is not well formed.
-#[derive(Clone, Copy)]
-pub enum Shown {
-    Part { start: usize, end: usize },
-    Refused,
-}
+pub type Shown = Option<(usize, usize)>;
 
 // The part of a key, and how many fields follow it; or refusal 29.
-#[derive(Clone, Copy)]
-pub enum KeyShown {
-    Key {
-        start: usize,
-        end: usize,
-        fields: usize,
-    },
-    Refused,
-}
-
-#[derive(Clone, Copy)]
-pub enum EntryRead {
-    Entry(Entry),
-    Missing,
-}
+pub type KeyShown = Option<(usize, usize, usize)>;
 
 fn has_known_kind(kind: u8) -> bool
     ensures { result ≡ (leb 1 kind && leb kind 10) }
 {
-    if kind < kind::FILE_FORMAT {
-        return false;
-    }
-    kind <= kind::SAMPLE
+    kind::FILE_FORMAT <= kind && kind <= kind::SAMPLE
 }
 
 // Only an ID of an other map has a tag, Child or Derived.
 fn has_known_tag(kind: u8, tag: u8) -> bool
     ensures { result ≡ (eqb tag 0 || (eqb kind 7 && leb tag 2)) }
 {
-    if tag == 0 {
-        return true;
-    }
-    if kind != kind::OTHER_MAP {
-        return false;
-    }
-    tag <= 2
+    tag == 0 || (kind == kind::OTHER_MAP && tag <= 2)
 }
 
 fn says_no_id(e: Entry) -> bool
     ensures { result ≡ says_no_id (entry_of e) }
 {
-    if e.offset != 0 {
-        return false;
-    }
-    if e.id_length != 0 {
-        return false;
-    }
-    let quoted = e.quoted;
-    if quoted {
-        return false;
-    }
-    e.tag == 0
+    e.offset == 0 && e.id_length == 0 && !e.quoted && e.tag == 0
 }
 
 // A key is counted of records alone, and fields of maps.
 fn has_due_counts(e: Entry) -> bool
     ensures { result ≡ counts_in_place (entry_of e) }
 {
-    if kind::has_id(e.kind) {
-        return true;
-    }
-    if e.field_count != 0 {
-        return false;
-    }
-    if e.kind <= kind::OTHER_TEXT {
-        return true;
-    }
-    e.key_length == 0
+    kind::has_id(e.kind)
+        || (e.field_count == 0 && (e.kind <= kind::OTHER_TEXT || e.key_length == 0))
 }
 
 // Whether `length` bytes from `start` on are among `size`.
 fn lies_inside(size: usize, start: usize, length: usize) -> bool
     ensures { result ≡ leb (start + length) size }
 {
-    if size < start {
-        return false;
-    }
-    length <= size - start
+    start <= size && length <= size - start
 }
 
 // `size`: the header's length.
@@ -128,24 +79,21 @@ fn is_well_formed(size: usize, e: Entry) -> bool
 pub fn is_entry(size: usize, table: &[u64], form: Form, n: usize) -> bool
     ensures { result ≡ (words_clear form table.now n && well_formed size (entry_in form table.now n)) }
 {
-    if !table::is_clear(table, form, n) {
-        return false;
-    }
-    is_well_formed(size, table::get(table, form, n))
+    table::is_clear(table, form, n) && is_well_formed(size, table::get(table, form, n))
 }
 
 // Entry n, from 0, if it lies in the table and is well formed.
-pub fn entry_at(h: &[u8], table: &[u64], form: Form, n: usize) -> EntryRead
+pub fn entry_at(h: &[u8], table: &[u64], form: Form, n: usize) -> Option<Entry>
     ensures { entry_meant result ≡ entry_at form h.now table.now n }
 {
     if !table::is_clear(table, form, n) {
-        return EntryRead::Missing;
+        return None;
     }
     let e = table::get(table, form, n);
     if is_well_formed(h.len(), e) {
-        return EntryRead::Entry(e);
+        return Some(e);
     }
-    EntryRead::Missing
+    None
 }
 
 // The line of entry n, or the sample name.
@@ -153,12 +101,12 @@ pub fn entry(h: &[u8], table: &[u64], form: Form, n: usize) -> Shown
     ensures shown { answered result ≡ or_refused (shown_entry form h.now table.now n) }
     ensures inside { Inside (length h.now) result }
 {
-    let EntryRead::Entry(e) = entry_at(h, table, form, n) else {
-        return Shown::Refused;
+    let Some(e) = entry_at(h, table, form, n) else {
+        return None;
     };
     let start = e.start;
     let end = start + e.length;
-    Shown::Part { start, end }
+    Some((start, end))
 }
 
 // The ID's text of entry n, without quotes.
@@ -166,15 +114,15 @@ pub fn id(h: &[u8], table: &[u64], form: Form, n: usize) -> Shown
     ensures shown { answered result ≡ or_refused (shown_id form h.now table.now n) }
     ensures inside { Inside (length h.now) result }
 {
-    let EntryRead::Entry(e) = entry_at(h, table, form, n) else {
-        return Shown::Refused;
+    let Some(e) = entry_at(h, table, form, n) else {
+        return None;
     };
     if !kind::has_id(e.kind) {
-        return Shown::Refused;
+        return None;
     }
     let start = e.start + e.offset;
     let end = start + e.id_length;
-    Shown::Part { start, end }
+    Some((start, end))
 }
 
 // The key of entry n, after its `##`, and the number of its fields. The line is not read; the first form does not tell them.
@@ -183,22 +131,22 @@ pub fn key(h: &[u8], table: &[u64], form: Form, n: usize) -> KeyShown
     ensures inside { KeyInside (length h.now) result }
 {
     let limits = form.limits();
-    let EntryRead::Entry(e) = entry_at(h, table, form, n) else {
-        return KeyShown::Refused;
+    let Some(e) = entry_at(h, table, form, n) else {
+        return None;
     };
     if !limits.counted {
-        return KeyShown::Refused;
+        return None;
     }
     if kind::OTHER_TEXT < e.kind {
-        return KeyShown::Refused;
+        return None;
     }
     if !lies_inside(e.length, 2, e.key_length) {
-        return KeyShown::Refused;
+        return None;
     }
     let start = e.start + 2;
     let end = start + e.key_length;
     let fields = e.field_count;
-    KeyShown::Key { start, end, fields }
+    Some((start, end, fields))
 }
 
 // The bytes of a part, none where it was refused.
@@ -206,8 +154,8 @@ pub fn bytes_of(h: &[u8], shown: Shown) -> &[u8]
     ensures { result.now ≡ bytes_of h.now shown }
 {
     match shown {
-        Shown::Part { start, end } => bytes::part(h, start, end),
-        Shown::Refused => &h[..0],
+        Some((start, end)) => bytes::part(h, start, end),
+        None => &h[..0],
     }
 }
 
@@ -217,20 +165,19 @@ pub fn nth_field(s: &[u8], at: usize, brackets: bool, n: usize) -> Shown
     ensures inside { Inside (length s.now) result }
 {
     let mut c = Cursor { at };
-    let mut left = n;
-    loop {
-        let start = c.at;
-        let FieldRead::Field(_, _, next) = c.split_field(s, brackets) else {
-            return Shown::Refused;
+    for _i in 0..n {
+        let Some((_, _, next)) = c.split_field(s, brackets) else {
+            return None;
         };
-        if left == 0 {
-            let end = next.at;
-            return Shown::Part { start, end };
-        }
-        let Separator::Comma(d) = next.consume_separator(s) else {
-            return Shown::Refused;
+        let Some(d) = next.consume_separator(s) else {
+            return None;
         };
-        left -= 1;
         c = d;
     }
+    let start = c.at;
+    let Some((_, _, next)) = c.split_field(s, brackets) else {
+        return None;
+    };
+    let end = next.at;
+    Some((start, end))
 }

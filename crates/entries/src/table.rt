@@ -44,10 +44,7 @@ fn words_at(table: &[u64], form: Form, n: usize) -> &[u64]
 fn third(words: &[u64]) -> u64
     ensures { result ≡ get_or words.now 2 0 }
 {
-    if words.len() <= 2 {
-        return 0;
-    }
-    words[2]
+    words.get(2).copied().unwrap_or(0)
 }
 
 // Entry n, from 0, well formed or not; past the table one of zeros.

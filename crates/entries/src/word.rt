@@ -24,7 +24,7 @@ fn bit_of(is: bool) -> u64
     ensures bit { result ≡ bit is }
     ensures small { result ≤ 1 }
 {
-    if is { 1 } else { 0 }
+    u64::from(is)
 }
 
 // ID offset in the line 16, ID length 16, quoted 1, ID tag 2, zero 29; in the second form offset 24, length 24, 1, 2, zero 13.
@@ -95,21 +95,8 @@ pub fn is_clear(form: Form, w: u64, x: u64, y: u64) -> bool
     ensures { result ≡ is_clear form (w ∷ x ∷ y ∷ []) }
 {
     match form {
-        Form::First => {
-            if w % 0x100_0000 != 0 {
-                return false;
-            }
-            x % 0x2000_0000 == 0
-        }
-        Form::Second => {
-            if w % 0x1000 != 0 {
-                return false;
-            }
-            if x % 0x2000 != 0 {
-                return false;
-            }
-            y % 0x1_0000 == 0
-        }
+        Form::First => w % 0x100_0000 == 0 && x % 0x2000_0000 == 0,
+        Form::Second => w % 0x1000 == 0 && x % 0x2000 == 0 && y % 0x1_0000 == 0,
     }
 }
 

@@ -2,7 +2,7 @@
 use Prim.Native.Nat.{ℕ}
 use native.Mathlib.Omega.{arith}
 use mathlib.Core.Path.{◌≡◌, refl, sym, ap, ap₂}
-use mathlib.Core.Option.{Option, none, some}
+use Rattle.std.specs.Prelude.{Option, None, Some, Result, Ok, Err}
 use Rattle.values.proofs.Lists.{some_is, none_not}
 use Rattle.rules.specs.Version.{Version}
 use Rattle.records.specs.Formats.{format_of}
@@ -10,32 +10,29 @@ use Rattle.records.proofs.Refusals.{number_injective, number_suc}
 use Rattle.header.specs.Steps.{Stage, opening, body, ending, Spot}
 use Rattle.header.specs.Verdicts.{imposed_of, stage_of}
 use Rattle.header.specs.Parsers.{spot_in}
-use Rattle.header.specs.declared.file_format_option.FileFormatOption.{FileFormatOption}
-use Rattle.header.specs.declared.file_format_option.FileFormatOption.TheVariants as option
 use Rattle.header.specs.declared.phase.Phase.{Phase}
 use Rattle.header.specs.declared.phase.Phase.TheVariants as phase
 use Rattle.header.specs.declared.parser.Parser.{Parser}
 use Rattle.header.proofs.Answers.{answer_injective}
 use Rattle.feed.specs.Feeding.{Feeding}
 use Rattle.feed.specs.Calls.{feed_number, feed_says, ended_means, state_means, Answered, feed_means}
-use Rattle.feed.specs.declared.cable.Ended.{Ended}
-use Rattle.feed.specs.declared.cable.Ended.TheVariants as ended
 use Rattle.feed.specs.declared.cable.FeedState.{FeedState}
-use Rattle.feed.specs.declared.cable.FeedOutcome.{FeedOutcome}
-use Rattle.feed.specs.declared.cable.FeedOutcome.TheVariants as outcome
 use Rattle.feed.specs.declared.cable.FeedAnswer.{FeedAnswer}
+use Rattle.records.specs.declared.file_format.FileFormat.{FileFormat}
+use Rattle.header.specs.declared.parser.ReadAnswer.{ReadAnswer}
+use Rattle.records.specs.declared.refusal.Refusal.{Refusal}
 
-imposed_is : (a b : FileFormatOption) → imposed_of a ≡ imposed_of b → a ≡ b
-imposed_is option.None option.None e = refl
-imposed_is option.None (option.Some g) e = none_not e
-imposed_is (option.Some f) option.None e = none_not (sym e)
-imposed_is (option.Some f) (option.Some g) e = let v : f ≡ g = ap format_of (some_is e) in ap option.Some v
+imposed_is : (a b : Option FileFormat) → imposed_of a ≡ imposed_of b → a ≡ b
+imposed_is None None e = refl
+imposed_is None (Some g) e = none_not e
+imposed_is (Some f) None e = none_not (sym e)
+imposed_is (Some f) (Some g) e = let v : f ≡ g = ap format_of (some_is e) in ap Some v
 
 -- the version and the number that a stage has
 version_in : Stage → Option (Version × ℕ)
-version_in opening = none
-version_in (body v) = some (v, 0)
-version_in (ending v n) = some (v, n)
+version_in opening = None
+version_in (body v) = Some (v, 0)
+version_in (ending v n) = Some (v, n)
 
 phase_is : (a b : Phase) → stage_of a ≡ stage_of b → a ≡ b
 unfolding version_in
@@ -63,11 +60,11 @@ parser_is a b e =
     let n = ap (λ (s : Spot). s.count) e in
     rw (p, l, i, n)
 
-ended_is : (a b : Ended) → ended_means a ≡ ended_means b → a ≡ b
-ended_is ended.No ended.No e = refl
-ended_is ended.No (ended.Yes y) e = none_not e
-ended_is (ended.Yes x) ended.No e = none_not (sym e)
-ended_is (ended.Yes x) (ended.Yes y) e = ap ended.Yes (answer_injective x y (some_is e))
+ended_is : (a b : Option ReadAnswer) → ended_means a ≡ ended_means b → a ≡ b
+ended_is None None e = refl
+ended_is None (Some y) e = none_not e
+ended_is (Some x) None e = none_not (sym e)
+ended_is (Some x) (Some y) e = ap Some (answer_injective x y (some_is e))
 
 pub state_injective : (a b : FeedState) → state_means a ≡ state_means b → a ≡ b
 state_injective a b e =
@@ -77,20 +74,20 @@ state_injective a b e =
     let d = ended_is a.ended b.ended (ap (λ (s : Feeding). s.ended) e) in
     rw (i, p, h, d)
 
-outcome_is : (x y : FeedOutcome) → feed_number x ≡ feed_number y → feed_says x ≡ feed_says y → x ≡ y
-outcome_is outcome.More outcome.More e s = refl
-outcome_is outcome.More (outcome.Accepted g n) e s = none_not s
-outcome_is outcome.More (outcome.Refused y) e s = let z = number_suc y in absurd (omega (arith, z.1, e))
-outcome_is (outcome.Accepted f m) outcome.More e s = none_not (sym s)
-outcome_is (outcome.Accepted f m) (outcome.Accepted g n) e s =
+outcome_is : (x y : Option (Result (FileFormat × ℕ) Refusal)) → feed_number x ≡ feed_number y → feed_says x ≡ feed_says y → x ≡ y
+outcome_is None None e s = refl
+outcome_is None (Some (Ok (g, n))) e s = none_not s
+outcome_is None (Some (Err y)) e s = let z = number_suc y in absurd (omega (arith, z.1, e))
+outcome_is (Some (Ok (f, m))) None e s = none_not (sym s)
+outcome_is (Some (Ok (f, m))) (Some (Ok (g, n))) e s =
     let p = some_is s in
     let v : f ≡ g = ap (λ (q : Version × ℕ). format_of q.0) p in
     let c : m ≡ n = ap (λ (q : Version × ℕ). q.1) p in
-    ap₂ outcome.Accepted v c
-outcome_is (outcome.Accepted f m) (outcome.Refused y) e s = none_not (sym s)
-outcome_is (outcome.Refused x) outcome.More e s = let z = number_suc x in absurd (omega (arith, z.1, e))
-outcome_is (outcome.Refused x) (outcome.Accepted g n) e s = none_not s
-outcome_is (outcome.Refused x) (outcome.Refused y) e s = ap outcome.Refused (number_injective x y e)
+    ap₂ (λ (a : FileFormat) (b : ℕ). Some (Ok (a, b))) v c
+outcome_is (Some (Ok (f, m))) (Some (Err y)) e s = none_not (sym s)
+outcome_is (Some (Err x)) None e s = let z = number_suc x in absurd (omega (arith, z.1, e))
+outcome_is (Some (Err x)) (Some (Ok (g, n))) e s = none_not s
+outcome_is (Some (Err x)) (Some (Err y)) e s = ap (λ (z : Refusal). Some (Err z)) (number_injective x y e)
 
 -- so `feed` and `close` promise one answer and one state
 pub feed_injective : (a b : FeedAnswer) → feed_means a ≡ feed_means b → a ≡ b

@@ -1,61 +1,52 @@
 -- The calls: the ways of the code's tests and answers, on plain values. Assumes nothing.
-use Prim.Native.Nat.{ℕ, suc, ◌+◌, ◌-◌, ◌≤◌, ◌<◌}
+use Prim.Native.Nat.{ℕ, ◌+◌, ◌-◌, ◌≤◌, ◌<◌}
 use native.Mathlib.Omega.{arith}
 use mathlib.Core.Path.{◌≡◌, refl, sym, ap, subst, ◌∙◌}
 use mathlib.Core.Bool.{Bool, true, false, not, ◌&&◌}
-use mathlib.Core.List.{List, [], ◌∷◌, ◌++◌}
-use mathlib.Core.Option.{Option, none, some}
+use mathlib.Core.List.{List, append_assoc}
+use Rattle.std.specs.Prelude.{Option, None, Some, Result, Ok, Err}
 use lib.Dec.{leb}
-use lib.ListN.{length, get_or, set, take, length-take}
-use lib.Seq.{sets, length-sets, take_all, take-suc}
-use borrow.Author.Tests.{le-leb, lt-leb, leb-true, leb-false}
+use lib.ListN.{length, drop, take, length-take}
+use lib.Seq.{sets, sets-eq, length-sets, drop-drop}
+use borrow.Rule.Slice.PartMut.{put_mid}
+use borrow.Author.Tests.{le-leb, lt-leb, leb-true}
 use Rattle.values.specs.Bytes.{Bytes}
 use Rattle.values.proofs.Tests.{pass, fail, test, not_true, not_false, and_l, and_r}
 use Rattle.rules.specs.Sizes.{Limits}
 use Rattle.records.specs.Refusals.{number}
-use Rattle.records.specs.declared.file_format.FileFormat.{FileFormat}
 use Rattle.records.specs.declared.refusal.Refusal.{Refusal}
 use Rattle.entries.specs.declared.form.Form.{Form}
 use Rattle.entries.specs.declared.limits.Limits.{Limits as CodeLimits}
 use Rattle.entries.specs.Tables.{all_formed}
 use Rattle.entries.specs.Values.{limits_of, limits_by}
 use Rattle.lines.specs.Lines.{last_end}
-use Rattle.header.specs.Steps.{start_spot, fits, read_on, table_on}
-use Rattle.header.specs.Verdicts.{imposed_of}
+use Rattle.header.specs.Steps.{fits, read_on, table_on}
 use Rattle.header.specs.Parsers.{AnswerMeaning, answer_means, spot_in, advance_means, ended_at, refused_at, ReadsOn}
-use Rattle.header.specs.declared.file_format_option.FileFormatOption.{FileFormatOption}
-use Rattle.header.specs.declared.parser.Outcome.TheVariants as read
 use Rattle.header.specs.declared.parser.ReadAnswer.{ReadAnswer}
 use Rattle.header.specs.declared.parser.Parser.{Parser}
-use Rattle.header.specs.declared.parser.Advance.{Advance}
-use Rattle.header.specs.declared.parser.Advance.TheVariants as advance
 use Rattle.header.proofs.Steps.{Fit, fit}
 use Rattle.header.proofs.Parsers.{table_length, on_lines, on_length}
 use Rattle.header.proofs.Parts.{part_count}
-use Rattle.feed.specs.Feeding.{Feeding, Fed, start_of, is_sound, unmoved, broken, unless_over, has_room, too_long, so_far, ended_state, open_state, complete_told, complete_table, piece_fed, feed_of, rest_told, rest_fed, close_of}
-use Rattle.feed.specs.Calls.{feed_number, ended_means, state_means, told, feed_means, ReadsComplete, ReadsRest, Leaves, Closes}
-use Rattle.feed.specs.declared.cable.Ended.{Ended}
-use Rattle.feed.specs.declared.cable.Ended.TheVariants as ended
+use Rattle.feed.specs.Feeding.{Feeding, Fed, is_sound, unmoved, broken, unless_over, has_room, too_long, so_far, ended_state, open_state, complete_told, complete_table, piece_fed, feed_of, rest_told, rest_fed, close_of}
+use Rattle.feed.specs.Calls.{ended_means, state_means, told, feed_means, ReadsComplete, ReadsRest, Leaves, Closes}
 use Rattle.feed.specs.declared.cable.FeedState.{FeedState}
-use Rattle.feed.specs.declared.cable.FeedOutcome.{FeedOutcome}
-use Rattle.feed.specs.declared.cable.FeedOutcome.TheVariants as outcome
 use Rattle.feed.specs.declared.cable.FeedAnswer.{FeedAnswer}
 
 -- The state
 
 module _ (form : Form) (s : Feeding) (b t : List ℕ) where
-  pub sound_short : length b < s.held → false ≡ is_sound form s b t
+  pub sound_short : length b < s.held → leb s.held (length b) ≡ is_sound form s b t
   unfolding is_sound
   sound_short l = rw (lt-leb s.held (length b) l)
 
   module _ (l : s.held ≤ length b) {q : Bool} (e : q ≡ fits form s.held t s.spot) where
-    pub sound_unfit : not q ≡ true → false ≡ is_sound form s b t
+    pub sound_unfit : q ≡ false → q ≡ is_sound form s b t
     unfolding is_sound
-    sound_unfit n = rw (le-leb s.held (length b) l, ← e, not_true q n)
+    sound_unfit n = rw (le-leb s.held (length b) l, ← e, n)
 
-    pub sound_formed : not q ≡ false → {r : Bool} → r ≡ all_formed form (take s.held b) t 0 s.spot.count → r ≡ is_sound form s b t
+    pub sound_formed : q ≡ true → {r : Bool} → r ≡ all_formed form (take s.held b) t 0 s.spot.count → r ≡ is_sound form s b t
     unfolding is_sound
-    sound_formed n f = f ∙ rw (le-leb s.held (length b) l, ← e, not_false q n)
+    sound_formed n f = f ∙ rw (le-leb s.held (length b) l, ← e, n)
 
 pub ruleset sounds = (sound_short, sound_unfit, sound_formed, part_count)
 
@@ -79,79 +70,44 @@ sound form s b t e =
 
 -- Room
 
-pub room_less : (size held more : ℕ) → size < held → false ≡ leb (held + more) size
-room_less size held more l = sym (lt-leb (held + more) size (omega arith))
-
-pub room_more : (size held more : ℕ) → held ≤ size → leb more (size - held) ≡ leb (held + more) size
-room_more size held more l = elim (test (leb more (size - held))) [
-  | pass e ↦ e ∙ sym (le-leb (held + more) size (omega (arith, leb-true more (size - held) e)))
-  | fail e ↦ e ∙ sym (lt-leb (held + more) size (omega (arith, leb-false more (size - held) e)))
-]
-
-pub ruleset rooms = (room_less, room_more)
-
 module _ (form : Form) (held : ℕ) (piece b : Bytes) {given : CodeLimits} (g : limits_of given ≡ limits_by form) {q : Bool} (e : q ≡ leb (held + length piece) (length b)) where
-  pub no_room : not q ≡ true → false ≡ has_room form held piece b
+  pub no_room : q ≡ false → q ≡ has_room form held piece b
   unfolding has_room
-  no_room n = rw (← e, not_true q n)
+  no_room n = rw (← e, n)
 
-  pub some_room : not q ≡ false → {r : Bool} → r ≡ leb (held + length piece) given.header → r ≡ has_room form held piece b
+  pub some_room : q ≡ true → {r : Bool} → r ≡ leb (held + length piece) given.header → r ≡ has_room form held piece b
   unfolding has_room
-  some_room n f = f ∙ rw (← e, not_false q n, ap (λ (x : Limits). x.header) g)
+  some_room n f = f ∙ rw (← e, n, ap (λ (x : Limits). x.header) g)
 
 pub ruleset has_rooms = (no_room, some_room)
 
--- Answers
-
-pub start_means : (imposed : FileFormatOption) (p : Parser) → spot_in p ≡ start_spot → state_means (record { imposed = imposed; parser = p; held = 0; ended = ended.No }) ≡ start_of (imposed_of imposed)
-start_means imposed p e = rw e
-
-pub number_refused : {o : FeedOutcome} {x : Refusal} → o ≡ outcome.Refused x → {n : ℕ} → n ≡ number x → n ≡ feed_number o
-number_refused e f = f ∙ rw e
-
-module _ (s : FeedState) (a : ReadAnswer) where
-  pub answer_accepted : {f : FileFormat} {n : ℕ} → a.outcome ≡ read.Accepted f n
-      → feed_means (record { state = s; outcome = outcome.Accepted f n; line = a.line; start = a.start; entries = a.entries }) ≡ told (state_means s) (answer_means a)
-  answer_accepted e = rw e
-
-  pub answer_refused : {x : Refusal} → a.outcome ≡ read.Refused x
-      → feed_means (record { state = s; outcome = outcome.Refused x; line = a.line; start = a.start; entries = a.entries }) ≡ told (state_means s) (answer_means a)
-  answer_refused e = rw e
-
-pub stop_means : (imposed : FileFormatOption) (p : Parser) (held : ℕ) (x : Refusal) (r : FeedAnswer)
-    → feed_means r ≡ told (ended_state (imposed_of imposed) (spot_in p) held (answer_means (record { outcome = read.Refused x; line = p.line + 1; start = p.at; entries = p.count }))) (answer_means (record { outcome = read.Refused x; line = p.line + 1; start = p.at; entries = p.count }))
-    → feed_means r ≡ told (ended_state (imposed_of imposed) (spot_in p) held (refused_at (number x) (spot_in p))) (refused_at (number x) (spot_in p))
-stop_means imposed p held x r e = let z : p.line + 1 ≡ suc p.line = omega arith in e ∙ rw z
-
-pub ruleset answers = (start_means, number_refused, answer_accepted, answer_refused, stop_means)
-
 -- The lines of the bytes held
 
-module _ (form : Form) (s : Feeding) (h t : List ℕ) {end : ℕ} (ee : end ≡ last_end h s.spot.at) {r : Advance} {t' : List ℕ} (c : ReadsOn form s.imposed h end t s.spot r t') where
-  complete_told_lem : {x : Advance} → r ≡ x → complete_told form s h t ≡ advance_means x
+module _ (form : Form) (s : Feeding) (h t : List ℕ) {end : ℕ} (ee : end ≡ last_end h s.spot.at) {r : Result Parser (Parser × Refusal)} {t' : List ℕ} (c : ReadsOn form s.imposed h end t s.spot r t') where
+  complete_told_lem : {x : Result Parser (Parser × Refusal)} → r ≡ x → complete_told form s h t ≡ advance_means x
   complete_told_lem i = sym (sym (ap advance_means i) ∙ c.told ∙ ap (λ (n : ℕ). read_on form s.imposed h n t s.spot) ee)
 
   complete_table_lem : t' ≡ complete_table form s h t
   complete_table_lem = c.table ∙ ap (λ (n : ℕ). table_on form s.imposed h n t s.spot) ee
 
-  pub complete_ended : {p : Parser} → r ≡ advance.Ended p → {a : FeedAnswer} → feed_means a ≡ told (open_state s.imposed (spot_in p) s.held) (so_far s.held (spot_in p)) → ReadsComplete form s h t a t'
+  pub complete_ended : {p : Parser} → r ≡ Ok p → {a : FeedAnswer} → feed_means a ≡ told (open_state s.imposed (spot_in p) s.held) (so_far s.held (spot_in p)) → ReadsComplete form s h t a t'
   complete_ended i f = record { answer = f ∙ rw (complete_told_lem i); table = complete_table_lem }
 
-  pub complete_stopped : {p : Parser} {x : Refusal} → r ≡ advance.Stopped p x → {a : FeedAnswer}
+  pub complete_stopped : {p : Parser} {x : Refusal} → r ≡ Err (p, x) → {a : FeedAnswer}
       → feed_means a ≡ told (ended_state s.imposed (spot_in p) s.held (refused_at (number x) (spot_in p))) (refused_at (number x) (spot_in p)) → ReadsComplete form s h t a t'
   complete_stopped i f = record { answer = f ∙ rw (complete_told_lem i); table = complete_table_lem }
 
 pub ruleset completes = (complete_ended, complete_stopped, on_lines, on_length)
 
-module _ (form : Form) (s : Feeding) (h t : List ℕ) {r : Advance} {t' : List ℕ} (c : ReadsOn form s.imposed h s.held t s.spot r t') where
-  rest_told_lem : {x : Advance} → r ≡ x → rest_told form s h t ≡ advance_means x
+module _ (form : Form) (s : Feeding) (h t : List ℕ) {r : Result Parser (Parser × Refusal)} {t' : List ℕ} (c : ReadsOn form s.imposed h s.held t s.spot r t') where
+  rest_told_lem : {x : Result Parser (Parser × Refusal)} → r ≡ x → rest_told form s h t ≡ advance_means x
   rest_told_lem i = sym (sym (ap advance_means i) ∙ c.told)
 
-  pub rest_ended : {p : Parser} → r ≡ advance.Ended p → (y : ReadAnswer) → answer_means y ≡ ended_at (spot_in p) → {a : FeedAnswer}
+  pub rest_ended : {p : Parser} → r ≡ Ok p → (y : ReadAnswer) → answer_means y ≡ ended_at (spot_in p) → {a : FeedAnswer}
       → feed_means a ≡ told (ended_state s.imposed (spot_in p) s.held (answer_means y)) (answer_means y) → ReadsRest form s h t a t'
   rest_ended i y g f = record { answer = f ∙ rw (rest_told_lem i, g); table = c.table }
 
-  pub rest_stopped : {p : Parser} {x : Refusal} → r ≡ advance.Stopped p x → {a : FeedAnswer}
+  pub rest_stopped : {p : Parser} {x : Refusal} → r ≡ Err (p, x) → {a : FeedAnswer}
       → feed_means a ≡ told (ended_state s.imposed (spot_in p) s.held (refused_at (number x) (spot_in p))) (refused_at (number x) (spot_in p)) → ReadsRest form s h t a t'
   rest_stopped i f = record { answer = f ∙ rw (rest_told_lem i); table = c.table }
 
@@ -159,40 +115,8 @@ pub ruleset rests = (rest_ended, rest_stopped, on_lines, on_length)
 
 -- A piece
 
-sets_more : (xs l : List ℕ) (i a : ℕ) → sets l i (xs ++ a ∷ []) ≡ set (sets l i xs) (i + length xs) a
-sets_more [] l i a = let z : i + 0 ≡ i = omega arith in rw z
-sets_more (x ∷ xs) l i a = let z : suc i + length xs ≡ i + suc (length xs) = omega arith in sets_more xs (set l i x) (suc i) a ∙ rw z
-
--- its first k bytes are copied
-pub record Copying (b₀ piece b : Bytes) (held k : ℕ) : Type 0 where
-  pub within : k ≤ length piece
-  pub copied : b ≡ sets b₀ held (take k piece)
-
-pub copying_start : (b piece : Bytes) (held : ℕ) → Copying b piece b held 0
-copying_start b piece held = record { within = omega arith; copied = refl }
-
-module _ {b₀ piece b : Bytes} {held k : ℕ} (g : Copying b₀ piece b held k) where
-  pub copying_length : length b ≡ length b₀
-  copying_length = ap length g.copied ∙ length-sets b₀ held (take k piece)
-
-  pub copying_room : k < length piece → held + length piece ≤ length b₀ → held + k < length b
-  copying_room l m = omega (arith, copying_length)
-
-  pub copying_next : k < length piece → {b' : Bytes} → b' ≡ set b (held + k) (get_or piece k 0) → Copying b₀ piece b' held (k + 1)
-  copying_next l e =
-      let i : k + 1 ≡ suc k = omega arith in
-      let n : length (take k piece) ≡ k = simp length-take (omega arith) in
-      let more : sets b₀ held (take (k + 1) piece) ≡ set (sets b₀ held (take k piece)) (held + k) (get_or piece k 0)
-      = rw (i, take-suc piece k 0 l) (sets_more (take k piece) b₀ held (get_or piece k 0) ∙ rw n) in
-      record { within = omega arith; copied = e ∙ rw g.copied (sym more) }
-
-  pub copying_end : length piece ≤ k → b ≡ sets b₀ held piece
-  copying_end l = g.copied ∙ ap (sets b₀ held) (take_all k piece l)
-
-  pub copying_place : length piece ≤ k → held + k ≡ held + length piece
-  copying_place l = omega (arith, g.within)
-
-pub ruleset copyings = (copying_start, copying_length, copying_room, copying_next, copying_end, copying_place)
+pub piece_put : (b piece : Bytes) (held : ℕ) → held + length piece ≤ length b → {p : Bytes} → p ≡ piece → put_mid held (held + length piece - held) b p ≡ sets b held piece
+piece_put b piece held h e = let k : held + length piece - held ≡ length piece = omega arith in rw (e, k, drop-drop (length piece) held b) (sym (append_assoc (take held b) piece (drop (held + length piece) b)) ∙ sym (sets-eq piece b held h))
 
 -- after it was copied
 module _ (form : Form) (held : ℕ) (piece b : Bytes) {q : Bool} (e : q ≡ has_room form held piece b) (n : not q ≡ false) where
@@ -243,10 +167,10 @@ module _ (s : Feeding) (b t : List ℕ) (next : Fed) where
   over_broken : {q : Bool} → q ≡ false → (o : Option AnswerMeaning) → unless_over q s b t o next ≡ unmoved s broken b t
   over_broken e o = rw e
 
-  over_ended : {q : Bool} → q ≡ true → {o : Option AnswerMeaning} {a : AnswerMeaning} → o ≡ some a → unless_over q s b t o next ≡ unmoved s a b t
+  over_ended : {q : Bool} → q ≡ true → {o : Option AnswerMeaning} {a : AnswerMeaning} → o ≡ Some a → unless_over q s b t o next ≡ unmoved s a b t
   over_ended e f = rw (e, f)
 
-  over_open : {q : Bool} → q ≡ true → {o : Option AnswerMeaning} → o ≡ none → unless_over q s b t o next ≡ next
+  over_open : {q : Bool} → q ≡ true → {o : Option AnswerMeaning} → o ≡ None → unless_over q s b t o next ≡ next
   over_open e f = rw (e, f)
 
 module _ (form : Form) (s : Feeding) (piece b t : List ℕ) where
@@ -254,11 +178,11 @@ module _ (form : Form) (s : Feeding) (piece b t : List ℕ) where
   unfolding feed_of
   feed_when_broken e = over_broken s b t (piece_fed form s piece b t) e s.ended
 
-  pub feed_when_over : is_sound form s b t ≡ true → {a : AnswerMeaning} → s.ended ≡ some a → feed_of form s piece b t ≡ unmoved s a b t
+  pub feed_when_over : is_sound form s b t ≡ true → {a : AnswerMeaning} → s.ended ≡ Some a → feed_of form s piece b t ≡ unmoved s a b t
   unfolding feed_of
   feed_when_over e f = over_ended s b t (piece_fed form s piece b t) e f
 
-  pub feed_when_open : is_sound form s b t ≡ true → s.ended ≡ none → feed_of form s piece b t ≡ piece_fed form s piece b t
+  pub feed_when_open : is_sound form s b t ≡ true → s.ended ≡ None → feed_of form s piece b t ≡ piece_fed form s piece b t
   unfolding feed_of
   feed_when_open e f = over_open s b t (piece_fed form s piece b t) e f
 
@@ -267,11 +191,11 @@ module _ (form : Form) (s : Feeding) (b t : List ℕ) where
   unfolding close_of
   close_when_broken e = over_broken s b t (rest_fed form s b t) e s.ended
 
-  pub close_when_over : is_sound form s b t ≡ true → {a : AnswerMeaning} → s.ended ≡ some a → close_of form s b t ≡ unmoved s a b t
+  pub close_when_over : is_sound form s b t ≡ true → {a : AnswerMeaning} → s.ended ≡ Some a → close_of form s b t ≡ unmoved s a b t
   unfolding close_of
   close_when_over e f = over_ended s b t (rest_fed form s b t) e f
 
-  pub close_when_open : is_sound form s b t ≡ true → s.ended ≡ none → close_of form s b t ≡ rest_fed form s b t
+  pub close_when_open : is_sound form s b t ≡ true → s.ended ≡ None → close_of form s b t ≡ rest_fed form s b t
   unfolding close_of
   close_when_open e f = over_open s b t (rest_fed form s b t) e f
 
@@ -302,14 +226,14 @@ module _ (form : Form) (x : FeedState) (b t : List ℕ) {q : Bool} (e : q ≡ is
     pub held_part : length (take x.held b) ≡ x.held
     held_part = part_count b x.held held_inside
 
-    module _ {a : ReadAnswer} (i : x.ended ≡ ended.Yes a) (r : FeedAnswer) (f : feed_means r ≡ told s (answer_means a)) where
+    module _ {a : ReadAnswer} (i : x.ended ≡ Some a) (r : FeedAnswer) (f : feed_means r ≡ told s (answer_means a)) where
       pub feed_over : (piece : Bytes) → Leaves (feed_of form s piece b t) r b t
       feed_over piece = subst (λ (y : Fed). leaves y r) (sym (feed_when_over form s piece b t sure (ap ended_means i))) (record { answer = f; buffer = refl; table = refl })
 
       pub close_over : Closes (close_of form s b t) r t
       close_over = subst (λ (y : Fed). closes y r) (sym (close_when_over form s b t sure (ap ended_means i))) (record { answer = f; table = refl })
 
-    module _ (i : x.ended ≡ ended.No) {r : FeedAnswer} {t' : List ℕ} where
+    module _ (i : x.ended ≡ None) {r : FeedAnswer} {t' : List ℕ} where
       pub feed_taken : (piece : Bytes) {b' : Bytes} → Leaves (piece_fed form s piece b t) r b' t' → Leaves (feed_of form s piece b t) r b' t'
       feed_taken piece {b'} c = subst (λ (y : Fed). Leaves y r b' t') (sym (feed_when_open form s piece b t sure (ap ended_means i))) c
 

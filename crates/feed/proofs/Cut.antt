@@ -4,7 +4,7 @@ use native.Mathlib.Omega.{arith}
 use mathlib.Core.Path.{◌≡◌, refl, sym, ap, ap₂, subst, ◌∙◌}
 use mathlib.Core.Bool.{true}
 use mathlib.Core.List.{List, [], ◌∷◌, ◌++◌, append_assoc, append-nil}
-use mathlib.Core.Option.{Option, none, some}
+use Rattle.std.specs.Prelude.{Option, None, Some}
 use lib.Dec.{leb}
 use lib.ListN.{length, take, drop, length-append}
 use lib.Seq.{sets, length-sets, sets-eq, take-append_seam, drop-append_seam}
@@ -21,7 +21,6 @@ use Rattle.entries.specs.declared.form.Form.{Form}
 use Rattle.entries.specs.Values.{limits_by}
 use Rattle.entries.specs.Tables.{room, stored, first_entries, entries_in, entry_at, all_formed}
 use Rattle.entries.proofs.Stored.{stored_room, stored_more, stored_none, entry_stored, entries_stored, storable}
-use Rattle.entries.proofs.Calls.{formed}
 use Rattle.lines.specs.Lines.{end_of, last_end}
 use Rattle.lines.proofs.Ends.{end_length, end_drop, end_more}
 use Rattle.header.specs.Steps.{Went, start_point, go_on, Spot, fits, point_of, spot_of, went_on, told_by, read_on, table_on}
@@ -36,12 +35,12 @@ use Rattle.feed.specs.declared.cable.FeedAnswer.{FeedAnswer}
 use Rattle.feed.proofs.Calls.{feed_when_over, feed_when_open, close_when_over, close_when_open}
 
 data Stop (o : Option ℕ) : Type 0 where
-  unstopped : o ≡ none → Stop o
-  stopped_by : (n : ℕ) → o ≡ some n → Stop o
+  unstopped : o ≡ None → Stop o
+  stopped_by : (n : ℕ) → o ≡ Some n → Stop o
 
 stop_of_lem : (o : Option ℕ) → Stop o
-stop_of_lem none = unstopped refl
-stop_of_lem (some n) = stopped_by n refl
+stop_of_lem None = unstopped refl
+stop_of_lem (Some n) = stopped_by n refl
 
 module _ (form : Form) (imposed : Option Version) (t₀ : List ℕ) where
   abbrev lim : Limits
@@ -68,25 +67,25 @@ module _ (form : Form) (imposed : Option Version) (t₀ : List ℕ) where
 
   -- the final answer that a stop gives
   abbrev over_by : Option ℕ → Spot → Option AnswerMeaning
-  over_by none p = none
-  over_by (some n) p = some (refused_at n p)
+  over_by None p = None
+  over_by (Some n) p = Some (refused_at n p)
 
   -- the state after lines
   by_version : (o : Option ℕ) (n : ℕ) (p : Spot) → (state_by imposed n o p).imposed ≡ imposed
-  by_version none n p = refl
-  by_version (some m) n p = refl
+  by_version None n p = refl
+  by_version (Some m) n p = refl
 
   by_held : (o : Option ℕ) (n : ℕ) (p : Spot) → (state_by imposed n o p).held ≡ n
-  by_held none n p = refl
-  by_held (some m) n p = refl
+  by_held None n p = refl
+  by_held (Some m) n p = refl
 
   by_spot : (o : Option ℕ) (n : ℕ) (p : Spot) → (state_by imposed n o p).spot ≡ p
-  by_spot none n p = refl
-  by_spot (some m) n p = refl
+  by_spot None n p = refl
+  by_spot (Some m) n p = refl
 
   by_over : (o : Option ℕ) (n : ℕ) (p : Spot) → (state_by imposed n o p).ended ≡ over_by o (state_by imposed n o p).spot
-  by_over none n p = refl
-  by_over (some m) n p = refl
+  by_over None n p = refl
+  by_over (Some m) n p = refl
 
   -- after the bytes c: the state, the buffer and the table are what the complete lines of c give
   pub record After (c : Bytes) (s : Feeding) (b t : List ℕ) : Type 0 where
@@ -101,17 +100,17 @@ module _ (form : Form) (imposed : Option Version) (t₀ : List ℕ) where
 
   -- Such a state is sound
 
-  formed_from : (h t : List ℕ) (n k : ℕ) → ((i : ℕ) → i < n + k → (e : Entry) × (entry_at form h t i ≡ some e)) → all_formed form h t n k ≡ true
+  formed_from : (h t : List ℕ) (n k : ℕ) → ((i : ℕ) → i < n + k → (e : Entry) × (entry_at form h t i ≡ Some e)) → all_formed form h t n k ≡ true
   unfolding all_formed
   formed_from h t n zero f = refl
   formed_from h t n (suc k) f = rw ((f n (omega arith)).1, formed_from h t (n + 1) k (λ i l. f i (omega arith)))
 
-  nth_there : (es : List Entry) (i : ℕ) → i < length es → (e : Entry) × (nth es i ≡ some e)
+  nth_there : (es : List Entry) (i : ℕ) → i < length es → (e : Entry) × (nth es i ≡ Some e)
   nth_there [] i l = absurd (omega arith)
   nth_there (e ∷ es) zero l = (e, refl)
   nth_there (e ∷ es) (suc i) l = nth_there es i (omega arith)
 
-  stands_nth : (n : ℕ) (es : List Entry) (i : ℕ) {e : Entry} → All (Stands lim n) es → nth es i ≡ some e → Stands lim n e
+  stands_nth : (n : ℕ) (es : List Entry) (i : ℕ) {e : Entry} → All (Stands lim n) es → nth es i ≡ Some e → Stands lim n e
   stands_nth n [] i a f = none_not f
   stands_nth n (x ∷ es) zero a f = subst (Stands lim n) (some_is f) a.0
   stands_nth n (x ∷ es) (suc i) a f = stands_nth n es i a.1 f
@@ -131,7 +130,7 @@ module _ (form : Form) (imposed : Option Version) (t₀ : List ℕ) where
         let f = (further c).inside in
         rw a.spot (record { header = m; count = rw same_room roomy; at = omega (arith, f.at); line = f.line })
 
-    found : (i : ℕ) → i < length es → (e : Entry) × (entry_at form c t i ≡ some e)
+    found : (i : ℕ) → i < length es → (e : Entry) × (entry_at form c t i ≡ Some e)
     found i l =
         let n = nth_there es i l in
         let st = stands_nth (length c) es i (stand c) n.1 in
@@ -167,7 +166,7 @@ module _ (form : Form) (imposed : Option Version) (t₀ : List ℕ) where
           goes_on lim imposed size more (end_of c) end l (pieces more) start_point (start_inside more) refl ∙ rw g
 
       -- where no line is refused yet
-      module _ (goes-still : (complete_lines c).stop ≡ none) (small : length more ≤ lim.header) (end : ℕ) (l : end_of c ≤ end) where
+      module _ (goes-still : (complete_lines c).stop ≡ None) (small : length more ≤ lim.header) (end : ℕ) (l : end_of c ≤ end) where
         abbrev went : Went
         went = go_on lim imposed size more end start_point (pieces more)
 
@@ -199,7 +198,7 @@ module _ (form : Form) (imposed : Option Version) (t₀ : List ℕ) where
 
       -- A piece
 
-      module _ (goes-still : (complete_lines c).stop ≡ none) (small : length more ≤ lim.header) (fits-buffer : length more ≤ length b) where
+      module _ (goes-still : (complete_lines c).stop ≡ None) (small : length more ≤ lim.header) (fits-buffer : length more ≤ length b) where
         abbrev lines : Went
         lines = complete_lines more
 
@@ -239,7 +238,7 @@ module _ (form : Form) (imposed : Option Version) (t₀ : List ℕ) where
         fed_is : feed_of form s x b t ≡ left
         unfolding piece_fed
         fed_is =
-            let e : s.ended ≡ none = a.over ∙ rw goes-still in
+            let e : s.ended ≡ None = a.over ∙ rw goes-still in
             feed_when_open form s x b t honest e ∙ rw (piece_fed, has_room_lem, a.held, both, copied, told_lines, table_lines_lem, a.version)
 
         pub fed_buffer : length (feed_of form s x b t).buffer ≡ length b
@@ -260,7 +259,7 @@ module _ (form : Form) (imposed : Option Version) (t₀ : List ℕ) where
   -- One piece after the other
 
   -- an ended state stays as it is
-  all_over : (s : Feeding) (b t : List ℕ) → is_sound form s b t ≡ true → {a : AnswerMeaning} → s.ended ≡ some a → (xs : List Bytes) → feed_all form s xs b t ≡ unmoved s a b t
+  all_over : (s : Feeding) (b t : List ℕ) → is_sound form s b t ≡ true → {a : AnswerMeaning} → s.ended ≡ Some a → (xs : List Bytes) → feed_all form s xs b t ≡ unmoved s a b t
   unfolding feed_all
   all_over s b t e f [] = close_when_over form s b t e f
   all_over s b t e f (x ∷ xs) =
@@ -272,7 +271,7 @@ module _ (form : Form) (imposed : Option Version) (t₀ : List ℕ) where
     pub table : y.table ≡ stored form t₀ 0 (all_lines h).point.entries
 
   -- the end, where no line is refused
-  close_reads : {c : Bytes} {s : Feeding} {b t : List ℕ} (a : After c s b t) → (complete_lines c).stop ≡ none → Reads c (close_of form s b t)
+  close_reads : {c : Bytes} {s : Feeding} {b t : List ℕ} (a : After c s b t) → (complete_lines c).stop ≡ None → Reads c (close_of form s b t)
   close_reads {c} {s} {b} {t} a e =
       let z : c ++ [] ≡ c = append-nil c in
       let l = end_length c in
@@ -284,11 +283,11 @@ module _ (form : Form) (imposed : Option Version) (t₀ : List ℕ) where
       subst (Reads c) (sym (close_when_open form s b t (honest a) (a.over ∙ rw e))) (record { answer = rw (a.held, a.buffer) (ap closed_at told-c); table = rw (a.held, a.buffer) table-c })
 
   -- where a line was refused
-  over_reads : (xs : List Bytes) {c : Bytes} {s : Feeding} {b t : List ℕ} (a : After c s b t) (n : ℕ) → (complete_lines c).stop ≡ some n → (y : Bytes) → Reads (c ++ y) (feed_all form s xs b t)
+  over_reads : (xs : List Bytes) {c : Bytes} {s : Feeding} {b t : List ℕ} (a : After c s b t) (n : ℕ) → (complete_lines c).stop ≡ Some n → (y : Bytes) → Reads (c ++ y) (feed_all form s xs b t)
   over_reads xs {c} {s} {b} {t} a n e y =
       let l = end_length c in
-      let w : all_lines (c ++ y) ≡ record { stop = some n; point = (complete_lines c).point } = goes a y (length (c ++ y)) (omega (arith, l, longer a y)) ∙ rw e in
-      let over-now : s.ended ≡ some (refused_at n s.spot) = a.over ∙ rw e in
+      let w : all_lines (c ++ y) ≡ record { stop = Some n; point = (complete_lines c).point } = goes a y (length (c ++ y)) (omega (arith, l, longer a y)) ∙ rw e in
+      let over-now : s.ended ≡ Some (refused_at n s.spot) = a.over ∙ rw e in
       subst (Reads (c ++ y)) (sym (all_over s b t (honest a) over-now xs)) (record { answer = rw (w, a.spot); table = rw w a.table })
 
   fed_reads : (xs : List Bytes) (c : Bytes) (s : Feeding) (b t : List ℕ) → After c s b t → length (c ++ joined xs) ≤ length b → length (c ++ joined xs) ≤ lim.header → Reads (c ++ joined xs) (feed_all form s xs b t)

@@ -1,6 +1,5 @@
 -- What a call of feeding answers, in the terms of the definitions. Assumes nothing.
-use Rattle.std.specs.Prelude.{ℕ, ◌≡◌, List, [], ◌∷◌}
-use Rattle.std.proofs.Math.Option.{Option, none, some}
+use Rattle.std.specs.Prelude.{ℕ, ◌≡◌, List, [], ◌∷◌, Option, None, Some, Result, Ok, Err}
 use Rattle.values.specs.Bytes.{Bytes}
 use Rattle.rules.specs.Version.{Version}
 use Rattle.records.specs.Formats.{version_of}
@@ -9,27 +8,26 @@ use Rattle.entries.specs.declared.form.Form.{Form}
 use Rattle.header.specs.Verdicts.{imposed_of}
 use Rattle.header.specs.Parsers.{AnswerMeaning, answer_means, spot_in, closed_at}
 use Rattle.feed.specs.Feeding.{Feeding, Fed, state_by, answer_by, complete_told, complete_table, feed_of, ended_state, rest_told, rest_table, close_of}
-use Rattle.feed.specs.declared.cable.Ended.{Ended}
-use Rattle.feed.specs.declared.cable.Ended.TheVariants as ended
 use Rattle.feed.specs.declared.cable.FeedState.{FeedState}
-use Rattle.feed.specs.declared.cable.FeedOutcome.{FeedOutcome}
-use Rattle.feed.specs.declared.cable.FeedOutcome.TheVariants as outcome
 use Rattle.feed.specs.declared.cable.FeedAnswer.{FeedAnswer}
+use Rattle.header.specs.declared.parser.ReadAnswer.{ReadAnswer}
+use Rattle.records.specs.declared.file_format.FileFormat.{FileFormat}
+use Rattle.records.specs.declared.refusal.Refusal.{Refusal}
 
 -- the number of each outcome
-abbrev pub feed_number : FeedOutcome → ℕ
-feed_number outcome.More = 0
-feed_number (outcome.Accepted f n) = 0
-feed_number (outcome.Refused x) = number x
+abbrev pub feed_number : Option (Result (FileFormat × ℕ) Refusal) → ℕ
+feed_number None = 0
+feed_number (Some (Ok (f, n))) = 0
+feed_number (Some (Err x)) = number x
 
-abbrev pub feed_says : FeedOutcome → Option (Version × ℕ)
-feed_says outcome.More = none
-feed_says (outcome.Accepted f n) = some (version_of f, n)
-feed_says (outcome.Refused x) = none
+abbrev pub feed_says : Option (Result (FileFormat × ℕ) Refusal) → Option (Version × ℕ)
+feed_says None = None
+feed_says (Some (Ok (f, n))) = Some (version_of f, n)
+feed_says (Some (Err x)) = None
 
-abbrev pub ended_means : Ended → Option AnswerMeaning
-ended_means ended.No = none
-ended_means (ended.Yes a) = some (answer_means a)
+abbrev pub ended_means : Option ReadAnswer → Option AnswerMeaning
+ended_means None = None
+ended_means (Some a) = Some (answer_means a)
 
 abbrev pub state_means : FeedState → Feeding
 state_means s = record { imposed = imposed_of s.imposed; spot = spot_in s.parser; held = s.held; ended = ended_means s.ended }

@@ -1,6 +1,5 @@
 -- Document 02, §8: headers in pieces, computed by the checker. Assumes nothing.
-use Rattle.std.specs.Prelude.{ℕ, ◌≡◌, refl, List, [], ◌∷◌, ◌++◌, take, drop, replicate}
-use Rattle.std.proofs.Math.Option.{none}
+use Rattle.std.specs.Prelude.{ℕ, ◌≡◌, refl, List, [], ◌∷◌, ◌++◌, take, drop, replicate, None}
 use Rattle.values.specs.Bytes.{Bytes}
 use Rattle.rules.specs.Examples.{opened, cell}
 use Rattle.rules.specs.Shown.{says_no_id, counts_in_place, well_formed, line_in, id_in}
@@ -25,7 +24,7 @@ shown x = ((x.answer.number, (x.answer.line, (x.answer.start, x.answer.entries))
 
 -- pieces into a buffer of 90 bytes and a table of eight words, and the end
 abbrev pub sent : List Bytes → (ℕ × (ℕ × (ℕ × ℕ))) × List ℕ
-sent xs = shown (feed_all First (start_of none) xs (sevens 90) (sevens 8))
+sent xs = shown (feed_all First (start_of None) xs (sevens 90) (sevens 8))
 
 accepted : (ℕ × (ℕ × (ℕ × ℕ))) × List ℕ
 accepted = ((0, (3, (83, 3))), kept)

@@ -1,6 +1,5 @@
 -- Document 02, §8: a header that comes in pieces. Each line is read when its LF is there, the last one when the sender closes. Assumes nothing.
-use Rattle.std.specs.Prelude.{ℕ, ◌+◌, Bool, true, false, ◌&&◌, List, [], ◌∷◌, leb, length, take}
-use Rattle.std.proofs.Math.Option.{Option, none, some}
+use Rattle.std.specs.Prelude.{ℕ, ◌+◌, Bool, true, false, ◌&&◌, List, [], ◌∷◌, leb, length, take, Option, None, Some}
 use Rattle.std.proofs.lemmas.List.Edits.{sets}
 use Rattle.values.specs.Bytes.{Bytes}
 use Rattle.rules.specs.Version.{Version}
@@ -19,7 +18,7 @@ pub record Feeding : Type 0 where
   pub ended : Option AnswerMeaning
 
 abbrev pub start_of : Option Version → Feeding
-start_of imposed = record { imposed = imposed; spot = start_spot; held = 0; ended = none }
+start_of imposed = record { imposed = imposed; spot = start_spot; held = 0; ended = None }
 
 -- what a call leaves: the state, the answer, the buffer and the table
 pub record Fed : Type 0 where
@@ -39,13 +38,13 @@ abbrev pub unmoved : Feeding → AnswerMeaning → Bytes → List ℕ → Fed
 unmoved s a b t = record { state = s; answer = a; buffer = b; table = t }
 
 abbrev pub broken : AnswerMeaning
-broken = record { number = 29; line = 0; start = 0; entries = 0; accepted = none }
+broken = record { number = 29; line = 0; start = 0; entries = 0; accepted = None }
 
 -- a state that is broken, one that has ended, or any other
 abbrev pub unless_over : Bool → Feeding → Bytes → List ℕ → Option AnswerMeaning → Fed → Fed
 unless_over false s b t ended next = unmoved s broken b t
-unless_over true s b t (some a) next = unmoved s a b t
-unless_over true s b t none next = next
+unless_over true s b t (Some a) next = unmoved s a b t
+unless_over true s b t None next = next
 
 -- A piece
 
@@ -55,26 +54,26 @@ has_room form held piece b = leb (held + length piece) (length b) && leb (held +
 
 -- 27: line and start are 0
 abbrev pub too_long : Spot → AnswerMeaning
-too_long p = record { number = 27; line = 0; start = 0; entries = p.count; accepted = none }
+too_long p = record { number = 27; line = 0; start = 0; entries = p.count; accepted = None }
 
 -- lines, bytes and entries so far
 abbrev pub so_far : ℕ → Spot → AnswerMeaning
-so_far held p = record { number = 0; line = p.line; start = held; entries = p.count; accepted = none }
+so_far held p = record { number = 0; line = p.line; start = held; entries = p.count; accepted = None }
 
 abbrev pub ended_state : Option Version → Spot → ℕ → AnswerMeaning → Feeding
-ended_state imposed p held a = record { imposed = imposed; spot = p; held = held; ended = some a }
+ended_state imposed p held a = record { imposed = imposed; spot = p; held = held; ended = Some a }
 
 abbrev pub open_state : Option Version → Spot → ℕ → Feeding
-open_state imposed p held = record { imposed = imposed; spot = p; held = held; ended = none }
+open_state imposed p held = record { imposed = imposed; spot = p; held = held; ended = None }
 
 -- after lines: the first refusal ends the state
 abbrev pub state_by : Option Version → ℕ → Option ℕ → Spot → Feeding
-state_by imposed held none p = open_state imposed p held
-state_by imposed held (some n) p = ended_state imposed p held (refused_at n p)
+state_by imposed held None p = open_state imposed p held
+state_by imposed held (Some n) p = ended_state imposed p held (refused_at n p)
 
 abbrev pub answer_by : ℕ → Option ℕ → Spot → AnswerMeaning
-answer_by held none p = so_far held p
-answer_by held (some n) p = refused_at n p
+answer_by held None p = so_far held p
+answer_by held (Some n) p = refused_at n p
 
 -- the complete lines of the bytes held, h
 abbrev pub complete_told : Form → Feeding → Bytes → List ℕ → Told

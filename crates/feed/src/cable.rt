@@ -9,47 +9,33 @@ ghost use Rattle.feed.specs.Calls.{feed_number, state_means, told, feed_means, R
 
 use entries::form::Form;
 use entries::formed;
-use header::file_format_option::FileFormatOption;
 use header::parser;
-use header::parser::{Advance, Outcome, Parser, ReadAnswer};
+use header::parser::{Parser, ReadAnswer};
 use lines::line;
 use records::file_format::FileFormat;
 use records::refusal::Refusal;
-
-#[derive(Clone, Copy)]
-pub enum Ended {
-    No,
-    Yes(ReadAnswer),
-}
 
 // Between two calls: the version imposed, how far the lines are read, how many bytes of the buffer are held, and the final answer once
 // there is one.
 #[derive(Clone, Copy)]
 pub struct FeedState {
-    pub imposed: FileFormatOption,
+    pub imposed: Option<FileFormat>,
     pub parser: Parser,
     pub held: usize,
-    pub ended: Ended,
+    pub ended: Option<ReadAnswer>,
 }
 
 // So far no line is refused; or as a reading ends. A broken state is refused as an entry is that is not well formed.
-#[derive(Clone, Copy)]
-pub enum FeedOutcome {
-    More,
-    Accepted(FileFormat, usize),
-    Refused(Refusal),
-}
+pub type FeedOutcome = Option<Result<(FileFormat, usize), Refusal>>;
 
-impl FeedOutcome {
-    // 0 if nothing is refused.
-    pub fn number(self) -> u64
-        ensures { result ≡ feed_number self }
-    {
-        match self {
-            FeedOutcome::More => 0,
-            FeedOutcome::Accepted(_, _) => 0,
-            FeedOutcome::Refused(x) => x.number(),
-        }
+// 0 if nothing is refused.
+pub fn number(outcome: FeedOutcome) -> u64
+    ensures { result ≡ feed_number outcome }
+{
+    match outcome {
+        None => 0,
+        Some(Ok((_, _))) => 0,
+        Some(Err(x)) => x.number(),
     }
 }
 
@@ -64,14 +50,14 @@ pub struct FeedAnswer {
 }
 
 // Before the first piece.
-pub fn start(imposed: FileFormatOption) -> FeedState
+pub fn start(imposed: Option<FileFormat>) -> FeedState
     ensures { state_means result ≡ start_of (imposed_of imposed) }
 {
     FeedState {
         imposed,
         parser: Parser::new(),
         held: 0,
-        ended: Ended::No,
+        ended: None,
     }
 }
 
@@ -81,33 +67,23 @@ pub fn is_sound(state: FeedState, form: Form, buffer: &[u8], table: &[u64]) -> b
 {
     let held = state.held;
     let parser = state.parser;
-    if buffer.len() < held {
-        return false;
-    }
-    if !parser.fits(form, held, table) {
-        return false;
-    }
-    formed::all_formed(&buffer[..held], table, form, parser.count)
+    held <= buffer.len()
+        && parser.fits(form, held, table)
+        && formed::all_formed(&buffer[..held], table, form, parser.count)
 }
 
 // Whether so many more bytes are within the size.
 fn fits_more(size: usize, held: usize, more: usize) -> bool
     ensures { result ≡ leb (held + more) size }
 {
-    if size < held {
-        return false;
-    }
-    more <= size - held
+    held <= size && more <= size - held
 }
 
 fn has_room(form: Form, held: usize, piece: &[u8], buffer: &[u8]) -> bool
     ensures { result ≡ has_room form held piece.now buffer.now }
 {
     let limits = form.limits();
-    if !fits_more(buffer.len(), held, piece.len()) {
-        return false;
-    }
-    fits_more(limits.header, held, piece.len())
+    fits_more(buffer.len(), held, piece.len()) && fits_more(limits.header, held, piece.len())
 }
 
 fn refuse_broken(state: FeedState) -> FeedAnswer
@@ -115,7 +91,7 @@ fn refuse_broken(state: FeedState) -> FeedAnswer
 {
     FeedAnswer {
         state,
-        outcome: FeedOutcome::Refused(Refusal::InvalidEntry),
+        outcome: Some(Err(Refusal::InvalidEntry)),
         line: 0,
         start: 0,
         entries: 0,
@@ -128,7 +104,7 @@ fn so_far(state: FeedState) -> FeedAnswer
     let parser = state.parser;
     FeedAnswer {
         state,
-        outcome: FeedOutcome::More,
+        outcome: None,
         line: parser.line,
         start: state.held,
         entries: parser.count,
@@ -141,16 +117,16 @@ fn answer(state: FeedState, a: ReadAnswer) -> FeedAnswer
 {
     let outcome = a.outcome;
     match outcome {
-        Outcome::Accepted(version, samples) => FeedAnswer {
+        Ok((version, samples)) => FeedAnswer {
             state,
-            outcome: FeedOutcome::Accepted(version, samples),
+            outcome: Some(Ok((version, samples))),
             line: a.line,
             start: a.start,
             entries: a.entries,
         },
-        Outcome::Refused(x) => FeedAnswer {
+        Err(x) => FeedAnswer {
             state,
-            outcome: FeedOutcome::Refused(x),
+            outcome: Some(Err(x)),
             line: a.line,
             start: a.start,
             entries: a.entries,
@@ -159,25 +135,25 @@ fn answer(state: FeedState, a: ReadAnswer) -> FeedAnswer
 }
 
 // The answer that the state ends with.
-fn end(imposed: FileFormatOption, parser: Parser, held: usize, a: ReadAnswer) -> FeedAnswer
+fn end(imposed: Option<FileFormat>, parser: Parser, held: usize, a: ReadAnswer) -> FeedAnswer
     ensures { feed_means result ≡ told (ended_state (imposed_of imposed) (spot_in parser) held (answer_means a)) (answer_means a) }
 {
     let state = FeedState {
         imposed,
         parser,
         held,
-        ended: Ended::Yes(a),
+        ended: Some(a),
     };
     answer(state, a)
 }
 
 // The line where the parser stands is refused.
-fn stop(imposed: FileFormatOption, parser: Parser, held: usize, x: Refusal) -> FeedAnswer
+fn stop(imposed: Option<FileFormat>, parser: Parser, held: usize, x: Refusal) -> FeedAnswer
     requires { parser.line + 1 < 2 ^ 64 }
     ensures { feed_means result ≡ told (ended_state (imposed_of imposed) (spot_in parser) held (refused_at (number x) (spot_in parser))) (refused_at (number x) (spot_in parser)) }
 {
     let a = ReadAnswer {
-        outcome: Outcome::Refused(x),
+        outcome: Err(x),
         line: parser.line + 1,
         start: parser.at,
         entries: parser.count,
@@ -194,13 +170,13 @@ fn read_complete(state: FeedState, form: Form, h: &[u8], table: &mut [u64]) -> F
     let held = state.held;
     let end = line::last_end(h, parser.at);
     match parser::read_on(h, end, parser, imposed, form, table) {
-        Advance::Ended(p) => so_far(FeedState {
+        Ok(p) => so_far(FeedState {
             imposed,
             parser: p,
             held,
-            ended: Ended::No,
+            ended: None,
         }),
-        Advance::Stopped(p, x) => stop(imposed, p, held, x),
+        Err((p, x)) => stop(imposed, p, held, x),
     }
 }
 
@@ -210,12 +186,9 @@ fn put_piece(buffer: &mut [u8], held: usize, piece: &[u8]) -> usize
     ensures place { result ≡ held + length piece.now }
     ensures buffer { buffer.new ≡ sets buffer.old held piece.now }
 {
-    let mut k: usize = 0;
-    while k < piece.len() {
-        buffer[held + k] = piece[k];
-        k += 1;
-    }
-    held + k
+    let end = held + piece.len();
+    buffer[held..end].copy_from_slice(piece);
+    end
 }
 
 // Copies a piece that fits whole, and reads.
@@ -233,7 +206,7 @@ fn take_piece(
     let held = state.held;
     if !has_room(form, held, piece, buffer) {
         let a = ReadAnswer {
-            outcome: Outcome::Refused(Refusal::HeaderTooLong),
+            outcome: Err(Refusal::HeaderTooLong),
             line: 0,
             start: 0,
             entries: parser.count,
@@ -245,7 +218,7 @@ fn take_piece(
         imposed,
         parser,
         held: now,
-        ended: Ended::No,
+        ended: None,
     };
     read_complete(taken, form, &buffer[..now], table)
 }
@@ -265,8 +238,8 @@ pub fn feed(
     }
     let ended = state.ended;
     match ended {
-        Ended::Yes(a) => answer(state, a),
-        Ended::No => take_piece(state, piece, form, buffer, table),
+        Some(a) => answer(state, a),
+        None => take_piece(state, piece, form, buffer, table),
     }
 }
 
@@ -278,8 +251,8 @@ fn read_rest(state: FeedState, form: Form, h: &[u8], table: &mut [u64]) -> FeedA
     let parser = state.parser;
     let held = state.held;
     match parser::read_on(h, held, parser, imposed, form, table) {
-        Advance::Ended(p) => end(imposed, p, held, p.finish()),
-        Advance::Stopped(p, x) => stop(imposed, p, held, x),
+        Ok(p) => end(imposed, p, held, p.finish()),
+        Err((p, x)) => stop(imposed, p, held, x),
     }
 }
 
@@ -293,7 +266,7 @@ pub fn close(state: FeedState, form: Form, buffer: &[u8], table: &mut [u64]) -> 
     let held = state.held;
     let ended = state.ended;
     match ended {
-        Ended::Yes(a) => answer(state, a),
-        Ended::No => read_rest(state, form, &buffer[..held], table),
+        Some(a) => answer(state, a),
+        None => read_rest(state, form, &buffer[..held], table),
     }
 }

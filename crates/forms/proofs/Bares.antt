@@ -3,7 +3,7 @@ use Prim.Native.Nat.{ℕ, zero, suc, ◌+◌, ◌-◌, ◌≤◌, ◌<◌}
 use mathlib.Core.Path.{◌≡◌, refl, sym, ap, ap₂, subst, ◌∙◌}
 use mathlib.Core.Bool.{Bool, true, false, not, ◌||◌, ◌&&◌, true≢false}
 use mathlib.Core.List.{List, [], ◌∷◌, ◌++◌}
-use mathlib.Core.Option.{none, some}
+use Rattle.std.specs.Prelude.{None, Some}
 use lib.Dec.{eqb}
 use lib.ListN.{length, get_or, take, drop}
 use borrow.Author.Tests.{eq-eqb, ne_eqb}
@@ -121,7 +121,7 @@ value_stands name (quoted t) b d c = absurd (true≢false b)
 value_stands name (bare t) b d c = (spells_bare name t false false refl {d = false} (sym d) refl refl).is refl c
 
 -- a field that was read from such bytes
-module _ (bs : Bytes) {f : Field} {r : Bytes} (e : read_field false bs ≡ some (f, r)) (h : telling true bs ≡ false) where
+module _ (bs : Bytes) {f : Field} {r : Bytes} (e : read_field false bs ≡ Some (f, r)) (h : telling true bs ≡ false) where
   parts : (telling true (written_field f) ≡ false) × (telling false r ≡ false)
   parts = apart true (written_field f) r (subst (λ (b : Bytes). telling true b ≡ false) (on_some (FieldIn false bs) (field_in false bs) e).text h)
 
@@ -137,12 +137,12 @@ after_comma : {r t : Bytes} → r ≡ 44 ∷ t → telling false r ≡ false →
 unfolding telling
 after_comma e h = rw e at h
 
-id_read : (r : Bytes) → begins 34 r ≡ false → read_field false (73 ∷ 68 ∷ 61 ∷ r) ≡ some (record { key = ascii "ID"; value = bare (before is_stop r) }, from is_stop r)
+id_read : (r : Bytes) → begins 34 r ≡ false → read_field false (73 ∷ 68 ∷ 61 ∷ r) ≡ Some (record { key = ascii "ID"; value = bare (before is_stop r) }, from is_stop r)
 unfolding read_field read_key read_value before from any begins
 id_read r b = rw (read_value, b)
 
 -- the only known field of a map whose key is none of those that the rules name
-row_other : (name : Bytes) → same id_field.name name ≡ false → row_named name (id_field ∷ []) ≡ none
+row_other : (name : Bytes) → same id_field.name name ≡ false → row_named name (id_field ∷ []) ≡ None
 unfolding row_named
 row_other name e = rw (e, row_named)
 
@@ -197,14 +197,14 @@ module _ (x : MapContext) (s : Bytes) where
   pub bare_not : BareMap x s false
   bare_not = record { is = λ e. never cc }
 
-  pub bare_map : {q : Bool} → (q ≡ true → x.key ≡ key.Other) → not q ≡ false → {fs : Bytes} → fs ≡ take (length s - x.start) (drop x.start s) → {u : Bool} → u ≡ starts (ascii "ID=") fs → not u ≡ false
+  pub bare_map : {q : Bool} → (q ≡ true → x.key ≡ key.Other) → q ≡ true → {fs : Bytes} → fs ≡ take (length s - x.start) (drop x.start s) → {u : Bool} → u ≡ starts (ascii "ID=") fs → u ≡ true
       → {r : Bool} → r ≡ telling false fs → BareMap x s (not r)
   bare_map {q} o n {fs} c {u} b i {r} t = record {
     is = λ e m.
-        let w = starts_is (ascii "ID=") fs (sym b ∙ not_false u i) in
+        let w = starts_is (ascii "ID=") fs (sym b ∙ i) in
         let y = drop 3 fs in
         subst (λ (z : Bytes). IdFirst x (scan (length z) false z).0) (sym w ∙ c ∙ rest s x.start)
-        (id_first x (o (not_false q n)) m (suc (suc (length y))) y (subst (λ (z : Bytes). telling false z ≡ false) w (sym t ∙ not_true r e)));
+        (id_first x (o n) m (suc (suc (length y))) y (subst (λ (z : Bytes). telling false z ≡ false) w (sym t ∙ not_true r e)));
   }
 
 pub ruleset bares = (bare_not, bare_map)

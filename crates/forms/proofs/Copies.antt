@@ -1,4 +1,5 @@
 -- The fields that are no known ones, copied one after the other. Assumes nothing.
+use Rattle.std.specs.Prelude.{Option, Some, None}
 use Prim.Native.Nat.{ℕ, ◌-◌, ◌≤◌, ◌<◌}
 use mathlib.Core.Path.{◌≡◌, refl, sym, ap, subst, ◌∙◌}
 use mathlib.Core.Bool.{Bool, true, false}
@@ -12,10 +13,6 @@ use Rattle.values.specs.Written.{last, Puts}
 use Rattle.values.specs.declared.cursor.Cursor.{Cursor}
 use Rattle.values.specs.declared.sink.Sink.{Sink}
 use Rattle.values.specs.declared.string.Text.{Text}
-use Rattle.values.specs.declared.field.FieldRead.{FieldRead}
-use Rattle.values.specs.declared.field.FieldRead.TheVariants as read
-use Rattle.values.specs.declared.field.Separator.{Separator}
-use Rattle.values.specs.declared.field.Separator.TheVariants as separator
 use Rattle.values.proofs.Outputs.{puts_nothing, puts_length, puts_capped, then}
 use Rattle.values.proofs.Places.{FieldHere}
 use Rattle.rules.specs.Map.{is_some, known_named}
@@ -62,12 +59,12 @@ pub copy_all : (x : MapContext) (s given out : Bytes) (at : Sink) → at.at ≤ 
 copy_all x s given out at h l =
     record { fs = fields_in x s; left = left_all x.brackets s x.start; capped = h; fits = l; size = refl; still = λ r o w. w }
 
-module _ {x : MapContext} {s given out₀ : Bytes} {at : Sink} {out : Bytes} {next : Sink} {i : ℕ} (g : Copying x s given out₀ at out next i) {r : FieldRead} (a : r ≡ field_at x.brackets s i) where
-  pub copied_all : r ≡ read.Refused → Puts given out₀ at (others_text x (fields_in x s)) next out
+module _ {x : MapContext} {s given out₀ : Bytes} {at : Sink} {out : Bytes} {next : Sink} {i : ℕ} (g : Copying x s given out₀ at out next i) {r : Option (ℕ × Text × Cursor)} (a : r ≡ field_at x.brackets s i) where
+  pub copied_all : r ≡ None → Puts given out₀ at (others_text x (fields_in x s)) next out
   copied_all e = g.still next out (rw (left_unread g.left a e, others_none x) (puts_nothing given out next g.capped g.fits))
 
-  module _ {e : ℕ} {t : Text} {n : Cursor} (b : r ≡ read.Field e t n) {p : Bytes} (c : p ≡ take (e - i) (drop i s)) {val : Bytes} (d : val ≡ take (t.end - t.start) (drop t.start s))
-      {r₁ : Sink} {o₁ : Bytes} (w : Puts given out next (other_text x p (meaning t.quoted val)) r₁ o₁) {y : Separator} (j : y ≡ separator_at s n.at) where
+  module _ {e : ℕ} {t : Text} {n : Cursor} (b : r ≡ Some (e, t, n)) {p : Bytes} (c : p ≡ take (e - i) (drop i s)) {val : Bytes} (d : val ≡ take (t.end - t.start) (drop t.start s))
+      {r₁ : Sink} {o₁ : Bytes} (w : Puts given out next (other_text x p (meaning t.quoted val)) r₁ o₁) {y : Option Cursor} (j : y ≡ separator_at s n.at) where
     abbrev here : FieldHere x.brackets s i e t n
     here = left_told g.left a b
 
@@ -77,11 +74,11 @@ module _ {x : MapContext} {s given out₀ : Bytes} {at : Sink} {out : Bytes} {ne
         let m : meaning t.quoted val ≡ meaning_of here.field.value = ap (meaning t.quoted) d ∙ value_means s t here.field.value here.value in
         rw (← k, ← m) w
 
-    pub copied_last : y ≡ separator.Other → Puts given out₀ at (others_text x (fields_in x s)) r₁ o₁
+    pub copied_last : y ≡ None → Puts given out₀ at (others_text x (fields_in x s)) r₁ o₁
     copied_last o = g.still r₁ o₁ (subst (λ (fs : List Field). Puts given out next (others_text x fs) r₁ o₁) (sym (left_last g.left a b j o))
         (rw (others_more x here.field [], others_none x, append-nil (other_text x here.field.key (meaning_of here.field.value))) one))
 
-    module _ {z : Cursor} (o : y ≡ separator.Comma z) where
+    module _ {z : Cursor} (o : y ≡ Some z) where
       pub copied_one : Copying x s given out₀ at o₁ r₁ z.at
       copied_one = let l = left_next g.left a b j o in record {
         fs = l.0;

@@ -1,4 +1,5 @@
 -- One field: its key, and its value as a text or a number. Assumes nothing.
+use Rattle.std.specs.Prelude.{Option, Some, None}
 use Prim.Native.Nat.{ℕ, zero, suc, ◌-◌}
 use mathlib.Core.Path.{◌≡◌, refl, sym, subst, ◌∙◌}
 use mathlib.Core.Bool.{Bool, true, false}
@@ -12,8 +13,6 @@ use Rattle.values.specs.Field.{written_field}
 use Rattle.values.specs.Written.{Puts}
 use Rattle.values.specs.declared.sink.Sink.{Sink}
 use Rattle.values.specs.declared.string.Text.{Text}
-use Rattle.values.specs.declared.integer.IntegerRead.{IntegerRead}
-use Rattle.values.specs.declared.integer.IntegerRead.TheVariants as integer
 use Rattle.values.proofs.Tests.{pass, fail, test, or_l, and_off}
 use Rattle.values.proofs.Lists.{any_less}
 use Rattle.values.proofs.Decimals.{decimal_digits, decimal_lacks}
@@ -60,14 +59,14 @@ bare_number meta key n e =
     )
 
 -- r is what the code read of the text s
-module _ (meta : Bool) (key s : Bytes) (q : Bool) {i : IntegerRead} (a : i ≡ u64_read s) {given out : Bytes} {at : Sink} where
-  pub number_unread : i ≡ integer.Refused → {r : Sink} {o : Bytes} → Puts given out at (written_field (field_by meta key (meaning q s))) r o → PutsNumber meta key s q given out at r o
-  number_unread e {r} {o} w = record { is = λ d raw. subst (λ (x : IntegerRead). Puts given out at (written_field (field_by meta key (write_known (number_or_word (meaning q s) x)))) r o) (sym (raw ∙ sym a ∙ e)) w }
+module _ (meta : Bool) (key s : Bytes) (q : Bool) {i : Option (ℕ × Bool)} (a : i ≡ u64_read s) {given out : Bytes} {at : Sink} where
+  pub number_unread : i ≡ None → {r : Sink} {o : Bytes} → Puts given out at (written_field (field_by meta key (meaning q s))) r o → PutsNumber meta key s q given out at r o
+  number_unread e {r} {o} w = record { is = λ d raw. subst (λ (x : Option (ℕ × Bool)). Puts given out at (written_field (field_by meta key (write_known (number_or_word (meaning q s) x)))) r o) (sym (raw ∙ sym a ∙ e)) w }
 
-  pub number_read : {n : ℕ} {p : Bool} → i ≡ integer.Value n p → {r : Sink} {o : Bytes} → Puts given out at (key ++ 61 ∷ []) r o → {r' : Sink} {o' : Bytes} → Puts given o r (decimal n) r' o' → PutsNumber meta key s q given out at r' o'
+  pub number_read : {n : ℕ} {p : Bool} → i ≡ Some (n, p) → {r : Sink} {o : Bytes} → Puts given out at (key ++ 61 ∷ []) r o → {r' : Sink} {o' : Bytes} → Puts given o r (decimal n) r' o' → PutsNumber meta key s q given out at r' o'
   unfolding written
   number_read {n} e w {r'} {o'} w' = record {
-    is = λ d raw. subst (λ (x : IntegerRead). Puts given out at (written_field (field_by meta key (write_known (number_or_word (meaning q s) x)))) r' o') (sym (raw ∙ sym a ∙ e))
+    is = λ d raw. subst (λ (x : Option (ℕ × Bool)). Puts given out at (written_field (field_by meta key (write_known (number_or_word (meaning q s) x)))) r' o') (sym (raw ∙ sym a ∙ e))
         (keyed_value key w meta (decimal n) (rw (bare_number meta key n d) w'));
   }
 

@@ -3,7 +3,7 @@ use Prim.Native.Nat.{ℕ}
 use mathlib.Core.Path.{◌≡◌, refl, sym, ap, ap₂, ◌∙◌}
 use mathlib.Core.Bool.{Bool, true, false, ◌||◌}
 use mathlib.Core.List.{List, [], ◌∷◌, ◌++◌, map, append_assoc}
-use mathlib.Core.Option.{Option, none, some}
+use Rattle.std.specs.Prelude.{Option, None, Some}
 use Rattle.values.specs.Bytes.{Bytes, ascii, same}
 use Rattle.values.specs.Value.{meaning_of}
 use Rattle.values.specs.Field.{Field, written_field}
@@ -80,8 +80,8 @@ listed_as v k tag fs (r ∷ rs) h = rw (named_keyed v k r.name fs h.0.other h.0.
     go : (o : Option Field) → write_more (known_fields v k tag (names rs) (map (known_in v k fs) (names rs))) ≡ listed_fields (is_meta v k) fs rs
         → write_more (known_fields v k tag (r.name ∷ names rs) (known_of (kind_of k) r.name o ∷ map (known_in v k fs) (names rs)))
         ≡ known_text (is_meta v k) r.name (is_numeric r.reads) o ++ listed_fields (is_meta v k) fs rs
-    go none ih = ih
-    go (some f) ih =
+    go None ih = ih
+    go (Some f) ih =
         ap₂ (λ (x : Field) (t : Bytes). 44 ∷ (written_field x ++ t))
         (ap₂ (write_field v k) (key_as tag r.name h.0.other) (shown_as_lem (kind_of k) r.name (meaning_of f.value) (is_numeric r.reads) h.0.number)
         ∙ field_as_lem v k r.name (shown_value (is_numeric r.reads) (meaning_of f.value))) ih
@@ -132,7 +132,7 @@ module _ (v : Version) (k : Bytes) (x : MapContext) (n : Named k x.key) (a : ver
   ]
 
   -- The whole map: its ID, the known fields after it, and the others
-  pub fields_as : (fs : List Field) {f : Field} → field_named v k (ascii "ID") fs ≡ some f
+  pub fields_as : (fs : List Field) {f : Field} → field_named v k (ascii "ID") fs ≡ Some f
       → write_fields (tidy v k fs)
       ≡ written_field (field_by x.brackets (name_of_tag (tag_of f.key)) (meaning_of f.value)) ++ (listed_fields x.brackets fs (after_id (kind_by x.key)) ++ others_text x fs)
   unfolding known_fields write_fields same

@@ -4,9 +4,11 @@ use native.Mathlib.Omega.{arith}
 use mathlib.Core.Path.{◌≡◌, refl, sym, ap, ap₂, subst, ◌∙◌}
 use mathlib.Core.Bool.{Bool, true, false, ◌&&◌}
 use mathlib.Core.List.{List, [], ◌∷◌, ◌++◌, append_assoc}
-use mathlib.Core.Option.{Option, none, some}
+use Rattle.std.specs.Prelude.{Option, None, Some, Result, Ok, Err}
 use lib.Dec.{eqb}
-use lib.ListN.{length, get_or, take, drop, length-append}
+use lib.Pointwise.{pointwise}
+use borrow.Author.Tests.{eqb-true, eqb-false, ne_eqb}
+use lib.ListN.{length, take, drop, length-append}
 use lib.Seq.{take_at}
 use Rattle.values.specs.Bytes.{Bytes, ascii, is}
 use Rattle.values.specs.Value.{meaning_of}
@@ -14,7 +16,7 @@ use Rattle.values.specs.Field.{Field, written_field}
 use Rattle.values.specs.Written.{last, onward, Puts}
 use Rattle.values.specs.declared.sink.Sink.{Sink}
 use Rattle.values.specs.declared.string.Text.{Text}
-use Rattle.values.proofs.Tests.{never}
+use Rattle.values.proofs.Tests.{pass, fail, test, never}
 use Rattle.values.proofs.Outputs.{puts_nothing, then}
 use Rattle.rules.specs.Answer.{ok}
 use Rattle.rules.specs.Lines.{ends, write_line}
@@ -42,9 +44,8 @@ use Rattle.records.specs.declared.key.MapContext.{MapContext}
 use Rattle.records.specs.declared.record.MapRecord.{MapRecord}
 use Rattle.records.specs.declared.file_format.FileFormat.{FileFormat}
 use Rattle.records.specs.declared.refusal.Refusal.{Refusal}
-use Rattle.records.specs.declared.map.Slot.TheVariants as slot
-use Rattle.records.specs.declared.record.RecordRead.{RecordRead}
-use Rattle.records.specs.declared.record.RecordRead.TheVariants as read
+use Rattle.records.specs.declared.record.Record.{Record as LineRecord}
+use Rattle.records.specs.declared.record.Record.TheVariants as read
 use Rattle.records.proofs.Determined.{filled_one}
 use Rattle.rules.proofs.Scans.{fields_read}
 use Rattle.forms.specs.declared.line.LineWritten.{LineWritten}
@@ -72,20 +73,20 @@ module _ (x : MapContext) (s : Bytes) (id : Text) (tag : ℕ) {given out : Bytes
 -- the ID's field, its value where the code was told, and its tag
 pub record Identity (v : Version) (k : Bytes) (fs : List Field) (s : Bytes) (id : Text) (tag : ℕ) : Type 0 where
   pub field : Field
-  pub named : field_named v k (ascii "ID") fs ≡ some field
+  pub named : field_named v k (ascii "ID") fs ≡ Some field
   pub means : meaning_in s id ≡ meaning_of field.value
   pub tagged : tag ≡ tag_of field.key
 
 identity : (v : Version) (k : Bytes) (fs : List Field) (s : Bytes) (id : Text) (tag : ℕ) → s ≡ write_record (fields k fs)
-    → slotted (text_named v k (ascii "ID") (fields_start k) fs) ≡ slot.Filled id tag → Identity v k fs s id tag
+    → slotted (text_named v k (ascii "ID") (fields_start k) fs) ≡ Some (id, tag) → Identity v k fs s id tag
 identity v k fs s id tag e h = go (field_named v k (ascii "ID") fs) refl (text_named v k (ascii "ID") (fields_start k) fs) h
     (named_text v k (ascii "ID") s (fields_start k) fs (rw e (line_fields k fs)))
   where
-    go : (x : Option Field) → field_named v k (ascii "ID") fs ≡ x → (y : Option (Bytes × Text)) → slotted y ≡ slot.Filled id tag → Both s x y → Identity v k fs s id tag
-    go none f none q b = never cc
-    go none f (some p) q b = absurd b
-    go (some x) f none q b = absurd b
-    go (some x) f (some p) q b = let w = filled_one q in record {
+    go : (x : Option Field) → field_named v k (ascii "ID") fs ≡ x → (y : Option (Bytes × Text)) → slotted y ≡ Some (id, tag) → Both s x y → Identity v k fs s id tag
+    go None f None q b = never cc
+    go None f (Some p) q b = absurd b
+    go (Some x) f None q b = absurd b
+    go (Some x) f (Some p) q b = let w = filled_one q in record {
       field = x;
       named = f;
       means = ap (meaning_in s) (sym w.0) ∙ value_means s p.1 x.value b.value;
@@ -119,12 +120,12 @@ module _ (version : FileFormat) (k : Bytes) (fs : List Field) (key : MapKey) (s 
   pub fields_are : fields_in (context_of key version start) s ≡ fs
   fields_are = rw (meta_is, l) (fields_read (is_meta (version_of version) k) (always_map k) s (fields_start k) (on_ok (Scanned (version_of version) s) (record_scanned (version_of version) s) r))
 
-  fields_text_lem : (id : Text) (f : Field) → field_named (version_of version) k (ascii "ID") fs ≡ some f → meaning_in s id ≡ meaning_of f.value
+  fields_text_lem : (id : Text) (f : Field) → field_named (version_of version) k (ascii "ID") fs ≡ Some f → meaning_in s id ≡ meaning_of f.value
       → fields_text (context_of key version start) s id (tag_of f.key) ≡ write_fields (tidy (version_of version) k fs)
   unfolding fields_text
   fields_text_lem id f q m = rw (fields_are, m) (sym (fields_as (version_of version) k (context_of key version start) n refl meta_is fs q))
 
-  map_text_lem : (id : Text) (tag : ℕ) → slotted (text_named (version_of version) k (ascii "ID") (fields_start k) fs) ≡ slot.Filled id tag
+  map_text_lem : (id : Text) (tag : ℕ) → slotted (text_named (version_of version) k (ascii "ID") (fields_start k) fs) ≡ Some (id, tag)
       → map_text (context_of key version start) s id tag ≡ record_line (version_of version) (fields k fs)
   map_text_lem id tag h =
       let i = identity (version_of version) k fs s id tag line_is h in
@@ -135,8 +136,8 @@ module _ (version : FileFormat) (k : Bytes) (fs : List Field) (key : MapKey) (s 
 
 -- A record
 
-module _ (version : FileFormat) (s : Bytes) {r : RecordRead} (a : ParsesRecord (version_of version) s r) where
-  told : {x : RecordRead} → r ≡ x → RecordIs (version_of version) s x
+module _ (version : FileFormat) (s : Bytes) {r : Result LineRecord Refusal} (a : ParsesRecord (version_of version) s r) where
+  told : {x : Result LineRecord Refusal} → r ≡ x → RecordIs (version_of version) s x
   told e = subst (RecordIs (version_of version) s) e a.is
 
   -- a line is one record
@@ -144,19 +145,19 @@ module _ (version : FileFormat) (s : Bytes) {r : RecordRead} (a : ParsesRecord (
   unfolding house_line
   alone e w = rw (house_line, e) w
 
-  pub version_left : {w : FileFormat} → r ≡ read.FileFormat w → {given out : Bytes} {at : Sink} → at.at ≤ last → length out ≤ last → Puts given out at (house_line (version_of version) s) at out
+  pub version_left : {w : FileFormat} → r ≡ Ok (read.FileFormat w) → {given out : Bytes} {at : Sink} → at.at ≤ last → length out ≤ last → Puts given out at (house_line (version_of version) s) at out
   version_left e {given} {out} {at} h l = alone (told e) (puts_nothing given out at h l)
 
-  pub refused_left : {w : Refusal} → r ≡ read.Refused w → {given out : Bytes} {at : Sink} → at.at ≤ last → length out ≤ last → Puts given out at (house_line (version_of version) s) at out
+  pub refused_left : {w : Refusal} → r ≡ Err w → {given out : Bytes} {at : Sink} → at.at ≤ last → length out ≤ last → Puts given out at (house_line (version_of version) s) at out
   unfolding house_line
   refused_left e {given} {out} {at} h l = rw (house_line, told e) (puts_nothing given out at h l)
 
-  pub text_put : {i : ℕ} → r ≡ read.Text i → {given out : Bytes} {at n : Sink} {o : Bytes} → Puts given out at s n o → Puts given out at (house_line (version_of version) s) n o
+  pub text_put : {i : ℕ} → r ≡ Ok (read.Text i) → {given out : Bytes} {at n : Sink} {o : Bytes} → Puts given out at s n o → Puts given out at (house_line (version_of version) s) n o
   unfolding saying record_of
   text_put {i} e {given} {out} {at} {n} {o} w = let f = (told e).1 in alone f (subst (λ (l : Bytes). Puts given out at l n o) (on_ok (LineOf s) (record_in (version_of version) s) f) w)
 
-  module _ {m : MapRecord} (e : r ≡ read.Map m) where
-    abbrev is_map_lem : RecordIs (version_of version) s (read.Map m)
+  module _ {m : MapRecord} (e : r ≡ Ok (read.Map m)) where
+    abbrev is_map_lem : RecordIs (version_of version) s (Ok (read.Map m))
     is_map_lem = told e
 
     pub map_short : length s ≤ m.value → {given out : Bytes} {at : Sink} → Puts given out at (house_line (version_of version) s) at out
@@ -190,18 +191,15 @@ same_ending v s (fileformat w) e h = absurd h
 same_ending v s (fields k fs) e h = ap (ends 13) (on_ok (LineOf s) (record_in v s) e) ∙ map_ends 13 k fs ∙ sym (map_ends 13 k (tidy v k fs)) ∙ sym (ap (λ (r : Record). ends 13 (write_record r)) (tidied_fields v k fs))
 same_ending v s (text k t) e h = ap (ends 13) (on_ok (LineOf s) (record_in v s) e)
 
-pub ends_not : (s : Bytes) → length s ≡ 0 → false ≡ ends 13 s
+-- the library's test of the last byte
+pub ends_last : (s : Bytes) → pointwise eqb (13 ∷ []) (drop (length s - 1) s) ≡ ends 13 s
 unfolding ends
-ends_not [] e = refl
-ends_not (b ∷ s) e = absurd (omega arith)
-
-pub ends_last : (s : Bytes) → (length s ≡ 0 → ⊥) → eqb (get_or s (length s - 1) 0) 13 ≡ ends 13 s
-unfolding ends
-ends_last [] n = absurd (n refl)
-ends_last (b ∷ []) n = refl
-ends_last (b ∷ d ∷ s) n = let z : suc (suc (length s)) - 1 ≡ suc (suc (length s) - 1) = omega arith in rw z (ends_last (d ∷ s) (λ e. absurd (omega arith)))
-
-pub ruleset lasts = (ends_not, ends_last)
+ends_last [] = refl
+ends_last (b ∷ []) = elim (test (eqb b 13)) [
+  | pass e ↦ rw (eqb-true b 13 e)
+  | fail e ↦ rw (e, ne_eqb 13 b (λ f. eqb-false b 13 e (sym f)))
+]
+ends_last (b ∷ d ∷ s) = let z : suc (suc (length s)) - 1 ≡ suc (suc (length s) - 1) = omega arith in rw z (ends_last (d ∷ s))
 
 module _ (cr : Bool) {given out : Bytes} {at r : Sink} {o : Bytes} where
   pub end_lf : cr ≡ false → Puts given out at (10 ∷ []) r o → Puts given out at (ending cr) r o

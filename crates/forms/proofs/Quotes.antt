@@ -1,4 +1,5 @@
 -- Whether a value is quoted: the code's tests of its meaning. Assumes nothing.
+use Rattle.std.specs.Prelude.{Option, Some, None}
 use Prim.Native.Nat.{ℕ}
 use mathlib.Core.Path.{◌≡◌, refl, sym, ◌∙◌}
 use mathlib.Core.Bool.{Bool, true, false, not, ◌&&◌}
@@ -9,8 +10,6 @@ use Rattle.values.specs.Bytes.{Bytes, ascii, empty, begins, any, same}
 use Rattle.values.specs.Value.{is_stop, meaning}
 use Rattle.values.specs.Places.{unescaped_at}
 use Rattle.values.specs.declared.cursor.Cursor.{Cursor}
-use Rattle.values.specs.declared.cursor.ByteRead.{ByteRead}
-use Rattle.values.specs.declared.cursor.ByteRead.TheVariants.{Byte, End}
 use Rattle.values.proofs.Tests.{not_true, not_false}
 use Rattle.values.proofs.Meanings.{told_end, told_byte, told_less}
 use Rattle.rules.specs.House.{closes}
@@ -18,12 +17,12 @@ use Rattle.forms.specs.Forms.{quotes}
 
 -- The first byte of a meaning
 
-module _ (x : ℕ) (q : Bool) (s : Bytes) {r : ByteRead} (a : r ≡ unescaped_at q s 0) where
-  pub begins_none : r ≡ End → false ≡ begins x (meaning q s)
+module _ (x : ℕ) (q : Bool) (s : Bytes) {r : Option (ℕ × Cursor)} (a : r ≡ unescaped_at q s 0) where
+  pub begins_none : r ≡ None → false ≡ begins x (meaning q s)
   unfolding begins
   begins_none e = rw (told_end q s 0 a e)
 
-  pub begins_byte : {b : ℕ} {c : Cursor} → r ≡ Byte b c → eqb b x ≡ begins x (meaning q s)
+  pub begins_byte : {b : ℕ} {c : Cursor} → r ≡ Some (b, c) → eqb b x ≡ begins x (meaning q s)
   unfolding begins
   begins_byte e = rw (told_byte q s 0 a e)
 
@@ -37,12 +36,12 @@ pub record Stopping (q : Bool) (s : Bytes) (i : ℕ) : Type 0 where
 pub stop_all : (q : Bool) (s : Bytes) → Stopping q s 0
 stop_all q s = record { still = refl }
 
-module _ {q : Bool} {s : Bytes} {i : ℕ} (g : Stopping q s i) {r : ByteRead} (a : r ≡ unescaped_at q s i) where
-  pub stop_none : r ≡ End → false ≡ any is_stop (meaning q s)
+module _ {q : Bool} {s : Bytes} {i : ℕ} (g : Stopping q s i) {r : Option (ℕ × Cursor)} (a : r ≡ unescaped_at q s i) where
+  pub stop_none : r ≡ None → false ≡ any is_stop (meaning q s)
   unfolding any
   stop_none e = sym (g.still ∙ rw (told_end q s i a e))
 
-  module _ {b : ℕ} {c : Cursor} (e : r ≡ Byte b c) {t : Bool} (d : t ≡ is_stop b) where
+  module _ {b : ℕ} {c : Cursor} (e : r ≡ Some (b, c)) {t : Bool} (d : t ≡ is_stop b) where
     pub stop_here : t ≡ true → true ≡ any is_stop (meaning q s)
     unfolding any
     stop_here f = sym (g.still ∙ rw (told_byte q s i a e, any, sym d ∙ f))
@@ -61,25 +60,25 @@ pub record Closing (q : Bool) (s : Bytes) (i : ℕ) : Type 0 where
 pub close_all : (q : Bool) (s : Bytes) → Closing q s 0
 close_all q s = record { still = refl }
 
-module _ {q : Bool} {s : Bytes} {i : ℕ} (g : Closing q s i) {r : ByteRead} (a : r ≡ unescaped_at q s i) where
-  pub close_none : r ≡ End → false ≡ closes 93 (meaning q s)
+module _ {q : Bool} {s : Bytes} {i : ℕ} (g : Closing q s i) {r : Option (ℕ × Cursor)} (a : r ≡ unescaped_at q s i) where
+  pub close_none : r ≡ None → false ≡ closes 93 (meaning q s)
   unfolding closes
   close_none e = sym (g.still ∙ rw (told_end q s i a e))
 
-  module _ {b : ℕ} {c : Cursor} (e : r ≡ Byte b c) where
+  module _ {b : ℕ} {c : Cursor} (e : r ≡ Some (b, c)) where
     pub close_later : (b ≡ 93 → ⊥) → Closing q s c.at
     unfolding closes
     close_later n = record { still = g.still ∙ rw (told_byte q s i a e, closes, ne_eqb b 93 n) }
 
-    module _ (h : b ≡ 93) {t : ByteRead} (d : t ≡ unescaped_at q s c.at) where
+    module _ (h : b ≡ 93) {t : Option (ℕ × Cursor)} (d : t ≡ unescaped_at q s c.at) where
       here : closes 93 (meaning q s) ≡ empty (meaning q (drop c.at s))
       unfolding closes
       here = g.still ∙ rw (told_byte q s i a e, closes, eq-eqb b 93 h)
 
-      pub close_last : t ≡ End → true ≡ closes 93 (meaning q s)
+      pub close_last : t ≡ None → true ≡ closes 93 (meaning q s)
       close_last f = sym (here ∙ rw (told_end q s c.at d f))
 
-      pub close_early : {x : ℕ} {y : Cursor} → t ≡ Byte x y → false ≡ closes 93 (meaning q s)
+      pub close_early : {x : ℕ} {y : Cursor} → t ≡ Some (x, y) → false ≡ closes 93 (meaning q s)
       close_early f = sym (here ∙ rw (told_byte q s c.at d f))
 
 pub ruleset closings = (close_all, close_none, close_later, close_last, close_early, told_less)

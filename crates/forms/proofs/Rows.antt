@@ -3,7 +3,7 @@ use Prim.Native.Nat.{ℕ, ◌-◌, ◌≤◌}
 use mathlib.Core.Path.{◌≡◌, refl, sym, ap, subst, ◌∙◌}
 use mathlib.Core.Bool.{Bool, true, false, ◌&&◌}
 use mathlib.Core.List.{List, [], ◌∷◌, append-nil}
-use mathlib.Core.Option.{Option, none, some}
+use Rattle.std.specs.Prelude.{Option, None, Some}
 use lib.ListN.{length, drop, take}
 use Rattle.values.specs.Bytes.{Bytes, ascii, same}
 use Rattle.values.specs.Integer.{u64_read}
@@ -19,29 +19,27 @@ use Rattle.records.specs.Keys.{kind_by}
 use Rattle.records.specs.Tags.{after_id}
 use Rattle.records.specs.Fields.{FoundIs, FindsField}
 use Rattle.records.specs.declared.key.MapKey.{MapKey}
-use Rattle.records.specs.declared.field.FieldFound.{FieldFound}
-use Rattle.records.specs.declared.field.FieldFound.TheVariants.{Found, Missing}
 use Rattle.forms.specs.Forms.{field_by, PutsNumber, known_text, listed_fields, PutsKnown}
 
 -- A known field
 
 module _ (s : Bytes) where
-  not_found : (o : Option Field) → FoundIs s o Missing → o ≡ none
-  not_found none h = refl
-  not_found (some f) h = absurd h
+  not_found : (o : Option Field) → FoundIs s o None → o ≡ None
+  not_found None h = refl
+  not_found (Some f) h = absurd h
 
-  found_some : (t : Text) (o : Option Field) → FoundIs s o (Found t) → (f : Field) × (o ≡ some f) × FoundIs s (some f) (Found t)
-  found_some t none h = absurd h
-  found_some t (some f) h = (f, refl, h)
+  found_some : (t : Text) (o : Option Field) → FoundIs s o (Some t) → (f : Field) × (o ≡ Some f) × FoundIs s (Some f) (Some t)
+  found_some t None h = absurd h
+  found_some t (Some f) h = (f, refl, h)
 
-module _ {meta : Bool} {s : Bytes} {start : ℕ} {name : Bytes} {r : FieldFound} (a : FindsField meta s start name r) {given out : Bytes} {at : Sink} where
-  pub known_none : (number : Bool) → r ≡ Missing → at.at ≤ last → length out ≤ last → PutsKnown meta (fields_at meta s start) name number given out at at out
+module _ {meta : Bool} {s : Bytes} {start : ℕ} {name : Bytes} {r : Option Text} (a : FindsField meta s start name r) {given out : Bytes} {at : Sink} where
+  pub known_none : (number : Bool) → r ≡ None → at.at ≤ last → length out ≤ last → PutsKnown meta (fields_at meta s start) name number given out at at out
   known_none number e h l =
       let o = not_found s (field_keyed name (fields_at meta s start)) (subst (FoundIs s (field_keyed name (fields_at meta s start))) e a.value) in
       record { is = λ n. rw o (puts_nothing given out at h l) }
 
-  module _ {t : Text} (e : r ≡ Found t) {r₁ : Sink} {o₁ : Bytes} (w : Puts given out at (44 ∷ []) r₁ o₁) {p : Bytes} (b : p ≡ take (t.end - t.start) (drop t.start s)) where
-    field : (f : Field) × (field_keyed name (fields_at meta s start) ≡ some f) × FoundIs s (some f) (Found t)
+  module _ {t : Text} (e : r ≡ Some t) {r₁ : Sink} {o₁ : Bytes} (w : Puts given out at (44 ∷ []) r₁ o₁) {p : Bytes} (b : p ≡ take (t.end - t.start) (drop t.start s)) where
+    field : (f : Field) × (field_keyed name (fields_at meta s start) ≡ Some f) × FoundIs s (Some f) (Some t)
     field = found_some s t (field_keyed name (fields_at meta s start)) (subst (FoundIs s (field_keyed name (fields_at meta s start))) e a.value)
 
     pub known_number : (number : Bool) → number ≡ true → {r₂ : Sink} {o₂ : Bytes} → PutsNumber meta name p t.quoted given o₁ r₁ r₂ o₂ → PutsKnown meta (fields_at meta s start) name number given out at r₂ o₂

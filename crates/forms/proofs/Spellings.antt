@@ -5,7 +5,7 @@ use native.Mathlib.Omega.{arith}
 use mathlib.Core.Path.{◌≡◌, refl, sym, ap, ◌∙◌}
 use mathlib.Core.Bool.{Bool, true, false, not, ◌||◌, ◌&&◌}
 use mathlib.Core.List.{[], ◌∷◌, ◌++◌, tail, append_assoc, append-nil}
-use mathlib.Core.Option.{Option, none, some}
+use Rattle.std.specs.Prelude.{Option, None, Some}
 use lib.Dec.{eqb, leb}
 use lib.ListN.{length}
 use borrow.Author.Tests.{eqb-true, eqb-false, leb-true}
@@ -13,10 +13,8 @@ use Rattle.values.specs.Bytes.{Bytes, ascii, is, empty, begins, any, before, sam
 use Rattle.values.specs.Integer.{is_digit, is_no_digit, is_plain, number_of, spells, value_if, unsigned_read, without_sign, u64_read, decimal}
 use Rattle.values.specs.Value.{Value, quoted, is_quoted, text_of, is_escapable, unescaped, meaning, prepend, quoted_text, in_quotes, is_stop, read_value, escape}
 use Rattle.values.specs.Field.{Field, with_value, with_key, read_key, read_field}
-use Rattle.values.specs.declared.integer.IntegerRead.{IntegerRead}
-use Rattle.values.specs.declared.integer.IntegerRead.TheVariants as integer
 use Rattle.values.proofs.Tests.{pass, fail, test, or_l, or_r, and_l, and_r, not_true, not_false, never}
-use Rattle.values.proofs.Lists.{OnSome, on_some, before_hit, before_miss, before_none}
+use Rattle.values.proofs.Lists.{some_pair, OnSome, on_some, before_hit, before_miss, before_none}
 use Rattle.values.proofs.Decimals.{decimal_small, decimal_large}
 use Rattle.values.proofs.Escapes.{escape_slash, escape_plain, unescaped_slash, unescaped_plain, unescaped_escaped}
 use Rattle.forms.specs.Forms.{quotes, shown_value}
@@ -71,11 +69,11 @@ some_digits : (t : Bytes) → spells (2 ^ 64 - 1) t ≡ true → (t ≡ [] → �
 some_digits [] e z = never cc
 some_digits (b ∷ t) e z = never cc
 
-value_of : (b : Bool) (m : ℕ) (p : Bool) {n : ℕ} {q : Bool} → value_if b m p ≡ integer.Value n q → (b ≡ true) × (m ≡ n) × (p ≡ q)
-value_of true m p e = (refl, cc, cc)
+value_of : (b : Bool) (m : ℕ) (p : Bool) {n : ℕ} {q : Bool} → value_if b m p ≡ Some (n, q) → (b ≡ true) × (m ≡ n) × (p ≡ q)
+value_of true m p e = let w = some_pair e in (refl, w.0, w.1)
 value_of false m p e = never cc
 
-plain_number : (t : Bytes) {n : ℕ} → u64_read t ≡ integer.Value n true → decimal n ≡ t
+plain_number : (t : Bytes) {n : ℕ} → u64_read t ≡ Some (n, true) → decimal n ≡ t
 unfolding unsigned_read without_sign
 plain_number t {n} e = elim (test (begins 43 t)) [
   | pass q ↦ let w = value_of (spells (2 ^ 64 - 1) (without_sign true t)) (number_of (without_sign true t)) (is_plain t) e in let z = rw q at w.2 in never cc
@@ -88,11 +86,11 @@ plain_number t {n} e = elim (test (begins 43 t)) [
       (not_true (any is_no_digit t) (and_l (not (any is_no_digit t)) (leb (number_of t) (2 ^ 64 - 1)) (and_r (not (empty t)) (not (any is_no_digit t) && leb (number_of t) (2 ^ 64 - 1)) a))) (some_digits t a)
 ]
 
-module _ (s : Bytes) {i : IntegerRead} (a : i ≡ u64_read s) where
-  pub plain_value : {n : ℕ} {p : Bool} → i ≡ integer.Value n p → p ≡ true → shown_value true s ≡ s
-  plain_value {n} {p} e f = let u : u64_read s ≡ integer.Value n true = sym a ∙ e ∙ ap (integer.Value n) f in rw u (plain_number s u)
+module _ (s : Bytes) {i : Option (ℕ × Bool)} (a : i ≡ u64_read s) where
+  pub plain_value : {n : ℕ} {p : Bool} → i ≡ Some (n, p) → p ≡ true → shown_value true s ≡ s
+  plain_value {n} {p} e f = let u : u64_read s ≡ Some (n, true) = sym a ∙ e ∙ ap (λ (x : Bool). Some (n, x)) f in rw u (plain_number s u)
 
-  pub plain_word : i ≡ integer.Refused → true ≡ true → shown_value true s ≡ s
+  pub plain_word : i ≡ None → true ≡ true → shown_value true s ≡ s
   plain_word e f = rw (sym a ∙ e)
 
 pub ruleset plains = (plain_value, plain_word)
@@ -105,8 +103,8 @@ slashed true t = 92 ∷ t
 slashed false t = t
 
 prepended : (P Q : Bytes → Type 0) (b : ℕ) (o : Option (Bytes × Bytes)) → ((t : Bytes) → P t → Q (b ∷ t)) → OnSome (λ p. P p.0) o → OnSome (λ p. Q p.0) (prepend b o)
-prepended P Q b none f h = tt
-prepended P Q b (some p) f h = f p.0 h
+prepended P Q b None f h = tt
+prepended P Q b (Some p) f h = f p.0 h
 
 quoted_clean : (after : Bool) (bs : Bytes) → OnSome (λ p. escape (unescaped after p.0) ≡ slashed after p.0) (quoted_text after bs)
 unfolding quoted_text unescaped escape
@@ -140,22 +138,22 @@ value_clean bs = elim (test (begins 34 bs)) [
 ]
   where
     go : (o : Option (Bytes × Bytes)) → OnSome (λ p. escape (unescaped false p.0) ≡ p.0) o → OnSome (λ p. Clean (is_quoted p.0) (text_of p.0)) (in_quotes o)
-    go none h = tt
-    go (some p) h = h
+    go None h = tt
+    go (Some p) h = h
 
 field_clean : (bs : Bytes) → OnSome (λ p. Clean (is_quoted p.0.value) (text_of p.0.value)) (read_field false bs)
 unfolding read_field
 field_clean bs = go (read_key bs)
   where
     valued : (k : Bytes) (o : Option (Value × Bytes)) → OnSome (λ p. Clean (is_quoted p.0) (text_of p.0)) o → OnSome (λ p. Clean (is_quoted p.0.value) (text_of p.0.value)) (with_value k o)
-    valued k none h = tt
-    valued k (some p) h = h
+    valued k None h = tt
+    valued k (Some p) h = h
 
     go : (o : Option (Bytes × Bytes)) → OnSome (λ p. Clean (is_quoted p.0.value) (text_of p.0.value)) (with_key false o)
-    go none = tt
-    go (some p) = valued p.0 (read_value false p.1) (value_clean p.1)
+    go None = tt
+    go (Some p) = valued p.0 (read_value false p.1) (value_clean p.1)
 
-pub clean : (bs : Bytes) {f : Field} {r : Bytes} → read_field false bs ≡ some (f, r) → Clean (is_quoted f.value) (text_of f.value)
+pub clean : (bs : Bytes) {f : Field} {r : Bytes} → read_field false bs ≡ Some (f, r) → Clean (is_quoted f.value) (text_of f.value)
 clean bs e = on_some (λ p. Clean (is_quoted p.0.value) (text_of p.0.value)) (field_clean bs) e
 
 -- What the code asks of a value
@@ -171,10 +169,10 @@ module _ (name t : Bytes) (number q : Bool) where
   unfolding quotes
   bare_kept e d s c = rw (e, s, quotes, d, rw e at c)
 
-  pub spells_number : q ≡ false → {d : Bool} → d ≡ same name (ascii "Description") → d ≡ false → number ≡ true → {r : Bool} → (r ≡ true → shown_value true t ≡ t) → Spells name number q t r
-  spells_number e b d n h = record { is = λ o c. bare_kept e (sym b ∙ d) (rw n (h o)) c }
+  pub spells_number : q ≡ false → {d : Bool} → d ≡ same name (ascii "Description") → not d ≡ true → not number ≡ false → {r : Bool} → (r ≡ true → shown_value true t ≡ t) → Spells name number q t r
+  spells_number e {d} b f n h = record { is = λ o c. bare_kept e (sym b ∙ not_true d f) (rw (not_false number n) (h o)) c }
 
-  pub spells_bare : q ≡ false → {d : Bool} → d ≡ same name (ascii "Description") → d ≡ false → number ≡ false → Spells name number q t true
-  spells_bare e b d n = record { is = λ o c. bare_kept e (sym b ∙ d) (rw n) c }
+  pub spells_bare : q ≡ false → {d : Bool} → d ≡ same name (ascii "Description") → not d ≡ true → not number ≡ true → Spells name number q t (not number)
+  spells_bare e {d} b f n = record { is = λ o c. bare_kept e (sym b ∙ not_true d f) (rw (not_true number n)) c }
 
 pub ruleset spellings = (spells_not, spells_quoted, spells_number, spells_bare)

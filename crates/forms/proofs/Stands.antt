@@ -4,7 +4,7 @@ use native.Mathlib.Omega.{arith}
 use mathlib.Core.Path.{◌≡◌, refl, sym, ap, ap₂, subst, ◌∙◌}
 use mathlib.Core.Bool.{Bool, true, false, not}
 use mathlib.Core.List.{List, [], ◌∷◌, ◌++◌, tail, append_assoc}
-use mathlib.Core.Option.{Option, some}
+use Rattle.std.specs.Prelude.{Option, Some, None}
 use lib.ListN.{length, take, drop}
 use Rattle.values.specs.Bytes.{Bytes, ascii, same}
 use Rattle.values.specs.Value.{Value, is_quoted, text_of, meaning_of}
@@ -12,10 +12,6 @@ use Rattle.values.specs.Field.{Field, written_field}
 use Rattle.values.specs.Places.{field_at, separator_at}
 use Rattle.values.specs.declared.cursor.Cursor.{Cursor}
 use Rattle.values.specs.declared.string.Text.{Text}
-use Rattle.values.specs.declared.field.FieldRead.{FieldRead}
-use Rattle.values.specs.declared.field.FieldRead.TheVariants as read
-use Rattle.values.specs.declared.field.Separator.{Separator}
-use Rattle.values.specs.declared.field.Separator.TheVariants as separator
 use Rattle.values.proofs.Tests.{pass, fail, test, or_l, or_r, not_false, both, never}
 use Rattle.values.proofs.Lists.{some_is}
 use Rattle.values.proofs.Sames.{same_sound, same_self, same_sym}
@@ -41,7 +37,7 @@ use Rattle.forms.proofs.Spellings.{clean}
 
 -- Fields in form
 
-keyed_yes : (name : Bytes) (f : Field) (fs : List Field) → f.key ≡ name → field_keyed name (f ∷ fs) ≡ some f
+keyed_yes : (name : Bytes) (f : Field) (fs : List Field) → f.key ≡ name → field_keyed name (f ∷ fs) ≡ Some f
 unfolding field_keyed
 keyed_yes name f fs e = let q : same f.key name ≡ true = rw e (same_self name) in rw (q, field_keyed)
 
@@ -106,7 +102,7 @@ module _ (x : MapContext) (m : x.brackets ≡ false) where
 
 -- Fields where the code was told of them
 
-told_one : {m : Bool} {s : Bytes} {i : ℕ} {fs gs : List Field} (g : Left m s i fs) (h : Left m s i gs) {r : FieldRead} (a : r ≡ field_at m s i) {e : ℕ} {t : Text} {c : Cursor} (b : r ≡ read.Field e t c)
+told_one : {m : Bool} {s : Bytes} {i : ℕ} {fs gs : List Field} (g : Left m s i fs) (h : Left m s i gs) {r : Option (ℕ × Text × Cursor)} (a : r ≡ field_at m s i) {e : ℕ} {t : Text} {c : Cursor} (b : r ≡ Some (e, t, c))
     → (left_told g a b).field ≡ (left_told h a b).field
 told_one g h a b = ap (λ (p : Field × Bytes). p.0) (some_is (sym (left_told g a b).read ∙ (left_told h a b).read))
 
@@ -118,17 +114,17 @@ left_one : (n : ℕ) {m : Bool} {s : Bytes} {i : ℕ} {fs gs : List Field} → L
 left_one zero g h l = absurd (omega arith)
 left_one (suc n) {m} {s} {i} {fs} {gs} g h l = go (field_at m s i) refl (λ j k rs ss a b. left_one n a b k)
   where
-    parted : (e : ℕ) (t : Text) (c : Cursor) → read.Field e t c ≡ field_at m s i → Agree m s n → (x : Separator) → x ≡ separator_at s c.at → fs ≡ gs
-    parted e t c a ih separator.Other d = left_last g a refl d refl ∙ ap (◌∷ []) (told_one g h a refl) ∙ sym (left_last h a refl d refl)
-    parted e t c a ih (separator.Comma y) d =
+    parted : (e : ℕ) (t : Text) (c : Cursor) → Some (e, t, c) ≡ field_at m s i → Agree m s n → (x : Option Cursor) → x ≡ separator_at s c.at → fs ≡ gs
+    parted e t c a ih None d = left_last g a refl d refl ∙ ap (◌∷ []) (told_one g h a refl) ∙ sym (left_last h a refl d refl)
+    parted e t c a ih (Some y) d =
         let p = left_next g a refl d refl in
         let q = left_next h a refl d refl in
         let z = left_less g a refl d refl in
         p.1 ∙ ap₂ ◌∷◌ (told_one g h a refl) (ih y.at (omega arith) p.0 q.0 p.2 q.2) ∙ sym q.1
 
-    go : (r : FieldRead) → r ≡ field_at m s i → Agree m s n → fs ≡ gs
-    go read.Refused a ih = left_unread g a refl ∙ sym (left_unread h a refl)
-    go (read.Field e t c) a ih = parted e t c a ih (separator_at s c.at) refl
+    go : (r : Option (ℕ × Text × Cursor)) → r ≡ field_at m s i → Agree m s n → fs ≡ gs
+    go None a ih = left_unread g a refl ∙ sym (left_unread h a refl)
+    go (Some (e, t, c)) a ih = parted e t c a ih (separator_at s c.at) refl
 
 left_here : {m : Bool} {s : Bytes} {i : ℕ} {fs : List Field} → Left m s i fs → fs ≡ fields_at m s i
 left_here {m} {s} {i} g = left_one (suc (length s - i)) g (left_all m s i) (omega arith)
@@ -143,7 +139,7 @@ value_by_lem true s t e = rw e
 value_by_lem false s t e = rw e
 
 -- the field at a place, of which the code was told, has this name, and is spelled so
-module _ (s : Bytes) (i : ℕ) {r : FieldRead} (a : r ≡ field_at false s i) {e : ℕ} {t : Text} {n : Cursor} (b : r ≡ read.Field e t n) {p : Bytes} (c : p ≡ take (e - i) (drop i s))
+module _ (s : Bytes) (i : ℕ) {r : Option (ℕ × Text × Cursor)} (a : r ≡ field_at false s i) {e : ℕ} {t : Text} {n : Cursor} (b : r ≡ Some (e, t, n)) {p : Bytes} (c : p ≡ take (e - i) (drop i s))
     {val : Bytes} (d : val ≡ take (t.end - t.start) (drop t.start s)) (name : Bytes) (number : Bool) {z : Bool} (y : Spells name number t.quoted val z) (o : not z ≡ false) where
   abbrev all : Left false s i (fields_at false s i)
   all = left_all false s i
@@ -159,21 +155,21 @@ module _ (s : Bytes) (i : ℕ) {r : FieldRead} (a : r ≡ field_at false s i) {e
         (clean (drop i s) here.read) (rw (not_false z o) at y);
   }
 
-  module _ {x : Separator} (f : x ≡ separator_at s n.at) where
-    fields_last : x ≡ separator.Other → fields_at false s i ≡ here.field ∷ []
+  module _ {x : Option Cursor} (f : x ≡ separator_at s n.at) where
+    fields_last : x ≡ None → fields_at false s i ≡ here.field ∷ []
     fields_last g = left_last all a b f g
 
-    fields_next : {h : Cursor} → x ≡ separator.Comma h → fields_at false s i ≡ here.field ∷ fields_at false s h.at
+    fields_next : {h : Cursor} → x ≡ Some h → fields_at false s i ≡ here.field ∷ fields_at false s h.at
     fields_next g = let l = left_next all a b f g in l.1 ∙ ap (here.field ∷◌) (left_here l.2)
 
     module _ {q : Bool} (j : q ≡ same p name) (k : not q ≡ false) where
       named : p ≡ name
       named = same_sound p name (sym j ∙ not_false q k)
 
-      pub passed_last : x ≡ separator.Other → Passes name number s i Done
+      pub passed_last : x ≡ None → Passes name number s i Done
       passed_last g = record { is = (here.field, fields_last g, field_stands named) }
 
-      pub passed_more : {h : Cursor} → x ≡ separator.Comma h → Passes name number s i (More h)
+      pub passed_more : {h : Cursor} → x ≡ Some h → Passes name number s i (More h)
       passed_more g = record { is = (here.field, fields_next g, field_stands named) }
 
 pub ruleset passes = (passed_last, passed_more)
@@ -259,9 +255,9 @@ pass_all x s start = record { still = λ m g. g }
 pub others_failed : (x : MapContext) (s : Bytes) (start : ℕ) → InFormFrom x s start false
 others_failed x s start = record { is = λ o m. never cc }
 
-module _ {x : MapContext} {s : Bytes} {start i : ℕ} (g : Passing x s start i) {r : FieldRead} (a : r ≡ field_at false s i) {e : ℕ} {t : Text} {n : Cursor} (b : r ≡ read.Field e t n) {p : Bytes}
+module _ {x : MapContext} {s : Bytes} {start i : ℕ} (g : Passing x s start i) {r : Option (ℕ × Text × Cursor)} (a : r ≡ field_at false s i) {e : ℕ} {t : Text} {n : Cursor} (b : r ≡ Some (e, t, n)) {p : Bytes}
     (c : p ≡ take (e - i) (drop i s)) (k : Tag) (h : tag_row k ≡ known_named (version_in x) (key_bytes x) p) {w : Bool} (j : w ≡ is_some (tag_row k)) (u : w ≡ false)
-    {val : Bytes} (d : val ≡ take (t.end - t.start) (drop t.start s)) {z : Bool} (y : Spells p false t.quoted val z) (o : not z ≡ false) {v : Separator} (f : v ≡ separator_at s n.at) where
+    {val : Bytes} (d : val ≡ take (t.end - t.start) (drop t.start s)) {z : Bool} (y : Spells p false t.quoted val z) (o : not z ≡ false) {v : Option Cursor} (f : v ≡ separator_at s n.at) where
   abbrev it : Field
   it = (left_told (left_all false s i) a b).field
 
@@ -271,17 +267,17 @@ module _ {x : MapContext} {s : Bytes} {start i : ℕ} (g : Passing x s start i) 
   stands_so : Stands it.key false it
   stands_so = let q = field_stands s i a b c d p false y o refl in subst (λ (name : Bytes). Stands name false it) (sym q.key) q
 
-  pub others_last : v ≡ separator.Other → InFormFrom x s start true
+  pub others_last : v ≡ None → InFormFrom x s start true
   others_last q = record {
     is = λ l m. g.still m (subst (InForm x []) (sym (fields_last s i a b c d p false y o f q)) (in_form_other x m it [] unknown stands_so (in_form_none x [])));
   }
 
-  pub others_more : {l : Cursor} → v ≡ separator.Comma l → Passing x s start l.at
+  pub others_more : {l : Cursor} → v ≡ Some l → Passing x s start l.at
   others_more {l} q = record {
     still = λ m w. g.still m (subst (InForm x []) (sym (fields_next s i a b c d p false y o f q)) (in_form_other x m it (fields_at false s l.at) unknown stands_so w));
   }
 
-pub others_less : (s : Bytes) (i : ℕ) {r : FieldRead} → r ≡ field_at false s i → {e : ℕ} {t : Text} {n : Cursor} → r ≡ read.Field e t n → {v : Separator} → v ≡ separator_at s n.at → {l : Cursor} → v ≡ separator.Comma l
+pub others_less : (s : Bytes) (i : ℕ) {r : Option (ℕ × Text × Cursor)} → r ≡ field_at false s i → {e : ℕ} {t : Text} {n : Cursor} → r ≡ Some (e, t, n) → {v : Option Cursor} → v ≡ separator_at s n.at → {l : Cursor} → v ≡ Some l
     → length s - l.at < length s - i
 others_less s i a b f q = left_less (left_all false s i) a b f q
 

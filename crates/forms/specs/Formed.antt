@@ -1,6 +1,5 @@
 -- A line that stands as the house form writes it. Assumes nothing.
-use Rattle.std.specs.Prelude.{ℕ, ◌≡◌, Bool, true, false, ◌||◌, ◌&&◌, List, [], ◌∷◌, ◌++◌}
-use Rattle.std.proofs.Math.Option.{none}
+use Rattle.std.specs.Prelude.{ℕ, ◌≡◌, Bool, true, false, ◌||◌, ◌&&◌, List, [], ◌∷◌, ◌++◌, None}
 use Rattle.values.specs.Bytes.{Bytes, ascii, is, COMMA, QUOTE}
 use Rattle.values.specs.Value.{Value, quoted, bare, unescaped, meaning, meaning_of, escape, value_of}
 use Rattle.values.specs.Field.{Field}
@@ -58,7 +57,7 @@ IsKnown x name = is_some (known_named (version_in x) (key_bytes x) name) ≡ tru
 -- of these fields the form has first those of the rows, then the others, which is how they stand; no other field is a known one
 pub record InForm (x : MapContext) (rs : List KnownField) (fs : List Field) : Type 0 where
   pub text : listed_fields false fs rs ++ others_text x fs ≡ write_more fs
-  pub only : (name : Bytes) → is_in name (names rs) ≡ false → IsKnown x name → field_keyed name fs ≡ none
+  pub only : (name : Bytes) → is_in name (names rs) ≡ false → IsKnown x name → field_keyed name fs ≡ None
 
 -- the same of the fields that are left
 abbrev pub Rest : MapContext → List KnownField → Bytes → Passed → Type 0

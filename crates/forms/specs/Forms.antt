@@ -1,7 +1,6 @@
 -- A line of the house form, as the code writes it from a line of a header. Bytes by their numbers: `"` 34, `,` 44, `[` 91, `]` 93.
 -- Assumes nothing.
-use Rattle.std.specs.Prelude.{◌≡◌, Bool, true, false, not, ◌||◌, ◌&&◌, List, [], ◌∷◌, ◌++◌}
-use Rattle.std.proofs.Math.Option.{Option, none, some}
+use Rattle.std.specs.Prelude.{◌≡◌, Bool, true, false, not, ◌||◌, ◌&&◌, List, [], ◌∷◌, ◌++◌, Option, None, Some}
 use Rattle.values.specs.Bytes.{Bytes, ascii, begins, same}
 use Rattle.values.specs.Integer.{u64_read}
 use Rattle.values.specs.Value.{meaning, meaning_of, value_of}
@@ -39,8 +38,8 @@ fields_in x s = fields_at x.brackets s x.start
 
 -- a known field after a `,`, if it stands there
 abbrev pub known_text : Bool → Bytes → Bool → Option Field → Bytes
-known_text meta name number none = []
-known_text meta name number (some f) = 44 ∷ written_field (field_by meta name (shown_value number (meaning_of f.value)))
+known_text meta name number None = []
+known_text meta name number (Some f) = 44 ∷ written_field (field_by meta name (shown_value number (meaning_of f.value)))
 
 -- the field of this name was written, if there is one; a number is never a Description
 pub record PutsKnown (meta : Bool) (fs : List Field) (name : Bytes) (number : Bool) (given old : Bytes) (at r : Sink) (new : Bytes) : Type 0 where

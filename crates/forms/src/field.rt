@@ -8,7 +8,6 @@ ghost use Rattle.records.specs.Fields.{meaning_in};
 ghost use Rattle.forms.specs.Forms.{field_by, PutsNumber};
 
 use crate::quoting;
-use values::integer::IntegerRead;
 use values::sink::Sink;
 use values::string::Text;
 use values::{bytes, integer, sink, string};
@@ -49,7 +48,7 @@ pub fn put_number(
 ) -> Sink
     ensures { PutsNumber meta key.now s.now quoted given.now out.old at result out.new }
 {
-    let IntegerRead::Value(n, _) = integer::parse_u64(s) else {
+    let Some((n, _)) = integer::parse_u64(s) else {
         return put_field(out, given, at, key, s, quoted, meta);
     };
     let next = put_key(out, given, at, key);

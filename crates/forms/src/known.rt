@@ -6,7 +6,6 @@ ghost use Rattle.forms.specs.Forms.{fields_in, listed_fields, known_texts, PutsK
 
 use crate::field;
 use records::field as fields;
-use records::field::FieldFound;
 use records::key::{MapContext, MapKey};
 use values::sink::Sink;
 use values::{bytes, sink};
@@ -23,7 +22,7 @@ fn put_known(
 ) -> Sink
     ensures { PutsKnown map.brackets (fields_in map s.now) name.now number given.now out.old at result out.new }
 {
-    let FieldFound::Found(text) = fields::find_field(s, map.start, map.brackets, name) else {
+    let Some(text) = fields::find_field(s, map.start, map.brackets, name) else {
         return at;
     };
     let next = sink::put_byte(out, given, at, b',');
@@ -64,15 +63,11 @@ fn put_contig(out: &mut [u8], given: &[u8], at: Sink, s: &[u8], map: MapContext)
 pub fn put_known_fields(out: &mut [u8], given: &[u8], at: Sink, s: &[u8], map: MapContext) -> Sink
     ensures { Puts given.now out.old at (known_texts map s.now) result out.new }
 {
-    let key = map.key;
-    match key {
-        MapKey::Info => put_typed(out, given, at, s, map),
+    match map.key {
+        MapKey::Info | MapKey::Format => put_typed(out, given, at, s, map),
         MapKey::Filter => put_filter(out, given, at, s, map),
-        MapKey::Format => put_typed(out, given, at, s, map),
         MapKey::AlternativeAllele => put_known(out, given, at, s, map, b"Description", false),
         MapKey::Contig => put_contig(out, given, at, s, map),
-        MapKey::Meta => at,
-        MapKey::Pedigree => at,
-        MapKey::Other => at,
+        MapKey::Meta | MapKey::Pedigree | MapKey::Other => at,
     }
 }

@@ -11,7 +11,7 @@ use crate::{field, known, others};
 use records::file_format::FileFormat;
 use records::key::MapContext;
 use records::record;
-use records::record::RecordRead;
+use records::record::Record;
 use values::sink::Sink;
 use values::string::Text;
 use values::{bytes, sink};
@@ -69,8 +69,8 @@ pub fn put_record(out: &mut [u8], given: &[u8], at: Sink, s: &[u8], version: Fil
     ensures { Puts given.now out.old at (house_line (version_of version) s.now) result out.new }
 {
     match record::parse_record(s, version) {
-        RecordRead::FileFormat(_) => at,
-        RecordRead::Map(m) => {
+        Ok(Record::FileFormat(_)) => at,
+        Ok(Record::Map(m)) => {
             if s.len() <= m.value {
                 return at;
             }
@@ -78,8 +78,8 @@ pub fn put_record(out: &mut [u8], given: &[u8], at: Sink, s: &[u8], version: Fil
             let map = key.context(version, m.value + 1);
             put_map(out, given, at, s, map, m.id, m.tag)
         }
-        RecordRead::Text(_) => sink::put_bytes(out, given, at, s),
-        RecordRead::Refused(_) => at,
+        Ok(Record::Text(_)) => sink::put_bytes(out, given, at, s),
+        Err(_) => at,
     }
 }
 
@@ -87,11 +87,7 @@ pub fn put_record(out: &mut [u8], given: &[u8], at: Sink, s: &[u8], version: Fil
 pub fn ends_with_cr(s: &[u8]) -> bool
     ensures { result ≡ ends 13 s.now }
 {
-    if s.len() == 0 {
-        return false;
-    }
-    let last = s.len() - 1;
-    s[last] == 13
+    s.ends_with(b"\r")
 }
 
 // LF, or CR LF after a line whose own last byte is CR.

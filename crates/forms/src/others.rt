@@ -6,7 +6,6 @@ ghost use Rattle.forms.specs.Forms.{fields_in, other_text, others_text};
 use crate::field;
 use records::key::MapContext;
 use values::cursor::Cursor;
-use values::field::{FieldRead, Separator};
 use values::sink::Sink;
 use values::{bytes, sink};
 
@@ -23,8 +22,7 @@ fn put_other(
     ensures { Puts given.now out.old at (other_text map name.now (meaning quoted value.now)) result out.new }
 {
     let key = map.key;
-    let version = map.version;
-    let tag = key.tag(version, name);
+    let tag = key.tag(map.version, name);
     if tag.is_known() {
         return at;
     }
@@ -38,17 +36,14 @@ pub fn put_others(out: &mut [u8], given: &[u8], at: Sink, s: &[u8], map: MapCont
 {
     let mut next = at;
     let mut c = Cursor { at: map.start };
-    loop {
-        let from = c.at;
-        let FieldRead::Field(equals, text, past) = c.split_field(s, map.brackets) else {
-            return next;
-        };
-        let name = bytes::part(s, from, equals);
+    while let Some((equals, text, past)) = c.split_field(s, map.brackets) {
+        let name = bytes::part(s, c.at, equals);
         let value = bytes::part(s, text.start, text.end);
         next = put_other(out, given, next, map, name, value, text.quoted);
-        let Separator::Comma(d) = past.consume_separator(s) else {
+        let Some(d) = past.consume_separator(s) else {
             return next;
         };
         c = d;
     }
+    next
 }

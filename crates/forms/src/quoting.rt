@@ -6,7 +6,7 @@ ghost use Rattle.rules.specs.House.{closes};
 ghost use Rattle.forms.specs.Forms.{quotes};
 
 use values::bytes;
-use values::cursor::{ByteRead, Cursor};
+use values::cursor::Cursor;
 
 fn is_stop(b: u8) -> bool
     ensures { result ≡ is_stop b }
@@ -18,7 +18,7 @@ fn begins_with(s: &[u8], quoted: bool, x: u8) -> bool
     ensures { result ≡ begins x (meaning quoted s.now) }
 {
     let start = Cursor { at: 0 };
-    let ByteRead::Byte(b, _) = start.next_unescaped(s, quoted) else {
+    let Some((b, _)) = start.next_unescaped(s, quoted) else {
         return false;
     };
     b == x
@@ -28,15 +28,13 @@ fn has_stop(s: &[u8], quoted: bool) -> bool
     ensures { result ≡ any is_stop (meaning quoted s.now) }
 {
     let mut c = Cursor { at: 0 };
-    loop {
-        let ByteRead::Byte(b, d) = c.next_unescaped(s, quoted) else {
-            return false;
-        };
+    while let Some((b, d)) = c.next_unescaped(s, quoted) {
         if is_stop(b) {
             return true;
         }
         c = d;
     }
+    false
 }
 
 // Whether the first `]` is the last byte.
@@ -44,31 +42,20 @@ fn is_closed(s: &[u8], quoted: bool) -> bool
     ensures { result ≡ closes 93 (meaning quoted s.now) }
 {
     let mut c = Cursor { at: 0 };
-    loop {
-        let ByteRead::Byte(b, d) = c.next_unescaped(s, quoted) else {
-            return false;
-        };
+    while let Some((b, d)) = c.next_unescaped(s, quoted) {
         if b == b']' {
-            let ByteRead::End = d.next_unescaped(s, quoted) else {
-                return false;
-            };
-            return true;
+            return matches!(d.next_unescaped(s, quoted), None);
         }
         c = d;
     }
+    false
 }
 
 // META's Values from 4.3, where it begins `[`.
 fn is_values(key: &[u8], s: &[u8], quoted: bool, meta: bool) -> bool
     ensures { result ≡ (meta && (same key.now (ascii "Values") && begins 91 (meaning quoted s.now))) }
 {
-    if !meta {
-        return false;
-    }
-    if !bytes::same(key, b"Values") {
-        return false;
-    }
-    begins_with(s, quoted, b'[')
+    meta && bytes::same(key, b"Values") && begins_with(s, quoted, b'[')
 }
 
 // `meta`: the map is a META, from 4.3.
@@ -81,8 +68,5 @@ pub fn needs_quotes(key: &[u8], s: &[u8], quoted: bool, meta: bool) -> bool
     if is_values(key, s, quoted, meta) {
         return !is_closed(s, quoted);
     }
-    if begins_with(s, quoted, b'"') {
-        return true;
-    }
-    has_stop(s, quoted)
+    begins_with(s, quoted, b'"') || has_stop(s, quoted)
 }

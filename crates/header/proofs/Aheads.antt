@@ -3,7 +3,7 @@ use Prim.Native.Nat.{ℕ, ◌+◌, ◌-◌, ◌≤◌, ◌<◌}
 use native.Mathlib.Omega.{arith}
 use mathlib.Core.Path.{◌≡◌, refl, sym, ap, subst, ◌∙◌}
 use mathlib.Core.List.{List, [], ◌∷◌}
-use mathlib.Core.Option.{Option}
+use Rattle.std.specs.Prelude.{Option, Result, Ok, Err}
 use lib.Dec.{eqb, ltb}
 use lib.ListN.{length, drop}
 use Rattle.values.specs.Bytes.{Bytes, part}
@@ -18,7 +18,7 @@ use Rattle.rules.proofs.Firsts.{on_ok, was, not_read, see}
 use Rattle.rules.proofs.Sound.{Taken, step_taken}
 use Rattle.rules.proofs.Trace.{Stepped, entered, finished, text_steps}
 use Rattle.records.specs.Records.{ParsesRecord}
-use Rattle.records.specs.declared.record.RecordRead.{RecordRead}
+use Rattle.records.specs.declared.record.Record.{Record}
 use Rattle.records.specs.declared.refusal.Refusal.{Refusal}
 use Rattle.entries.specs.declared.entry.Entry.{Entry as CodeEntry}
 use Rattle.entries.specs.Values.{entry_of}
@@ -34,8 +34,6 @@ use Rattle.header.specs.Steps.{Stage, opening, body, ending, stage_after, step_o
 use Rattle.header.specs.Verdicts.{stage_of, beside_entries, record_beside, IsInBody, MetSays, MeetsRead}
 use Rattle.header.specs.Ahead.{note_entries, note_line, note_lines, LinesNamed, AheadMarked}
 use Rattle.header.specs.declared.phase.Phase.{Phase}
-use Rattle.header.specs.declared.verdict.Met.{Met}
-use Rattle.header.specs.declared.verdict.Met.TheVariants as met
 use Rattle.header.proofs.Steps.{took}
 
 -- beside no entry a new one clashes with nothing
@@ -49,15 +47,15 @@ alone h prefix g e = elim (test (ltb e.kind 7)) [
 -- A line
 
 -- y is what was read of it, and x what that is
-module _ (lim : Limits) (h : Bytes) (v : Version) (start end : ℕ) (ns : List ℕ) {l : Bytes} (el : l ≡ part h start end) {y : RecordRead} (b : ParsesRecord v l y) (x : Met) (a : MeetsRead lim start l y x) where
-  pub line_noted : {e : CodeEntry} {at : ℕ} → x ≡ met.New e at → {ns' : List ℕ} → ns' ≡ note_names h (entry_of e) ns → ns' ≡ note_line lim v h start (part h start end) ns
+module _ (lim : Limits) (h : Bytes) (v : Version) (start end : ℕ) (ns : List ℕ) {l : Bytes} (el : l ≡ part h start end) {y : Result Record Refusal} (b : ParsesRecord v l y) (x : Result (CodeEntry × ℕ) Refusal) (a : MeetsRead lim start l y x) where
+  pub line_noted : {e : CodeEntry} {at : ℕ} → x ≡ Ok (e, at) → {ns' : List ℕ} → ns' ≡ note_names h (entry_of e) ns → ns' ≡ note_line lim v h start (part h start end) ns
   unfolding note_line note_entries
   line_noted {e} w f =
       let n = subst (MetSays lim v start l) w (a.is v b) in
       let i : record_beside lim h [] v start l ≡ ok (body v, entry_of e ∷ []) = sym (n.beside h []) ∙ alone h _ (body v) (entry_of e) in
       f ∙ rw (← el, note_line, i)
 
-  pub line_unnoted : {z : Refusal} → x ≡ met.Refused z → ns ≡ note_line lim v h start (part h start end) ns
+  pub line_unnoted : {z : Refusal} → x ≡ Err z → ns ≡ note_line lim v h start (part h start end) ns
   unfolding note_line
   line_unnoted w = let i = subst (MetSays lim v start l) w (a.is v b) h [] in rw (← el, note_line, i)
 

@@ -3,7 +3,7 @@
 use Prim.Native.Nat.{ℕ, ◌≤◌}
 use mathlib.Core.Path.{◌≡◌, refl, sym, ap, subst, ◌∙◌}
 use mathlib.Core.List.{List}
-use mathlib.Core.Option.{Option, none, some}
+use Rattle.std.specs.Prelude.{Option, None, Some, Ok, Err}
 use lib.ListN.{length}
 use Rattle.values.specs.Bytes.{Bytes}
 use Rattle.values.proofs.Lists.{some_is, none_not}
@@ -25,7 +25,6 @@ use Rattle.entries.specs.Values.{limits_by}
 use Rattle.entries.specs.Tables.{room, first_entries, entries_in}
 use Rattle.entries.proofs.Stored.{entries_stored}
 use Rattle.header.specs.Parsers.{AnswerMeaning, outcome_number, outcome_says, accepted_in, read_into, ReadCall}
-use Rattle.header.specs.declared.parser.Outcome.TheVariants as outcome
 use Rattle.header.specs.declared.parser.ReadAnswer.{ReadAnswer}
 
 -- an accepted reading: the version in force is that of the answer
@@ -35,10 +34,10 @@ pub record Read (r : Reading) (v : Version) (n : ℕ) : Type 0 where
   pub accepted : Accepted v records columns r
   pub samples : length columns.samples ≡ n
 
-was_accepted : (r : Reading) (v : Version) (n : ℕ) → r.number ≡ 0 → accepted_in r.number r.state ≡ some (v, n) → Read r v n
+was_accepted : (r : Reading) (v : Version) (n : ℕ) → r.number ≡ 0 → accepted_in r.number r.state ≡ Some (v, n) → Read r v n
 was_accepted r v n z e = go r.state refl (rw z at e)
   where
-    go : (s : State) → r.state ≡ s → accepted_in 0 s ≡ some (v, n) → Read r v n
+    go : (s : State) → r.state ≡ s → accepted_in 0 s ≡ Some (v, n) → Read r v n
     go empty q a = none_not a
     go (ready w rs) q a = none_not a
     go (done w rs c) q a =
@@ -47,8 +46,8 @@ was_accepted r v n z e = go r.state refl (rw z at e)
 
 -- the version in force is of 32-bit parts, so the imposed one is
 sized_imposed : (imposed : Option Version) (own : Version) {v : Version} → v ≡ in_force imposed own → Sized v → SizedOption imposed
-sized_imposed none own e s = tt
-sized_imposed (some w) own e s = rw e at s
+sized_imposed None own e s = tt
+sized_imposed (Some w) own e s = rw e at s
 
 module _ {form : Form} {imposed : Option Version} {h : Bytes} {t₀ : List ℕ} {a : ReadAnswer} {t : List ℕ} (call : ReadCall form imposed h t₀ a t) where
   abbrev read : Reading
@@ -63,10 +62,10 @@ module _ {form : Form} {imposed : Option Version} {h : Bytes} {t₀ : List ℕ} 
   pub read_entries : a.entries ≡ length read.entries
   read_entries = ap (λ (x : AnswerMeaning). x.entries) call.answer
 
-  pub read_refused : {x : Refusal} → a.outcome ≡ outcome.Refused x → read.number ≡ number x
+  pub read_refused : {x : Refusal} → a.outcome ≡ Err x → read.number ≡ number x
   read_refused o = sym (ap (λ (y : AnswerMeaning). y.number) call.answer) ∙ ap outcome_number o
 
-  module _ {f : FileFormat} {n : ℕ} (o : a.outcome ≡ outcome.Accepted f n) where
+  module _ {f : FileFormat} {n : ℕ} (o : a.outcome ≡ Ok (f, n)) where
     pub read_accepted : read.number ≡ 0
     read_accepted = sym (ap (λ (y : AnswerMeaning). y.number) call.answer) ∙ ap outcome_number o
 

@@ -5,7 +5,7 @@ use native.Mathlib.Omega.{arith}
 use mathlib.Core.Path.{◌≡◌, refl, sym, ap, ◌∙◌}
 use mathlib.Core.Bool.{true}
 use mathlib.Core.List.{List, [], ◌∷◌, ◌++◌}
-use mathlib.Core.Option.{Option, none, some}
+use Rattle.std.specs.Prelude.{Option, None, Some}
 use lib.Dec.{leb, ltb}
 use lib.ListN.{length, take, drop, length-drop}
 use lib.Seq.{take-append-le, drop-append-le}
@@ -145,8 +145,8 @@ ends_by lim imposed room h (p ∷ ps) q i l e = elim (test (ltb q.at (end_of h))
 
 -- up to a later end, after these lines
 abbrev pub on_to : Limits → Option Version → ℕ → Bytes → ℕ → Option ℕ → Point → Went
-on_to lim imposed room h end none q = go_on lim imposed room h end q (pieces (drop q.at h))
-on_to lim imposed room h end (some m) q = record { stop = some m; point = q }
+on_to lim imposed room h end None q = go_on lim imposed room h end q (pieces (drop q.at h))
+on_to lim imposed room h end (Some m) q = record { stop = Some m; point = q }
 
 pub goes_on : (lim : Limits) (imposed : Option Version) (room : ℕ) (h : Bytes) (first end : ℕ) → first ≤ end → (ps : List Bytes) (q : Point) → Inside lim room h q → pieces (drop q.at h) ≡ ps
     → go_on lim imposed room h end q ps ≡ on_to lim imposed room h end (go_on lim imposed room h first q ps).stop (go_on lim imposed room h first q ps).point

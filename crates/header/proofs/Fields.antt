@@ -4,7 +4,7 @@ use native.Mathlib.Omega.{arith}
 use mathlib.Core.Path.{◌≡◌, refl, sym, ap, subst, ◌∙◌}
 use mathlib.Core.Bool.{Bool, true, false, not, ◌&&◌}
 use mathlib.Core.List.{List, []}
-use mathlib.Core.Option.{Option, none, some}
+use Rattle.std.specs.Prelude.{Option, None, Some}
 use lib.ListN.{length, drop, length-append, length-take, length-drop}
 use mir.Syntax.{w64}
 use mir.Val.{Fits}
@@ -22,10 +22,6 @@ use Rattle.rules.proofs.Texts.{Scanned, record_scanned}
 use Rattle.records.specs.Keys.{case_bytes}
 use Rattle.rules.specs.Claims.{key_in}
 use Rattle.records.specs.declared.record.MapRecord.{MapRecord}
-use Rattle.entries.specs.declared.shown.Shown.{Shown}
-use Rattle.entries.specs.declared.shown.Shown.TheVariants.{Part, Refused}
-use Rattle.entries.specs.declared.shown.EntryRead.{EntryRead}
-use Rattle.entries.specs.declared.shown.EntryRead.TheVariants.{Entry, Missing}
 use Rattle.entries.specs.declared.entry.Entry.{Entry as CodeEntry}
 use Rattle.entries.specs.Values.{entry_of, limits_by}
 use Rattle.entries.specs.declared.form.Form.{Form}
@@ -41,26 +37,26 @@ use Rattle.header.specs.Fields.{field_in, FieldAt}
 -- A line
 
 -- a record without fields has none to show
-no_fields : (start i : ℕ) (r : Record) → fields_of r ≡ [] → record_field_part start i (some r) ≡ none
+no_fields : (start i : ℕ) (r : Record) → fields_of r ≡ [] → record_field_part start i (Some r) ≡ None
 unfolding nth_field_part
 no_fields start i (fileformat v) e = refl
 no_fields start i (fields k fs) e = rw e
 no_fields start i (text k t) e = refl
 
-module _ (counted : Bool) (h : Bytes) (v : Version) (e : RuleEntry) (i : ℕ) {x : Alone} (a : ReadsEntry counted v h e x) where
-  told : {y : Alone} → x ≡ y → AloneIs v (line_in h e) (entry_record counted h v e) y
+module _ (counted : Bool) (h : Bytes) (v : Version) (e : RuleEntry) (i : ℕ) {x : Option Alone} (a : ReadsEntry counted v h e x) where
+  told : {y : Option Alone} → x ≡ y → AloneIs v (line_in h e) (entry_record counted h v e) y
   told q = subst (AloneIs v (line_in h e) (entry_record counted h v e)) q a.is
 
-  pub line_refused : x ≡ alone.Refused → Refused ≡ shown_as (field_in counted h v e i)
+  pub line_refused : x ≡ None → None ≡ shown_as (field_in counted h v e i)
   line_refused q = sym (ap (λ (o : Option Record). shown_as (record_field_part 0 i o)) (told q))
 
-  pub line_plain : {n : ℕ} → x ≡ alone.Plain n → Refused ≡ shown_as (field_in counted h v e i)
+  pub line_plain : {n : ℕ} → x ≡ Some (alone.Plain n) → None ≡ shown_as (field_in counted h v e i)
   line_plain q = let t = told q in sym (ap (λ (o : Option Record). shown_as (record_field_part 0 i o)) t.1 ∙ ap shown_as (no_fields 0 i t.0 t.2))
 
-  module _ {m : MapRecord} (q : x ≡ alone.Map m) {l : Bytes} (el : l ≡ line_in h e) where
+  module _ {m : MapRecord} (q : x ≡ Some (alone.Map m)) {l : Bytes} (el : l ≡ line_in h e) where
     -- of the line that the code looks at
-    here : AloneIs v l (entry_record counted h v e) (alone.Map m)
-    here = subst (λ (y : Bytes). AloneIs v y (entry_record counted h v e) (alone.Map m)) (sym el) (told q)
+    here : AloneIs v l (entry_record counted h v e) (Some (alone.Map m))
+    here = subst (λ (y : Bytes). AloneIs v y (entry_record counted h v e) (Some (alone.Map m))) (sym el) (told q)
 
     pub value_fits : length l * 1 < 2 ^ 63 → Fits w64 (m.value + 1)
     value_fits p =
@@ -70,7 +66,7 @@ module _ (counted : Bool) (h : Bytes) (v : Version) (e : RuleEntry) (i : ℕ) {x
         let s = here.2.value in
         record { fits = omega arith }
 
-    pub line_field : {b : Bool} → b ≡ is_meta v (case_bytes m.key) → {r : Shown} → answered r ≡ or_refused (nth_field_part (m.value + 1) (fields_at b l (m.value + 1)) i)
+    pub line_field : {b : Bool} → b ≡ is_meta v (case_bytes m.key) → {r : Option (ℕ × ℕ)} → answered r ≡ or_refused (nth_field_part (m.value + 1) (fields_at b l (m.value + 1)) i)
         → r ≡ shown_as (field_in counted h v e i)
     line_field {b} c f =
         let t = here in
@@ -82,18 +78,18 @@ module _ (counted : Bool) (h : Bytes) (v : Version) (e : RuleEntry) (i : ℕ) {x
         nth_read b l (m.value + 1) i f (always_map (key_in l)) z
         ∙ sym (ap (λ (y : Option Record). shown_as (record_field_part 0 i y)) t.1 ∙ rw (o, ← p))
 
-    pub field_in_line : (r : Shown) → Inside (length l) r → Inside (length (line_in h e)) r
+    pub field_in_line : (r : Option (ℕ × ℕ)) → Inside (length l) r → Inside (length (line_in h e)) r
     field_in_line r t = subst (λ (y : Bytes). Inside (length y) r) el t
 
 pub ruleset line_fields = (line_refused, line_plain, value_fits, line_field, field_in_line, refused_inside)
 
 -- The line in the header
 
-module _ (counted : Bool) (h : Bytes) (v : Version) (e : RuleEntry) (i : ℕ) {y : Shown} (b : y ≡ shown_as (field_in counted h v e i)) where
-  pub part_refused : y ≡ Refused → FieldAt counted h v e i Refused
+module _ (counted : Bool) (h : Bytes) (v : Version) (e : RuleEntry) (i : ℕ) {y : Option (ℕ × ℕ)} (b : y ≡ shown_as (field_in counted h v e i)) where
+  pub part_refused : y ≡ None → FieldAt counted h v e i None
   part_refused q = record { shown = ap (moved_by e.start) (sym q ∙ b); inside = λ z. tt }
 
-  module _ (t : Inside (length (line_in h e)) y) {s f : ℕ} (c : y ≡ Part s f) where
+  module _ (t : Inside (length (line_in h e)) y) {s f : ℕ} (c : y ≡ Some (s, f)) where
     near : (s ≤ f) × (f ≤ length h - e.start)
     unfolding line_in
     near =
@@ -102,7 +98,7 @@ module _ (counted : Bool) (h : Bytes) (v : Version) (e : RuleEntry) (i : ℕ) {y
         let d = length-drop e.start h in
         (p.0, omega (arith, p.1))
 
-    pub part_shown : FieldAt counted h v e i (Part (e.start + s) (e.start + f))
+    pub part_shown : FieldAt counted h v e i (Some (e.start + s, e.start + f))
     part_shown = record {
       shown = ap (moved_by e.start) (sym c ∙ b);
       inside = λ z. let p = near in (omega (arith, p.0), omega (arith, p.1));
@@ -121,26 +117,26 @@ pub ruleset parts = (part_refused, part_shown, start_fits, end_fits)
 
 -- a part of the line, moved to where the line stands
 fields_moved : (start i : ℕ) (o : Option Record) → shown_as (record_field_part start i o) ≡ moved_by start (shown_as (record_field_part 0 i o))
-fields_moved start i none = refl
-fields_moved start i (some (fileformat v)) = refl
-fields_moved start i (some (text k t)) = refl
-fields_moved start i (some (fields k fs)) = let e : 0 + fields_start k ≡ fields_start k = omega arith in rw e (moved_part start (fields_start k) fs i)
+fields_moved start i None = refl
+fields_moved start i (Some (fileformat v)) = refl
+fields_moved start i (Some (text k t)) = refl
+fields_moved start i (Some (fields k fs)) = let e : 0 + fields_start k ≡ fields_start k = omega arith in rw e (moved_part start (fields_start k) fs i)
 
-module _ (form : Form) (h : Bytes) (table : List ℕ) (n : ℕ) (v : Version) (i : ℕ) {r : EntryRead} (a : entry_meant r ≡ entry_at form h table n) where
-  pub field_unshown : r ≡ Missing → answered Refused ≡ or_refused (shown_field form h table n v i)
+module _ (form : Form) (h : Bytes) (table : List ℕ) (n : ℕ) (v : Version) (i : ℕ) {r : Option CodeEntry} (a : entry_meant r ≡ entry_at form h table n) where
+  pub field_unshown : r ≡ None → answered None ≡ or_refused (shown_field form h table n v i)
   field_unshown e = ap (λ (x : Option RuleEntry). or_refused (entry_field_part (limits_by form).counted h v i x)) (sym (ap entry_meant e) ∙ a)
 
-  module _ {x : CodeEntry} (b : r ≡ Entry x) {q : Bool} (d : q ≡ has_id x.kind) where
+  module _ {x : CodeEntry} (b : r ≡ Some x) {q : Bool} (d : q ≡ has_id x.kind) where
     shown_by : {q : Bool} → has_id x.kind ≡ q → shown_as (shown_field form h table n v i)
-        ≡ shown_as (elim q [ true ↦ record_field_part x.start i (entry_record (limits_by form).counted h v (entry_of x)) | false ↦ none ])
+        ≡ shown_as (elim q [ true ↦ record_field_part x.start i (entry_record (limits_by form).counted h v (entry_of x)) | false ↦ None ])
     shown_by e =
         ap (λ (y : Option RuleEntry). shown_as (entry_field_part (limits_by form).counted h v i y)) (sym a ∙ ap entry_meant b)
-        ∙ ap (λ (q : Bool). shown_as (elim q [ true ↦ record_field_part x.start i (entry_record (limits_by form).counted h v (entry_of x)) | false ↦ none ])) e
+        ∙ ap (λ (q : Bool). shown_as (elim q [ true ↦ record_field_part x.start i (entry_record (limits_by form).counted h v (entry_of x)) | false ↦ None ])) e
 
-    pub field_not_due : not q ≡ true → answered Refused ≡ or_refused (shown_field form h table n v i)
+    pub field_not_due : not q ≡ true → answered None ≡ or_refused (shown_field form h table n v i)
     field_not_due e = answer_says (shown_field form h table n v i) (sym (shown_by (sym d ∙ not_true q e)))
 
-    module _ (on : not q ≡ false) {y : Shown} (o : FieldAt (limits_by form).counted h v (entry_of x) i y) where
+    module _ (on : not q ≡ false) {y : Option (ℕ × ℕ)} (o : FieldAt (limits_by form).counted h v (entry_of x) i y) where
       pub field_shown : answered y ≡ or_refused (shown_field form h table n v i)
       field_shown =
           answer_says (shown_field form h table n v i)

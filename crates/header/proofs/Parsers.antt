@@ -5,7 +5,7 @@ use native.Mathlib.Omega.{arith}
 use mathlib.Core.Path.{◌≡◌, refl, sym, ap, ap₂, subst, ◌∙◌}
 use mathlib.Core.Bool.{Bool, true, false, not}
 use mathlib.Core.List.{List, [], ◌∷◌, ◌++◌, append_assoc, append-nil}
-use mathlib.Core.Option.{Option, none, some}
+use Rattle.std.specs.Prelude.{Option, None, Some, Result, Ok, Err}
 use lib.Dec.{leb, ltb}
 use lib.ListN.{length, take, drop, length-append, length-drop, drop_of_length-le}
 use lib.Seq.{take_all, drop-drop, drop-append-add}
@@ -55,13 +55,8 @@ use Rattle.header.specs.declared.phase.Phase.{Phase}
 use Rattle.header.specs.declared.phase.Phase.TheVariants as phase
 use Rattle.header.specs.declared.verdict.Verdict.{Verdict}
 use Rattle.header.specs.declared.verdict.Verdict.TheVariants as verdict
-use Rattle.header.specs.declared.parser.Outcome.TheVariants as outcome
 use Rattle.header.specs.declared.parser.ReadAnswer.{ReadAnswer}
 use Rattle.header.specs.declared.parser.Parser.{Parser}
-use Rattle.header.specs.declared.parser.Partial.{Partial}
-use Rattle.header.specs.declared.parser.Partial.TheVariants as partial
-use Rattle.header.specs.declared.parser.Advance.{Advance}
-use Rattle.header.specs.declared.parser.Advance.TheVariants as advance
 use Rattle.header.proofs.Steps.{Fit, fit, fitting, took_stand, piece_some, go_past, go_refused, go_full, go_more, go_none, Further, goes_inside}
 use Rattle.header.proofs.Whole.{Tells, whole}
 use Rattle.rules.specs.Claims.{All}
@@ -112,30 +107,30 @@ module _ (form : Form) (p : Parser) (h : Bytes) (end next : ℕ) (t : List ℕ) 
   abbrev l : Bytes
   l = part h p.at end
 
-  abbrev Keeps : Verdict → Partial → List ℕ → Type 0
+  abbrev Keeps : Result Verdict Refusal → Result Parser Refusal → List ℕ → Type 0
   Keeps v r t' = KeepsLine form p h end next v t r t'
 
-  abbrev SaysHere : Bytes → Answer (Stage × List Entry) → Verdict → Type 0
+  abbrev SaysHere : Bytes → Answer (Stage × List Entry) → Result Verdict Refusal → Type 0
   SaysHere ms a x = Says (limits_by form) h ms a p.at (stage_of p.phase) l x
 
-  stays : (ms : Bytes) {a : Answer (Stage × List Entry)} (x : Refusal) → a ≡ refuse (number x) → Stepped form h ms p next a t (partial.Refused x) t
+  stays : (ms : Bytes) {a : Answer (Stage × List Entry)} (x : Refusal) → a ≡ refuse (number x) → Stepped form h ms p next a t (Err x) t
   stays ms x e = rw e (record { told = refl; table = refl; marked = tt })
 
   module _ (ms : Bytes) {a : Answer (Stage × List Entry)} {q : Stage × List Entry} (e : a ≡ ok q) (m : All (Marked h ms) q.1) {t' : List ℕ} where
-    full : room form t < p.count + length q.1 → t' ≡ t → Stepped form h ms p next a t (partial.Refused TableFull) t'
+    full : room form t < p.count + length q.1 → t' ≡ t → Stepped form h ms p next a t (Err TableFull) t'
     full f w = let b = lt-leb (p.count + length q.1) (room form t) f in rw e (record { told = sym (spot_full form (spot_in p) next t q b); table = w ∙ sym (table_full form (spot_in p) next t q b); marked = m })
 
     taken : p.count + length q.1 ≤ room form t → t' ≡ stored form t p.count q.1 → (x : Phase) → stage_of x ≡ q.0 → {n : ℕ} → n ≡ p.count + length q.1
-        → Stepped form h ms p next a t (partial.Next (record { phase = x; line = p.line + 1; at = next; count = n })) t'
+        → Stepped form h ms p next a t (Ok (record { phase = x; line = p.line + 1; at = next; count = n })) t'
     taken f w x g c =
         let b = le-leb (p.count + length q.1) (room form t) f in
         rw e (record { told = rw (g, c) (sym (spot_more form (spot_in p) next t q b)); table = w ∙ sym (table_more form (spot_in p) next t q b); marked = m })
 
-  pub keep_refused : (v : Verdict) {x : Refusal} → v ≡ verdict.Refused x → Keeps v (partial.Refused x) t
+  pub keep_refused : (v : Result Verdict Refusal) {x : Refusal} → v ≡ Err x → Keeps v (Err x) t
   keep_refused v {x} e = record { is = λ ms a s. stays ms x (subst (SaysHere ms a) e s) }
 
   -- as the part of the code for this kind of line keeps it
-  pub keep_by : (v : Verdict) {w : Verdict} → v ≡ w → {r : Partial} {t' : List ℕ} → Keeps w r t' → Keeps v r t'
+  pub keep_by : (v : Result Verdict Refusal) {w : Result Verdict Refusal} → v ≡ w → {r : Result Parser Refusal} {t' : List ℕ} → Keeps w r t' → Keeps v r t'
   keep_by v e {r} {t'} k = rw e k
 
   module _ (f : FileFormat) {s : Bytes} (es : s ≡ l) {n : ℕ} (en : n ≡ if_counted (limits_by form).counted 10)
@@ -147,25 +142,25 @@ module _ (form : Form) (p : Parser) (h : Bytes) (end next : ℕ) (t : List ℕ) 
     own_is : entry_of y ≡ own
     own_is = ey ∙ ap₂ (λ (k : ℕ) (x : Bytes). with_counts (record { key_length = k; field_count = 0 }) (plain_entry format_kind p.at (length x))) en es
 
-    pub begin_full : not q ≡ true → Keeps (verdict.Begin f) (partial.Refused TableFull) t'
+    pub begin_full : not q ≡ true → Keeps (Ok (verdict.Begin f)) (Err TableFull) t'
     begin_full d = record {
       is = λ ms z s. full ms s (unmarked h ms own (omega arith), tt) (omega (arith, no_room form t p.count (entry_of y) a b d)) (not_put form t p.count (entry_of y) a b d);
     }
 
-    pub begin_kept : not q ≡ false → Keeps (verdict.Begin f) (partial.Next (record { phase = phase.Ready f; line = p.line + 1; at = next; count = p.count + 1 })) t'
+    pub begin_kept : not q ≡ false → Keeps (Ok (verdict.Begin f)) (Ok (record { phase = phase.Ready f; line = p.line + 1; at = next; count = p.count + 1 })) t'
     begin_kept d = record {
       is = λ ms z s. taken ms s (unmarked h ms own (omega arith), tt) (omega (arith, some_room form t p.count (entry_of y) a b d))
           (was_put form t p.count (entry_of y) a b d ∙ ap (λ (x : Entry). stored form t p.count (x ∷ [])) own_is) (phase.Ready f) refl refl;
     }
 
-  module _ (v : Verdict) {y : CodeEntry} (e : v ≡ verdict.Entry y) {q : Bool} (a : q ≡ ltb p.count (room form t)) {t' : List ℕ} (b : t' ≡ put form t p.count (entry_of y)) where
-    pub entry_full : not q ≡ true → Keeps v (partial.Refused TableFull) t'
+  module _ (v : Result Verdict Refusal) {y : CodeEntry} (e : v ≡ Ok (verdict.Entry y)) {q : Bool} (a : q ≡ ltb p.count (room form t)) {t' : List ℕ} (b : t' ≡ put form t p.count (entry_of y)) where
+    pub entry_full : not q ≡ true → Keeps v (Err TableFull) t'
     entry_full d = record {
       is = λ ms z s. let w = subst (SaysHere ms z) e s in
           full ms w.0 (w.1, tt) (omega (arith, no_room form t p.count (entry_of y) a b d)) (not_put form t p.count (entry_of y) a b d);
     }
 
-    pub entry_kept : not q ≡ false → Keeps v (partial.Next (record { phase = p.phase; line = p.line + 1; at = next; count = p.count + 1 })) t'
+    pub entry_kept : not q ≡ false → Keeps v (Ok (record { phase = p.phase; line = p.line + 1; at = next; count = p.count + 1 })) t'
     entry_kept d = record {
       is = λ ms z s. let w = subst (SaysHere ms z) e s in
           taken ms w.0 (w.1, tt) (omega (arith, some_room form t p.count (entry_of y) a b d)) (was_put form t p.count (entry_of y) a b d) p.phase refl refl;
@@ -175,14 +170,14 @@ module _ (form : Form) (p : Parser) (h : Bytes) (end next : ℕ) (t : List ℕ) 
     entries_of : {z : Answer (Stage × List Entry)} (g : Ended z p.at l f n) → length (column_entries p.at l g.c) ≡ 1 + n
     entries_of g = columns_room p.at l g.c ∙ ap (1 +◌) g.count
 
-    pub columns_full : m - p.count ≤ n → p.count ≤ room form t → Keeps (verdict.Columns f n) (partial.Refused TableFull) t
+    pub columns_full : m - p.count ≤ n → p.count ≤ room form t → Keeps (Ok (verdict.Columns f n)) (Err TableFull) t
     columns_full d bound = record {
       is = λ ms z g.
           full ms g.ends (columns_marked h ms p.at l g.c) (omega (arith, entries_of g)) refl;
     }
 
     pub columns_kept : n < m - p.count → {t' : List ℕ} → t' ≡ columns_put form l p.at p.count t
-        → Keeps (verdict.Columns f n) (partial.Next (record { phase = phase.Done f n; line = p.line + 1; at = next; count = p.count + 1 + n })) t'
+        → Keeps (Ok (verdict.Columns f n)) (Ok (record { phase = phase.Done f n; line = p.line + 1; at = next; count = p.count + 1 + n })) t'
     columns_kept d c = record {
       is = λ ms z g. let j = entries_of g in
           taken ms g.ends (columns_marked h ms p.at l g.c) (omega (arith, j)) (c ∙ columns_put_lem form l p.at g.c g.read p.count t (omega (arith, j)))
@@ -198,7 +193,7 @@ pub ruleset keeps = (keep_refused, keep_by, entry_full, entry_kept)
 -- One line: found, judged, kept
 
 module _ (form : Form) (imposed : Option Version) (plain : Bool) (p : Parser) (h ms t : List ℕ) {line : Line} (a : LineIs h p.at line) {kept : List ℕ} (ek : kept ≡ first_entries form t p.count)
-    {v : Verdict} {ms' : Bytes} (d : LineJudged (limits_by form) h (entries_in form kept) ms plain p.at line.end p.phase imposed v ms') (r : Partial) (t' : List ℕ) (e : KeepsLine form p h line.end line.next v t r t') where
+    {v : Result Verdict Refusal} {ms' : Bytes} (d : LineJudged (limits_by form) h (entries_in form kept) ms plain p.at line.end p.phase imposed v ms') (r : Result Parser Refusal) (t' : List ℕ) (e : KeepsLine form p h line.end line.next v t r t') where
   pub line_parsed : Parses form imposed plain p h ms t r ms' t'
   line_parsed = record {
     marks = d.marks;
@@ -217,13 +212,13 @@ module _ (form : Form) (imposed : Option Version) (plain : Bool) (p : Parser) (h
 -- The end
 
 module _ (p : Parser) where
-  pub finish_empty : p.phase ≡ phase.Empty → answer_means (record { outcome = outcome.Refused Empty; line = 0; start = 0; entries = p.count }) ≡ ended_at (spot_in p)
+  pub finish_empty : p.phase ≡ phase.Empty → answer_means (record { outcome = Err Empty; line = 0; start = 0; entries = p.count }) ≡ ended_at (spot_in p)
   finish_empty e = rw e
 
-  pub finish_ready : {f : FileFormat} → p.phase ≡ phase.Ready f → answer_means (record { outcome = outcome.Refused MissingHeader; line = p.line; start = p.at; entries = p.count }) ≡ ended_at (spot_in p)
+  pub finish_ready : {f : FileFormat} → p.phase ≡ phase.Ready f → answer_means (record { outcome = Err MissingHeader; line = p.line; start = p.at; entries = p.count }) ≡ ended_at (spot_in p)
   finish_ready e = rw e
 
-  pub finish_done : {f : FileFormat} {n : ℕ} → p.phase ≡ phase.Done f n → answer_means (record { outcome = outcome.Accepted f n; line = p.line; start = p.at; entries = p.count }) ≡ ended_at (spot_in p)
+  pub finish_done : {f : FileFormat} {n : ℕ} → p.phase ≡ phase.Done f n → answer_means (record { outcome = Ok (f, n); line = p.line; start = p.at; entries = p.count }) ≡ ended_at (spot_in p)
   finish_done e = rw e
 
 pub ruleset finishes = (finish_empty, finish_ready, finish_done)
@@ -338,7 +333,7 @@ module _ (form : Form) (imposed : Option Version) (plain : Bool) (h : Bytes) (en
     here_count = spot_count form t p.count g.fit_here.count
 
     -- where reading ends: the point is here
-    ended : (n : Option ℕ) → went_on form imposed h end t₀ s₀ ≡ record { stop = n; point = here } → {r : Advance} → advance_means r ≡ record { stop = n; spot = spot_in p } → ReadsOn form imposed h end t₀ s₀ r t
+    ended : (n : Option ℕ) → went_on form imposed h end t₀ s₀ ≡ record { stop = n; point = here } → {r : Result Parser (Parser × Refusal)} → advance_means r ≡ record { stop = n; spot = spot_in p } → ReadsOn form imposed h end t₀ s₀ r t
     unfolding read_on table_on
     ended n w m =
         let f = fitting form (length h) t₀ s₀ g.began in
@@ -348,15 +343,15 @@ module _ (form : Form) (imposed : Option Version) (plain : Bool) (h : Bytes) (en
           table = rw (table_on, f, w) (g.stored_are ∙ ap (stored form t₀ s₀.count) (sym (ap (drop s₀.count) g.entries_are ∙ drop_front (point_of form t₀ s₀).entries g.new s₀.count c)));
         }
 
-    pub going_past : length h ≤ p.at → ReadsOn form imposed h end t₀ s₀ (advance.Ended p) t
+    pub going_past : length h ≤ p.at → ReadsOn form imposed h end t₀ s₀ (Ok p) t
     going_past e =
-        ended none (g.rest ∙ ap (go_on (limits_by form) imposed (room form t₀) h end here) (pieces_past h p.at e) ∙ go_none (limits_by form) imposed (room form t₀) h end here) refl
+        ended None (g.rest ∙ ap (go_on (limits_by form) imposed (room form t₀) h end here) (pieces_past h p.at e) ∙ go_none (limits_by form) imposed (room form t₀) h end here) refl
 
-    pub going_end : end ≤ p.at → ReadsOn form imposed h end t₀ s₀ (advance.Ended p) t
-    going_end e = ended none (g.rest ∙ go_past (limits_by form) imposed (room form t₀) h end here (pieces (drop p.at h)) e) refl
+    pub going_end : end ≤ p.at → ReadsOn form imposed h end t₀ s₀ (Ok p) t
+    going_end e = ended None (g.rest ∙ go_past (limits_by form) imposed (room form t₀) h end here (pieces (drop p.at h)) e) refl
 
     -- a line at hand
-    module _ (m : p.at < end) (i : p.at < length h) (r : Partial) (ms' t' : List ℕ) (f : Parses form imposed plain p h ms t r ms' t') where
+    module _ (m : p.at < end) (i : p.at < length h) (r : Result Parser Refusal) (ms' t' : List ℕ) (f : Parses form imposed plain p h ms t r ms' t') where
       abbrev piece : Bytes
       piece = (pieces_there h p.at i).piece
 
@@ -381,7 +376,7 @@ module _ (form : Form) (imposed : Option Version) (plain : Bool) (h : Bytes) (en
       before : ltb p.at end ≡ true
       before = lt-ltb p.at end m
 
-      told_as_lem : {x : Partial} → r ≡ x → {a : Answer (Stage × List Entry)} → answer ≡ a → partial_means x ≡ spot_after (room form t) (spot_in p) (p.at + length piece) a
+      told_as_lem : {x : Result Parser Refusal} → r ≡ x → {a : Answer (Stage × List Entry)} → answer ≡ a → partial_means x ≡ spot_after (room form t) (spot_in p) (p.at + length piece) a
       told_as_lem e w = ap partial_means (sym e) ∙ step.told ∙ ap (spot_after (room form t) (spot_in p) (p.at + length piece)) w
 
       table_as : {a : Answer (Stage × List Entry)} → answer ≡ a → t' ≡ table_after form t p.count a
@@ -391,7 +386,7 @@ module _ (form : Form) (imposed : Option Version) (plain : Bool) (h : Bytes) (en
       room_here x e = rw (here_count, ← same_room) e
 
       -- refused
-      stopped : {x : Refusal} → r ≡ partial.Refused x → (went_on form imposed h end t₀ s₀ ≡ record { stop = some (number x); point = here }) × (t' ≡ t)
+      stopped : {x : Refusal} → r ≡ Err x → (went_on form imposed h end t₀ s₀ ≡ record { stop = Some (number x); point = here }) × (t' ≡ t)
       stopped {x} e = elim (see answer) [
         | not_read n a ↦
             let c : number x ≡ n = refuse_is (told_as_lem e a) in
@@ -404,10 +399,10 @@ module _ (form : Form) (imposed : Option Version) (plain : Bool) (h : Bytes) (en
         ]
       ]
 
-      pub going_stop : {x : Refusal} → r ≡ partial.Refused x → ReadsOn form imposed h end t₀ s₀ (advance.Stopped p x) t'
-      going_stop {x} e = let s = stopped e in subst (ReadsOn form imposed h end t₀ s₀ (advance.Stopped p x)) (sym s.1) (ended (some (number x)) s.0 refl)
+      pub going_stop : {x : Refusal} → r ≡ Err x → ReadsOn form imposed h end t₀ s₀ (Err (p, x)) t'
+      going_stop {x} e = let s = stopped e in subst (ReadsOn form imposed h end t₀ s₀ (Err (p, x))) (sym s.1) (ended (Some (number x)) s.0 refl)
 
-      pub stop_length : {x : Refusal} → r ≡ partial.Refused x → length t' ≡ length t₀
+      pub stop_length : {x : Refusal} → r ≡ Err x → length t' ≡ length t₀
       stop_length e = ap length (stopped e).1 ∙ kept_length
 
       -- kept
@@ -418,7 +413,7 @@ module _ (form : Form) (imposed : Option Version) (plain : Bool) (h : Bytes) (en
         pub spot : spot_in q ≡ record { stage = x.0; line = p.line + 1; at = p.at + length piece; count = p.count + length x.1 }
         pub table : t' ≡ stored form t p.count x.1
 
-      kept : {q : Parser} → r ≡ partial.Next q → Kept q
+      kept : {q : Parser} → r ≡ Ok q → Kept q
       kept {q} e = elim (see answer) [
         | not_read n a ↦ refuse_not (sym (told_as_lem e a))
         | was y a ↦ elim (test (leb (p.count + length y.1) (room form t))) [
@@ -433,7 +428,7 @@ module _ (form : Form) (imposed : Option Version) (plain : Bool) (h : Bytes) (en
         ]
       ]
 
-      module _ {q : Parser} (e : r ≡ partial.Next q) where
+      module _ {q : Parser} (e : r ≡ Ok q) where
         abbrev k : Kept q
         k = kept e
 
@@ -463,7 +458,7 @@ module _ (form : Form) (imposed : Option Version) (plain : Bool) (h : Bytes) (en
         pub going_next : length ms' ≡ length ms → Going ms₀ ms' t' q
         going_next n =
             let line = first_line h p.at piece after g.fit_here.at there in
-            let some = piece_some (drop p.at h) piece after there in
+            let Some = piece_some (drop p.at h) piece after there in
             let c : q.count ≡ p.count + length k.x.1 = ap (λ (s : Spot). s.count) k.spot in
             let ln : q.line ≡ p.line + 1 = ap (λ (s : Spot). s.line) k.spot in
             let es : (point_of form t' (spot_in q)).entries ≡ here.entries ++ k.x.1 = ap (λ (y : Point). y.entries) next_point in
@@ -477,7 +472,7 @@ module _ (form : Form) (imposed : Option Version) (plain : Bool) (h : Bytes) (en
                 header = g.fit_here.header;
                 count = rw (same_room', c) (leb-true _ (room form t) k.roomy);
                 at = rw moved line.next;
-                line = omega (arith, ln, moved, some, g.fit_here.line);
+                line = omega (arith, ln, moved, Some, g.fit_here.line);
               };
               marked = record {
                 notes = g.marked.notes;
@@ -496,8 +491,8 @@ module _ (form : Form) (imposed : Option Version) (plain : Bool) (h : Bytes) (en
         pub going_less : length h - q.at < length h - p.at
         going_less =
             let line = first_line h p.at piece after g.fit_here.at there in
-            let some = piece_some (drop p.at h) piece after there in
-            omega (arith, moved, some, line.next)
+            let Some = piece_some (drop p.at h) piece after there in
+            omega (arith, moved, Some, line.next)
 
 pub ruleset goings = (going_start, kept_length, marks_length, kept_bounds, going_past, going_end, going_stop, stop_length, going_next, going_less)
 
@@ -517,7 +512,7 @@ module _ (form : Form) (plain : Bool) (h t : List ℕ) (s : Spot) (b : Begins fo
 
 module _ (form : Form) (h : Bytes) (t : List ℕ) (p : Parser) where
   module _ {q : Bool} (a : q ≡ fits form (length h) t (spot_in p)) where
-    pub on_unfit : (imposed : Option Version) (end : ℕ) → not q ≡ true → ReadsOn form imposed h end t (spot_in p) (advance.Ended p) t
+    pub on_unfit : (imposed : Option Version) (end : ℕ) → not q ≡ true → ReadsOn form imposed h end t (spot_in p) (Ok p) t
     unfolding read_on table_on
     on_unfit imposed end e = let f : fits form (length h) t (spot_in p) ≡ false = sym a ∙ not_true q e in record { told = rw (read_on, f); table = rw (table_on, f) }
 
@@ -542,18 +537,18 @@ table_length form imposed h end t s = elim (test (fits form (length h) t s)) [
   | fail f ↦ rw (table_on, f)
 ]
 
-pub on_length : {form : Form} {imposed : Option Version} {h : Bytes} {end : ℕ} {t : List ℕ} {s : Spot} {r : Advance} {t' : List ℕ} → ReadsOn form imposed h end t s r t' → length t' ≡ length t
+pub on_length : {form : Form} {imposed : Option Version} {h : Bytes} {end : ℕ} {t : List ℕ} {s : Spot} {r : Result Parser (Parser × Refusal)} {t' : List ℕ} → ReadsOn form imposed h end t s r t' → length t' ≡ length t
 on_length {form} {imposed} {h} {end} {t} {s} c = ap length c.table ∙ table_length form imposed h end t s
 
 -- nothing begins before an end that is not after the spot
-pub on_out : (form : Form) (imposed : Option Version) (h : Bytes) (end : ℕ) (t : List ℕ) (p : Parser) → end ≤ p.at → ReadsOn form imposed h end t (spot_in p) (advance.Ended p) t
+pub on_out : (form : Form) (imposed : Option Version) (h : Bytes) (end : ℕ) (t : List ℕ) (p : Parser) → end ≤ p.at → ReadsOn form imposed h end t (spot_in p) (Ok p) t
 unfolding read_on table_on
 on_out form imposed h end t p l = elim (test (fits form (length h) t (spot_in p))) [
   | fail f ↦ record { told = rw (read_on, f); table = rw (table_on, f) }
   | pass f ↦
       let here = point_of form t (spot_in p) in
       let n = spot_count form t p.count (fit form (length h) t (spot_in p) f).count in
-      let w : went_on form imposed h end t (spot_in p) ≡ record { stop = none; point = here } = go_past (limits_by form) imposed (room form t) h end here (pieces (drop p.at h)) l in
+      let w : went_on form imposed h end t (spot_in p) ≡ record { stop = None; point = here } = go_past (limits_by form) imposed (room form t) h end here (pieces (drop p.at h)) l in
       let none-new : drop p.count here.entries ≡ [] = drop_of_length-le here.entries {i = p.count} (rw n (omega arith)) in
       record { told = rw (read_on, f, w, n); table = rw (table_on, f, w, none-new) (sym (stored_none form t p.count)) }
 ]
@@ -569,8 +564,8 @@ went_inside form imposed h end t s f =
     goes_inside (limits_by form) imposed (room form t) h end (point_of form t s) (pieces (drop s.at h)) (record { at = f.at; line = f.line; roomy = rw (spot_count form t s.count f.count) f.count }) refl
 
 -- so a line that was refused has a number
-pub on_lines : {form : Form} {imposed : Option Version} {h : Bytes} {end : ℕ} {t : List ℕ} {s : Spot} {r : Advance} {t' : List ℕ} → ReadsOn form imposed h end t s r t'
-    → {p : Parser} {x : Refusal} → r ≡ advance.Stopped p x → p.line + 1 < 2 ^ 64
+pub on_lines : {form : Form} {imposed : Option Version} {h : Bytes} {end : ℕ} {t : List ℕ} {s : Spot} {r : Result Parser (Parser × Refusal)} {t' : List ℕ} → ReadsOn form imposed h end t s r t'
+    → {p : Parser} {x : Refusal} → r ≡ Err (p, x) → p.line + 1 < 2 ^ 64
 unfolding read_on
 on_lines {form} {imposed} {h} {end} {t} {s} {r} c {p} {x} i = elim (test (fits form (length h) t s)) [
   | pass e ↦
@@ -580,7 +575,7 @@ on_lines {form} {imposed} {h} {end} {t} {s} {r} c {p} {x} i = elim (test (fits f
       let l : p.line ≡ (went_on form imposed h end t s).point.line = ap (λ (y : Told). y.spot.line) (sym (ap advance_means i) ∙ c.told ∙ q) in
       omega (arith, l, g.inside.line, g.inside.at, f.header, header_small form)
   | fail e ↦
-      let q : read_on form imposed h end t s ≡ record { stop = none; spot = s } = rw (read_on, e) in
+      let q : read_on form imposed h end t s ≡ record { stop = None; spot = s } = rw (read_on, e) in
       none_not (sym (ap (λ (y : Told). y.stop) (sym (ap advance_means i) ∙ c.told ∙ q)))
 ]
 
@@ -599,7 +594,7 @@ module _ (form : Form) (imposed : Option Version) (h t₀ : List ℕ) {given : C
   pub read_long : given.header < length h → {r : ReadAnswer} → r ≡ refused_as HeaderTooLong 0 0 0 → ReadCall form imposed h t₀ r t₀
   read_long e f = let z = too_long (rw (← given_header) e) in record { answer = rw (f, z); table = rw z (sym (stored_none form t₀ 0)) }
 
-  module _ (e : length h ≤ given.header) {s₀ : Spot} (start : s₀ ≡ start_spot) {r : Advance} {t : List ℕ} (c : ReadsOn form imposed h (length h) t₀ s₀ r t) where
+  module _ (e : length h ≤ given.header) {s₀ : Spot} (start : s₀ ≡ start_spot) {r : Result Parser (Parser × Refusal)} {t : List ℕ} (c : ReadsOn form imposed h (length h) t₀ s₀ r t) where
     abbrev went : Went
     went = go_on (limits_by form) imposed (room form t₀) h (length h) start_point (pieces h)
 
@@ -627,14 +622,14 @@ module _ (form : Form) (imposed : Option Version) (h t₀ : List ℕ) {given : C
     done : {a : ReadAnswer} → answer_means a ≡ closed_at (advance_means r) → ReadCall form imposed h t₀ a t
     done f = record { answer = f ∙ ap closed_at told_all ∙ sym tells.answer; table = table_all ∙ ap (stored form t₀ 0) (sym tells.entries) }
 
-    pub read_ended : {p : Parser} → r ≡ advance.Ended p → {a : ReadAnswer} → answer_means a ≡ ended_at (spot_in p) → ReadCall form imposed h t₀ a t
-    read_ended i f = done (f ∙ sym (ap (λ (y : Advance). closed_at (advance_means y)) i))
+    pub read_ended : {p : Parser} → r ≡ Ok p → {a : ReadAnswer} → answer_means a ≡ ended_at (spot_in p) → ReadCall form imposed h t₀ a t
+    read_ended i f = done (f ∙ sym (ap (λ (y : Result Parser (Parser × Refusal)). closed_at (advance_means y)) i))
 
-    module _ {p : Parser} {x : Refusal} (i : r ≡ advance.Stopped p x) where
+    module _ {p : Parser} {x : Refusal} (i : r ≡ Err (p, x)) where
       pub read_stopped : {a : ReadAnswer} → a ≡ refused_as x (p.line + 1) p.at p.count → ReadCall form imposed h t₀ a t
       read_stopped f =
           let n : p.line + 1 ≡ suc p.line = omega arith in
           let m : answer_means (refused_as x (p.line + 1) p.at p.count) ≡ refused_at (number x) (spot_in p) = rw n in
-          done (ap answer_means f ∙ m ∙ sym (ap (λ (y : Advance). closed_at (advance_means y)) i))
+          done (ap answer_means f ∙ m ∙ sym (ap (λ (y : Result Parser (Parser × Refusal)). closed_at (advance_means y)) i))
 
 pub ruleset reads = (read_long, read_ended, read_stopped, on_lines, on_length)

@@ -5,7 +5,7 @@ use native.Mathlib.Omega.{arith}
 use mathlib.Core.Path.{◌≡◌, refl, sym, ap, ap₂, subst, ◌∙◌}
 use mathlib.Core.Bool.{Bool, true, false, ◌&&◌}
 use mathlib.Core.List.{List, ◌++◌, append_assoc}
-use mathlib.Core.Option.{Option, none, some}
+use Rattle.std.specs.Prelude.{Option, None, Some, Result, Ok, Err}
 use lib.ListN.{length, take, drop, length-append, length-take, take-append-drop}
 use Rattle.values.specs.Bytes.{Bytes}
 use Rattle.values.proofs.Tests.{pass, fail, test, and_l, and_r}
@@ -31,8 +31,6 @@ use Rattle.header.specs.Steps.{Point, Went, go_on, Spot, Told, fits, point_of, s
 use Rattle.header.specs.Parsers.{spot_in, advance_means, ReadsOn}
 use Rattle.header.specs.Parts.{BeginsParts, MayPart}
 use Rattle.header.specs.declared.parser.Parser.{Parser}
-use Rattle.header.specs.declared.parser.Advance.{Advance}
-use Rattle.header.specs.declared.parser.Advance.TheVariants as advance
 use Rattle.header.proofs.Steps.{Fit, fit, fitting, Inside, Further, goes_inside}
 use Rattle.header.proofs.Parsers.{spot_count, drop_front, went_inside, on_inside, on_length}
 use Rattle.header.proofs.Extends.{all_formed_lem, extends, on_to, goes_on}
@@ -113,7 +111,7 @@ module _ (form : Form) (imposed : Option Version) (h : Bytes) (end : ℕ) (t₀ 
     parting_fits = fitting form (length h) t s (fits_at (length h) (omega (arith, g.ahead, g.inside)) (omega arith))
 
     -- the rest
-    pub parting_end : {r : Advance} {t' : List ℕ} → ReadsOn form imposed h end t s r t' → ReadsOn form imposed h end t₀ s₀ r t'
+    pub parting_end : {r : Result Parser (Parser × Refusal)} {t' : List ℕ} → ReadsOn form imposed h end t s r t' → ReadsOn form imposed h end t₀ s₀ r t'
     parting_end c = record { told = c.told ∙ g.told; table = c.table ∙ g.table }
 
     -- no line ends there
@@ -185,7 +183,7 @@ module _ (form : Form) (imposed : Option Version) (h : Bytes) (end : ℕ) (t₀ 
       fits_whole : fits form (length h) t s ≡ true
       fits_whole = parting_fits
 
-      module _ {r : Advance} {t' : List ℕ} (c : ReadsOn form imposed part cut t s r t') where
+      module _ {r : Result Parser (Parser × Refusal)} {t' : List ℕ} (c : ReadsOn form imposed part cut t s r t') where
         told_went : advance_means r ≡ told_by went
         unfolding read_on
         told_went = c.told ∙ rw (read_on, part_fits_lem)
@@ -195,25 +193,25 @@ module _ (form : Form) (imposed : Option Version) (h : Bytes) (end : ℕ) (t₀ 
         table_went = c.table ∙ rw (table_on, part_fits_lem, new_are)
 
         -- a line was refused
-        parting_stop : {p : Parser} {x : Refusal} → r ≡ advance.Stopped p x → ReadsOn form imposed h end t₀ s₀ r t'
+        parting_stop : {p : Parser} {x : Refusal} → r ≡ Err (p, x) → ReadsOn form imposed h end t₀ s₀ r t'
         unfolding read_on table_on
         parting_stop {p} {x} e =
-            let stopped : went.stop ≡ some (number x) = sym (ap (λ (y : Told). y.stop) (sym (ap advance_means e) ∙ told_went)) in
+            let stopped : went.stop ≡ Some (number x) = sym (ap (λ (y : Told). y.stop) (sym (ap advance_means e) ∙ told_went)) in
             let all : went_on form imposed h end t s ≡ went = goes ∙ stays went.stop went.point stopped in
             record {
               told = told_went ∙ rw (← all) (sym (rw (read_on, fits_whole))) ∙ g.told;
               table = table_went ∙ rw (← new_are, ← all) (sym (rw (table_on, fits_whole))) ∙ g.table;
             }
           where
-            stays : (o : Option ℕ) (q : Point) {n : ℕ} → o ≡ some n → on_to lim imposed size h end o q ≡ record { stop = o; point = q }
+            stays : (o : Option ℕ) (q : Point) {n : ℕ} → o ≡ Some n → on_to lim imposed size h end o q ≡ record { stop = o; point = q }
             stays o q f = rw f
 
         -- all were kept
-        module _ {p : Parser} (e : r ≡ advance.Ended p) where
+        module _ {p : Parser} (e : r ≡ Ok p) where
           spot_is : spot_in p ≡ spot_of went.point
           spot_is = ap (λ (y : Told). y.spot) (sym (ap advance_means e) ∙ told_went)
 
-          unstopped : went.stop ≡ none
+          unstopped : went.stop ≡ None
           unstopped = sym (ap (λ (y : Told). y.stop) (sym (ap advance_means e) ∙ told_went))
 
           counted : p.count ≡ s.count + length further.new
@@ -318,11 +316,11 @@ module _ {form : Form} {imposed : Option Version} {h : Bytes} {end : ℕ} {t₀ 
       pub cut_less : end - cut < end - reach
       cut_less = omega (arith, later, cut_before, n)
 
-      module _ {r : Advance} {t' : List ℕ} (c : ReadsOn form imposed (take cut h) cut t s r t') where
-        pub cut_stops : {p : Parser} {x : Refusal} → r ≡ advance.Stopped p x → ReadsOn form imposed h end t₀ s₀ (advance.Stopped p x) t'
-        cut_stops i = subst (λ (y : Advance). ReadsOn form imposed h end t₀ s₀ y t') i (parting_stop form imposed h end t₀ s₀ g later cut_before ends c i)
+      module _ {r : Result Parser (Parser × Refusal)} {t' : List ℕ} (c : ReadsOn form imposed (take cut h) cut t s r t') where
+        pub cut_stops : {p : Parser} {x : Refusal} → r ≡ Err (p, x) → ReadsOn form imposed h end t₀ s₀ (Err (p, x)) t'
+        cut_stops i = subst (λ (y : Result Parser (Parser × Refusal)). ReadsOn form imposed h end t₀ s₀ y t') i (parting_stop form imposed h end t₀ s₀ g later cut_before ends c i)
 
-        pub cut_next : {p : Parser} → r ≡ advance.Ended p → Parting form imposed h end t₀ s₀ t' (spot_in p) cut
+        pub cut_next : {p : Parser} → r ≡ Ok p → Parting form imposed h end t₀ s₀ t' (spot_in p) cut
         cut_next i = parting_next form imposed h end t₀ s₀ g later cut_before ends c i
 
 pub ruleset partings = (parting_start, parting_long, parting_ahead, parting_fits, parting_end, far_inside, far_past, far_less, cut_within, cut_fits, cut_less, cut_stops, cut_next, part_count, on_length)

@@ -4,7 +4,7 @@ use native.Mathlib.Omega.{arith}
 use mathlib.Core.Path.{◌≡◌, refl, sym, ap, subst, ◌∙◌}
 use mathlib.Core.Bool.{Bool, true, false, ◌&&◌}
 use mathlib.Core.List.{List, [], ◌∷◌, ◌++◌, append_assoc, append-nil}
-use mathlib.Core.Option.{Option, none, some}
+use Rattle.std.specs.Prelude.{Option, None, Some}
 use lib.Dec.{leb, ltb}
 use lib.ListN.{length, drop, length-append}
 use borrow.Author.Tests.{le-ltb, leb-true, le-leb}
@@ -135,17 +135,17 @@ module _ (lim : Limits) (imposed : Option Version) (room : ℕ) (h : Bytes) (end
   abbrev answer : Answer (Stage × List Entry)
   answer = step_on lim imposed h q.entries q.at q.stage (line_of p)
 
-  pub go_out : ltb q.at end ≡ false → go_on lim imposed room h end q (p ∷ ps) ≡ record { stop = none; point = q }
+  pub go_out : ltb q.at end ≡ false → go_on lim imposed room h end q (p ∷ ps) ≡ record { stop = None; point = q }
   unfolding go_on
   go_out e = rw (go_on, e)
 
   module _ (l : ltb q.at end ≡ true) where
-    pub go_refused : {m : ℕ} → answer ≡ refuse m → go_on lim imposed room h end q (p ∷ ps) ≡ record { stop = some m; point = q }
+    pub go_refused : {m : ℕ} → answer ≡ refuse m → go_on lim imposed room h end q (p ∷ ps) ≡ record { stop = Some m; point = q }
     unfolding go_on
     go_refused a = rw (go_on, l, a)
 
     module _ {x : Stage × List Entry} (a : answer ≡ ok x) where
-      pub go_full : leb (length q.entries + length x.1) room ≡ false → go_on lim imposed room h end q (p ∷ ps) ≡ record { stop = some 24; point = q }
+      pub go_full : leb (length q.entries + length x.1) room ≡ false → go_on lim imposed room h end q (p ∷ ps) ≡ record { stop = Some 24; point = q }
       unfolding go_on
       go_full e = rw (go_on, l, a, e)
 
@@ -153,12 +153,12 @@ module _ (lim : Limits) (imposed : Option Version) (room : ℕ) (h : Bytes) (end
       unfolding go_on
       go_more e = rw (go_on, l, a, e)
 
-pub go_none : (lim : Limits) (imposed : Option Version) (room : ℕ) (h : Bytes) (end : ℕ) (q : Point) → go_on lim imposed room h end q [] ≡ record { stop = none; point = q }
+pub go_none : (lim : Limits) (imposed : Option Version) (room : ℕ) (h : Bytes) (end : ℕ) (q : Point) → go_on lim imposed room h end q [] ≡ record { stop = None; point = q }
 unfolding go_on
 go_none lim imposed room h end q = refl
 
 -- nothing begins before an end that is not after the point
-pub go_past : (lim : Limits) (imposed : Option Version) (room : ℕ) (h : Bytes) (end : ℕ) (q : Point) (ps : List Bytes) → end ≤ q.at → go_on lim imposed room h end q ps ≡ record { stop = none; point = q }
+pub go_past : (lim : Limits) (imposed : Option Version) (room : ℕ) (h : Bytes) (end : ℕ) (q : Point) (ps : List Bytes) → end ≤ q.at → go_on lim imposed room h end q ps ≡ record { stop = None; point = q }
 go_past lim imposed room h end q [] l = go_none lim imposed room h end q
 go_past lim imposed room h end q (p ∷ ps) l = go_out lim imposed room h end q p ps (le-ltb q.at end l)
 
@@ -188,11 +188,11 @@ pub goes_inside : (lim : Limits) (imposed : Option Version) (room : ℕ) (h : By
 goes_inside lim imposed room h end q [] i e = rw (go_none lim imposed room h end q) (record { inside = i; new = []; more = sym (append-nil q.entries); stand = tt })
 goes_inside lim imposed room h end q (p ∷ ps) i e =
     elim (test (ltb q.at end)) [
-      | fail l ↦ rw (go_out lim imposed room h end q p ps l) (stays i none)
+      | fail l ↦ rw (go_out lim imposed room h end q p ps l) (stays i None)
       | pass l ↦ elim (see (step_on lim imposed h q.entries q.at q.stage (line_of p))) [
-        | not_read m a ↦ rw (go_refused lim imposed room h end q p ps l a) (stays i (some m))
+        | not_read m a ↦ rw (go_refused lim imposed room h end q p ps l a) (stays i (Some m))
         | was x a ↦ elim (test (leb (length q.entries + length x.1) room)) [
-          | fail t ↦ rw (go_full lim imposed room h end q p ps l a t) (stays i (some 24))
+          | fail t ↦ rw (go_full lim imposed room h end q p ps l a t) (stays i (Some 24))
           | pass t ↦
               let n = passed_inside lim imposed room h q p ps i e x t in
               let f = goes_inside lim imposed room h end (passed q p x) ps n.0 n.1 in

@@ -4,7 +4,7 @@ use native.Mathlib.Omega.{arith}
 use mathlib.Core.Path.{◌≡◌, refl, sym, ap, ap₂, subst, ◌∙◌}
 use mathlib.Core.Bool.{Bool, true, false, not}
 use mathlib.Core.List.{List, [], ◌∷◌, ◌++◌}
-use mathlib.Core.Option.{Option, none, some}
+use Rattle.std.specs.Prelude.{Option, None, Some, Result, Ok, Err}
 use lib.ListN.{length, take, drop, length-take, length-drop}
 use lib.Seq.{take-append-add}
 use borrow.Author.Tests.{eq-eqb, le-leb, lt-leb}
@@ -37,16 +37,15 @@ use Rattle.records.specs.Records.{RecordIs, ParsesRecord}
 use Rattle.records.specs.declared.file_format.FileFormat.{FileFormat}
 use Rattle.records.specs.declared.refusal.Refusal.{Refusal}
 use Rattle.records.specs.declared.refusal.Refusal.TheVariants.{ExpectedEof, LineTooLong, InvalidUtf8, MissingFileFormat, UnexpectedFileFormat, DuplicateId, MixedValues, DuplicateOtherId, InvalidHeader, DuplicateSampleName}
-use Rattle.records.specs.declared.map.Slot.TheVariants as slot
 use Rattle.records.specs.declared.map.Tally.{Tally}
 use Rattle.records.specs.declared.record.MapRecord.{MapRecord}
-use Rattle.records.specs.declared.record.RecordRead.{RecordRead}
-use Rattle.records.specs.declared.record.RecordRead.TheVariants as read
+use Rattle.records.specs.declared.record.Record.{Record as LineRecord}
+use Rattle.records.specs.declared.record.Record.TheVariants as read
 use Rattle.records.proofs.Determined.{filled_one}
 use Rattle.records.proofs.Keys.{kind_by_case}
 use Rattle.columns.specs.HeaderLines.{HeaderRead}
-use Rattle.columns.specs.declared.header_line.ColumnsRead.{ColumnsRead}
-use Rattle.columns.specs.declared.header_line.ColumnsRead.TheVariants as columns
+use Rattle.columns.specs.declared.header_line.ColumnsRefusal.{ColumnsRefusal}
+use Rattle.columns.specs.declared.header_line.ColumnsRefusal.TheVariants as columns
 use Rattle.columns.proofs.Answers.{columns_read, column_wrong, sample_twice}
 use Rattle.entries.specs.declared.entry.Entry.{Entry as CodeEntry}
 use Rattle.entries.specs.Values.{entry_of, limits_of}
@@ -61,12 +60,8 @@ use Rattle.ids.proofs.KeyKinds.{number_small}
 use Rattle.ids.proofs.Markings.{under_length, entry_own, under_kept, prefix_own, clash_sure}
 use Rattle.header.specs.Steps.{Stage, opening, body, ending, fresh_state, held_against, step_on}
 use Rattle.header.specs.Verdicts.{imposed_of, stage_of, is_done_phase, format_entry, Says, MarksKept, MarkedBefore, FirstSays, FirstJudged, beside_entries, IdJudged, record_beside, made_of, MetSays, MeetsRead, RecordJudged, ColumnsSay, ColumnsJudged, text_beside, TextJudged, Utf8Told, LineJudged}
-use Rattle.header.specs.declared.file_format_option.FileFormatOption.{FileFormatOption}
-use Rattle.header.specs.declared.file_format_option.FileFormatOption.TheVariants as option
 use Rattle.header.specs.declared.phase.Phase.{Phase}
 use Rattle.header.specs.declared.phase.Phase.TheVariants as phase
-use Rattle.header.specs.declared.verdict.Met.{Met}
-use Rattle.header.specs.declared.verdict.Met.TheVariants as met
 use Rattle.header.specs.declared.verdict.Verdict.{Verdict}
 use Rattle.header.specs.declared.verdict.Verdict.TheVariants as verdict
 use Rattle.header.proofs.Aheads.{alone}
@@ -74,10 +69,10 @@ use Rattle.rules.specs.Claims.{All, Sized, SizedOption, key_in}
 
 -- The version in force
 
-pub force_none : (i : FileFormatOption) (v : FileFormat) → i ≡ option.None → version_of v ≡ in_force (imposed_of i) (version_of v)
+pub force_none : (i : Option FileFormat) (v : FileFormat) → i ≡ None → version_of v ≡ in_force (imposed_of i) (version_of v)
 force_none i v e = rw e
 
-pub force_some : (i : FileFormatOption) (v : FileFormat) {w : FileFormat} → i ≡ option.Some w → version_of w ≡ in_force (imposed_of i) (version_of v)
+pub force_some : (i : Option FileFormat) (v : FileFormat) {w : FileFormat} → i ≡ Some w → version_of w ≡ in_force (imposed_of i) (version_of v)
 force_some i v e = rw e
 
 pub sizes : (v : FileFormat) → v.major < 4294967296 → v.minor < 4294967296 → Sized (version_of v)
@@ -86,9 +81,9 @@ sizes v a b = record { major = omega arith; minor = omega arith }
 pub ruleset forces = (force_none, force_some)
 
 -- what the theorems ask of a version that is imposed holds of every one that the code can be given: its parts have 32 bits
-pub imposed_sized : (i : FileFormatOption) → ((f : FileFormat) → i ≡ option.Some f → (f.major < 4294967296) × (f.minor < 4294967296)) → SizedOption (imposed_of i)
-imposed_sized option.None parts = tt
-imposed_sized (option.Some f) parts = let p = parts f refl in sizes f p.0 p.1
+pub imposed_sized : (i : Option FileFormat) → ((f : FileFormat) → i ≡ Some f → (f.major < 4294967296) × (f.minor < 4294967296)) → SizedOption (imposed_of i)
+imposed_sized None parts = tt
+imposed_sized (Some f) parts = let p = parts f refl in sizes f p.0 p.1
 
 -- The first line
 
@@ -100,24 +95,24 @@ format_entry_lem : (lim : Limits) (v : Version) (start : ℕ) (l : Bytes) → re
 unfolding record_entry line_entry counts_of
 format_entry_lem lim v start l = ap (λ (n : ℕ). with_counts (record { key_length = if_counted lim.counted 10; field_count = n }) (plain_entry format_kind start (length l))) (none_counted lim.counted)
 
-module _ (imposed : Option Version) (l : Bytes) (x : RecordRead) (a : ParsesRecord v4_5 l x) where
+module _ (imposed : Option Version) (l : Bytes) (x : Result LineRecord Refusal) (a : ParsesRecord v4_5 l x) where
   first_is : {r : Record} → read_record v4_5 l ≡ ok r → (lim : Limits) (start : ℕ) → step_text lim.counted imposed start empty l ≡ begin lim.counted imposed start l r
   unfolding step_text
   first_is e lim start = rw e
 
-  pub first_format : {w : FileFormat} → x ≡ read.FileFormat w → (f : FileFormat) → version_of f ≡ in_force imposed (version_of w) → FirstJudged imposed l (verdict.Begin f)
+  pub first_format : {w : FileFormat} → x ≡ Ok (read.FileFormat w) → (f : FileFormat) → version_of f ≡ in_force imposed (version_of w) → FirstJudged imposed l (Ok (verdict.Begin f))
   first_format {w} e f g = record {
     is = λ lim start.
         first_is (subst (RecordIs v4_5 l) e a.is) lim start ∙ rw (← g) (ap (λ (y : Entry). ok (ready (version_of f) [], y ∷ [])) (format_entry_lem lim (version_of w) start l));
   }
 
-  pub first_map : {m : MapRecord} → x ≡ read.Map m → FirstJudged imposed l (verdict.Refused MissingFileFormat)
+  pub first_map : {m : MapRecord} → x ≡ Ok (read.Map m) → FirstJudged imposed l (Err MissingFileFormat)
   first_map e = record { is = λ lim start. first_is (subst (RecordIs v4_5 l) e a.is).3 lim start }
 
-  pub first_text : {at : ℕ} → x ≡ read.Text at → FirstJudged imposed l (verdict.Refused MissingFileFormat)
+  pub first_text : {at : ℕ} → x ≡ Ok (read.Text at) → FirstJudged imposed l (Err MissingFileFormat)
   first_text e = record { is = λ lim start. first_is (subst (RecordIs v4_5 l) e a.is).1 lim start }
 
-  pub first_refused : {y : Refusal} → x ≡ read.Refused y → FirstJudged imposed l (verdict.Refused y)
+  pub first_refused : {y : Refusal} → x ≡ Err y → FirstJudged imposed l (Err y)
   unfolding step_text
   first_refused e = record { is = λ lim start. let h = subst (RecordIs v4_5 l) e a.is in rw h }
 
@@ -134,7 +129,7 @@ marks_more h ms key e a = rw a (record { long = under_length h key e ms; all = �
 judged_by_lem : {A : Type 0} {n m : ℕ} (x : A) → m ≡ n → {k : ℕ} → m ≡ suc k → judged n x ≡ refuse (suc k)
 judged_by_lem x e f = rw (← e, f)
 
-module _ (lim : Limits) (h : Bytes) (es : List Entry) (ms prefix : Bytes) (e : CodeEntry) {a : Clash} (ea : a ≡ clash_under h es ms prefix (prefix_hash prefix e.kind) (entry_of e))
+module _ (lim : Limits) (h : Bytes) (es : List Entry) (ms prefix : Bytes) (e : CodeEntry) {a : Option Clash} (ea : a ≡ clash_under h es ms prefix (prefix_hash prefix e.kind) (entry_of e))
     {ms' : Bytes} (em : ms' ≡ mark_under h (prefix_hash prefix e.kind) (entry_of e) ms) where
   abbrev OwnPrefix : Type 0
   OwnPrefix = Prefixes prefix (line_in h (entry_of e))
@@ -146,25 +141,25 @@ module _ (lim : Limits) (h : Bytes) (es : List Entry) (ms prefix : Bytes) (e : C
   marked : OwnPrefix → Marked h ms' (entry_of e)
   marked own = subst (λ (y : Bytes). Marked h y (entry_of e)) (sym (em ∙ ap (λ (k : ℕ). mark_under h k (entry_of e) ms) (prefix_own h prefix (entry_of e) own.key))) (entry_own h (entry_of e) ms)
 
-  pub id_free : a ≡ clashes.Free → IdJudged lim h es ms prefix (entry_of e) (verdict.Entry e) ms'
+  pub id_free : a ≡ None → IdJudged lim h es ms prefix (entry_of e) (Ok (verdict.Entry e)) ms'
   id_free f = record {
     marks = marks_more h ms (prefix_hash prefix e.kind) (entry_of e) em;
     is = λ two own ns n m start g l. (judged_zero (g, entry_of e ∷ []) (sym (found two own ns n m) ∙ ap clash_number f), marked own);
   }
 
-  id_clash : (y : Refusal) {b : Clash} → a ≡ b → {n : ℕ} → clash_number b ≡ suc n → number y ≡ suc n → IdJudged lim h es ms prefix (entry_of e) (verdict.Refused y) ms'
+  id_clash : (y : Refusal) {b : Option Clash} → a ≡ b → {n : ℕ} → clash_number b ≡ suc n → number y ≡ suc n → IdJudged lim h es ms prefix (entry_of e) (Err y) ms'
   id_clash y f c i = record {
     marks = marks_more h ms (prefix_hash prefix e.kind) (entry_of e) em;
     is = λ two own ns n m start g l. judged_by_lem (g, entry_of e ∷ []) (found two own ns n m) (ap clash_number f ∙ c) ∙ ap refuse (sym i);
   }
 
-  pub id_twice : a ≡ clashes.TypedId → IdJudged lim h es ms prefix (entry_of e) (verdict.Refused DuplicateId) ms'
+  pub id_twice : a ≡ Some clashes.TypedId → IdJudged lim h es ms prefix (entry_of e) (Err DuplicateId) ms'
   id_twice f = id_clash DuplicateId f refl refl
 
-  pub id_mixed : a ≡ clashes.Mixed → IdJudged lim h es ms prefix (entry_of e) (verdict.Refused MixedValues) ms'
+  pub id_mixed : a ≡ Some clashes.Mixed → IdJudged lim h es ms prefix (entry_of e) (Err MixedValues) ms'
   id_mixed f = id_clash MixedValues f refl refl
 
-  pub id_other : a ≡ clashes.OtherId → IdJudged lim h es ms prefix (entry_of e) (verdict.Refused DuplicateOtherId) ms'
+  pub id_other : a ≡ Some clashes.OtherId → IdJudged lim h es ms prefix (entry_of e) (Err DuplicateOtherId) ms'
   id_other f = id_clash DuplicateOtherId f refl refl
 
 pub ruleset ids = (id_free, id_twice, id_mixed, id_other)
@@ -209,22 +204,22 @@ module _ (v : Version) (l : Bytes) where
 -- the text that is kept is the one that the rules name
 record Kept (o : Option (Bytes × Text)) (id : Text) (tag : ℕ) : Type 0 where
   key : Bytes
-  is : o ≡ some (key, id)
+  is : o ≡ Some (key, id)
   tagged : tag_of key ≡ tag
 
-kept_is : (o : Option (Bytes × Text)) {id : Text} {tag : ℕ} → slotted o ≡ slot.Filled id tag → Kept o id tag
-kept_is none e = let nope : ◌≡◌ {A = ℕ} 0 1 = cc in absurd (omega arith)
-kept_is (some p) e = let h = filled_one e in record { key = p.0; is = ap (λ (t : Text). some (p.0, t)) h.0; tagged = h.1 }
+kept_is : (o : Option (Bytes × Text)) {id : Text} {tag : ℕ} → slotted o ≡ Some (id, tag) → Kept o id tag
+kept_is None e = let nope : ◌≡◌ {A = ℕ} 0 1 = cc in absurd (omega arith)
+kept_is (Some p) e = let h = filled_one e in record { key = p.0; is = ap (λ (t : Text). Some (p.0, t)) h.0; tagged = h.1 }
 
-text_inside : (l : Bytes) (a : Option Field) (b : Option (Bytes × Text)) → Both l a b → {k : Bytes} {id : Text} → b ≡ some (k, id) → (id.start ≤ id.end) × (id.end ≤ length l)
-text_inside l none none u e = let nope : ◌≡◌ {A = ℕ} 0 1 = cc in absurd (omega arith)
-text_inside l none (some p) u e = absurd u
-text_inside l (some f) none u e = absurd u
-text_inside l (some f) (some p) u {k} {id} e =
+text_inside : (l : Bytes) (a : Option Field) (b : Option (Bytes × Text)) → Both l a b → {k : Bytes} {id : Text} → b ≡ Some (k, id) → (id.start ≤ id.end) × (id.end ≤ length l)
+text_inside l None None u e = let nope : ◌≡◌ {A = ℕ} 0 1 = cc in absurd (omega arith)
+text_inside l None (Some p) u e = absurd u
+text_inside l (Some f) None u e = absurd u
+text_inside l (Some f) (Some p) u {k} {id} e =
     let t : p.1 ≡ id = ap (λ (x : Bytes × Text). x.1) (some_is e) in
     subst (λ (x : Text). (x.start ≤ x.end) × (x.end ≤ length l)) t (u.ordered, u.inside)
 
-module _ (v : Version) (l k : Bytes) (fs : List Field) (line : l ≡ write_record (fields k fs)) (id : Text) (tag : ℕ) (e : slotted (text_named v k (ascii "ID") (fields_start k) fs) ≡ slot.Filled id tag) where
+module _ (v : Version) (l k : Bytes) (fs : List Field) (line : l ≡ write_record (fields k fs)) (id : Text) (tag : ℕ) (e : slotted (text_named v k (ascii "ID") (fields_start k) fs) ≡ Some (id, tag)) where
   id_both : Both l (field_named v k (ascii "ID") fs) (text_named v k (ascii "ID") (fields_start k) fs)
   id_both = named_text v k (ascii "ID") l (fields_start k) fs (subst (λ (x : Bytes). AnyAt x (fields_start k) fs) (sym line) (line_fields k fs))
 
@@ -251,17 +246,17 @@ module _ (lim : Limits) (h : Bytes) (es : List Entry) (v : Version) (start : ℕ
   unfolding clash
   text_beside_lem k t e = rw e
 
-module _ (lim : Limits) (v : Version) (start : ℕ) (l : Bytes) (x : RecordRead) (a : ParsesRecord v l x) where
+module _ (lim : Limits) (v : Version) (start : ℕ) (l : Bytes) (x : Result LineRecord Refusal) (a : ParsesRecord v l x) where
   read_as : {y : Answer Record} → read_record v l ≡ y → (h : Bytes) (es : List Entry) → record_beside lim h es v start l ≡ (y >>= enter lim.counted v [] start l >>= held_against h es)
   read_as e h es = ap (λ (z : Answer Record). z >>= enter lim.counted v [] start l >>= held_against h es) e
 
-  met_format : {w : FileFormat} → x ≡ read.FileFormat w → MetSays lim v start l (met.Refused UnexpectedFileFormat)
+  met_format : {w : FileFormat} → x ≡ Ok (read.FileFormat w) → MetSays lim v start l (Err UnexpectedFileFormat)
   met_format e = read_as (subst (RecordIs v l) e a.is)
 
-  met_refused : {y : Refusal} → x ≡ read.Refused y → MetSays lim v start l (met.Refused y)
+  met_refused : {y : Refusal} → x ≡ Err y → MetSays lim v start l (Err y)
   met_refused e = read_as (subst (RecordIs v l) e a.is)
 
-  met_map : {y : MapRecord} → x ≡ read.Map y → {e : CodeEntry} → entry_of e ≡ made_of lim start l y → MetSays lim v start l (met.New e y.value)
+  met_map : {y : MapRecord} → x ≡ Ok (read.Map y) → {e : CodeEntry} → entry_of e ≡ made_of lim start l y → MetSays lim v start l (Ok (e, y.value))
   met_map {y} w {e} q =
       let m = subst (RecordIs v l) w a.is in
       let k = key_in l in
@@ -275,8 +270,8 @@ module _ (lim : Limits) (v : Version) (start : ℕ) (l : Bytes) (x : RecordRead)
         beside = λ h es. ap (beside_entries h es (prefix_of k) (body v)) made ∙ map_beside lim h es v start l k m.0 m.3;
       })
 
-  met_text : {at : ℕ} → x ≡ read.Text at → {n key : ℕ} → n ≡ at - 3 → key ≡ if_counted lim.counted n
-      → {e : CodeEntry} → entry_of e ≡ with_counts (record { key_length = key; field_count = 0 }) (plain_entry text_kind start (length l)) → MetSays lim v start l (met.New e at)
+  met_text : {at : ℕ} → x ≡ Ok (read.Text at) → {n key : ℕ} → n ≡ at - 3 → key ≡ if_counted lim.counted n
+      → {e : CodeEntry} → entry_of e ≡ with_counts (record { key_length = key; field_count = 0 }) (plain_entry text_kind start (length l)) → MetSays lim v start l (Ok (e, at))
   unfolding record_entry line_entry counts_of
   met_text {at} w {n} {key} en ek {e} q =
       let m = subst (RecordIs v l) w a.is in
@@ -294,18 +289,18 @@ module _ (lim : Limits) (v : Version) (start : ℕ) (l : Bytes) (x : RecordRead)
       })
 
 -- whatever the version
-module _ (lim : Limits) (start : ℕ) (l : Bytes) (x : RecordRead) where
-  pub read_format_lem : {w : FileFormat} → x ≡ read.FileFormat w → MeetsRead lim start l x (met.Refused UnexpectedFileFormat)
+module _ (lim : Limits) (start : ℕ) (l : Bytes) (x : Result LineRecord Refusal) where
+  pub read_format_lem : {w : FileFormat} → x ≡ Ok (read.FileFormat w) → MeetsRead lim start l x (Err UnexpectedFileFormat)
   read_format_lem e = record { is = λ v a. met_format lim v start l x a e }
 
-  pub read_refused : {y : Refusal} → x ≡ read.Refused y → MeetsRead lim start l x (met.Refused y)
+  pub read_refused : {y : Refusal} → x ≡ Err y → MeetsRead lim start l x (Err y)
   read_refused e = record { is = λ v a. met_refused lim v start l x a e }
 
-  pub read_map_lem : {y : MapRecord} → x ≡ read.Map y → {e : CodeEntry} → entry_of e ≡ made_of lim start l y → MeetsRead lim start l x (met.New e y.value)
+  pub read_map_lem : {y : MapRecord} → x ≡ Ok (read.Map y) → {e : CodeEntry} → entry_of e ≡ made_of lim start l y → MeetsRead lim start l x (Ok (e, y.value))
   read_map_lem w q = record { is = λ v a. met_map lim v start l x a w q }
 
-  pub read_text : {at : ℕ} → x ≡ read.Text at → {n key : ℕ} → n ≡ at - 3 → key ≡ if_counted lim.counted n
-      → {e : CodeEntry} → entry_of e ≡ with_counts (record { key_length = key; field_count = 0 }) (plain_entry text_kind start (length l)) → MeetsRead lim start l x (met.New e at)
+  pub read_text : {at : ℕ} → x ≡ Ok (read.Text at) → {n key : ℕ} → n ≡ at - 3 → key ≡ if_counted lim.counted n
+      → {e : CodeEntry} → entry_of e ≡ with_counts (record { key_length = key; field_count = 0 }) (plain_entry text_kind start (length l)) → MeetsRead lim start l x (Ok (e, at))
   read_text w en ek q = record { is = λ v a. met_text lim v start l x a w en ek q }
 
 -- what answers the need of `map_entry`
@@ -317,9 +312,9 @@ made_entry lim start l m en ek ea ey ec = rw (en, ek, ey, ea, ec)
 
 pub ruleset mets = (read_format_lem, read_refused, read_map_lem, read_text)
 
-module _ (lim : Limits) (h : Bytes) (es : List Entry) (ms : Bytes) (start end : ℕ) {l : Bytes} (el : l ≡ part h start end) (v : Version) {y : RecordRead} (b : ParsesRecord v l y) (x : Met) (a : MeetsRead lim start l y x) where
+module _ (lim : Limits) (h : Bytes) (es : List Entry) (ms : Bytes) (start end : ℕ) {l : Bytes} (el : l ≡ part h start end) (v : Version) {y : Result LineRecord Refusal} (b : ParsesRecord v l y) (x : Result (CodeEntry × ℕ) Refusal) (a : MeetsRead lim start l y x) where
   -- the line is the one that the code read
-  placed : (r : Verdict) {ms' : Bytes} → (MarkedBefore lim (body v) h start l ms es → Says lim h ms' (record_beside lim h es v start l) start (body v) l r) → MarksKept h ms ms' → RecordJudged lim h es ms v start end r ms'
+  placed : (r : Result Verdict Refusal) {ms' : Bytes} → (MarkedBefore lim (body v) h start l ms es → Says lim h ms' (record_beside lim h es v start l) start (body v) l r) → MarksKept h ms ms' → RecordJudged lim h es ms v start end r ms'
   placed r {ms'} f m = record {
     marks = m;
     is = λ l' el' all.
@@ -327,10 +322,10 @@ module _ (lim : Limits) (h : Bytes) (es : List Entry) (ms : Bytes) (start end : 
         (f (subst (λ (y : Bytes). MarkedBefore lim (body v) h start y ms es) (el' ∙ sym el) all));
   }
 
-  pub record_refused : {y : Refusal} → x ≡ met.Refused y → RecordJudged lim h es ms v start end (verdict.Refused y) ms
-  record_refused {y} e = placed (verdict.Refused y) (λ all. subst (MetSays lim v start l) e (a.is v b) h es) (marks_same h ms)
+  pub record_refused : {y : Refusal} → x ≡ Err y → RecordJudged lim h es ms v start end (Err y) ms
+  record_refused {y} e = placed (Err y) (λ all. subst (MetSays lim v start l) e (a.is v b) h es) (marks_same h ms)
 
-  pub record_new : {e : CodeEntry} {at : ℕ} → x ≡ met.New e at → {prefix : Bytes} → prefix ≡ take (at - 0) (drop 0 l) → (r : Verdict) {ms' : Bytes}
+  pub record_new : {e : CodeEntry} {at : ℕ} → x ≡ Ok (e, at) → {prefix : Bytes} → prefix ≡ take (at - 0) (drop 0 l) → (r : Result Verdict Refusal) {ms' : Bytes}
       → IdJudged lim h es ms prefix (entry_of e) r ms' → RecordJudged lim h es ms v start end r ms'
   record_new {e} {at} w {prefix} p r {ms'} j = placed r (λ all.
       let n = subst (MetSays lim v start l) w (a.is v b) in
@@ -345,14 +340,14 @@ pub ruleset records = (record_refused, record_new)
 
 -- The column line
 
-module _ (l : Bytes) (f : FileFormat) (x : ColumnsRead) (a : HeaderRead l x) where
-  pub columns_good : {b : Bool} {n : ℕ} → x ≡ columns.Columns b n → ColumnsJudged l f (verdict.Columns f n)
+module _ (l : Bytes) (f : FileFormat) (x : Result (Bool × ℕ) ColumnsRefusal) (a : HeaderRead l x) where
+  pub columns_good : {b : Bool} {n : ℕ} → x ≡ Ok (b, n) → ColumnsJudged l f (Ok (verdict.Columns f n))
   columns_good e = let c = columns_read l a e in record { is = (refl, (c.0, c.1, c.3)) }
 
-  pub columns_wrong : x ≡ columns.WrongColumn → ColumnsJudged l f (verdict.Refused InvalidHeader)
+  pub columns_wrong : x ≡ Err columns.WrongColumn → ColumnsJudged l f (Err InvalidHeader)
   columns_wrong e = record { is = column_wrong l a e }
 
-  pub columns_twice : x ≡ columns.DuplicateSample → ColumnsJudged l f (verdict.Refused DuplicateSampleName)
+  pub columns_twice : x ≡ Err columns.DuplicateSample → ColumnsJudged l f (Err DuplicateSampleName)
   columns_twice e = record { is = sample_twice l a e }
 
 pub ruleset all_columns = (columns_good, columns_wrong, columns_twice)
@@ -360,20 +355,20 @@ pub ruleset all_columns = (columns_good, columns_wrong, columns_twice)
 -- A line, by its phase
 
 module _ (lim : Limits) (imposed : Option Version) (h ms : Bytes) (es : List Entry) (start : ℕ) (l : Bytes) where
-  first_says : (r : Verdict) → FirstSays imposed l r → Says lim h ms (text_beside lim imposed h es start opening l) start opening l r
-  first_says (verdict.Begin f) j = ap (λ (a : Answer (State × List Entry)). a >>= held_against h es) (j lim start)
-  first_says (verdict.Entry e) j = absurd j
-  first_says (verdict.Columns f n) j = absurd j
-  first_says (verdict.Refused x) j = ap (λ (a : Answer (State × List Entry)). a >>= held_against h es) (j lim start)
+  first_says : (r : Result Verdict Refusal) → FirstSays imposed l r → Says lim h ms (text_beside lim imposed h es start opening l) start opening l r
+  first_says (Ok (verdict.Begin f)) j = ap (λ (a : Answer (State × List Entry)). a >>= held_against h es) (j lim start)
+  first_says (Ok (verdict.Entry e)) j = absurd j
+  first_says (Ok (verdict.Columns f n)) j = absurd j
+  first_says (Err x) j = ap (λ (a : Answer (State × List Entry)). a >>= held_against h es) (j lim start)
 
   -- what a column line gives
   abbrev columns_beside : Version → Answer (Stage × List Entry)
   columns_beside v = read_columns l >>= finish v [] start l >>= held_against h es
 
-  columns_say : (f : FileFormat) (r : Verdict) → ColumnsSay l f r → Says lim h ms (columns_beside (version_of f)) start (body (version_of f)) l r
-  columns_say f (verdict.Begin g) j = absurd j
-  columns_say f (verdict.Entry e) j = absurd j
-  columns_say f (verdict.Columns g n) j =
+  columns_say : (f : FileFormat) (r : Result Verdict Refusal) → ColumnsSay l f r → Says lim h ms (columns_beside (version_of f)) start (body (version_of f)) l r
+  columns_say f (Ok (verdict.Begin g)) j = absurd j
+  columns_say f (Ok (verdict.Entry e)) j = absurd j
+  columns_say f (Ok (verdict.Columns g n)) j =
       let c = j.1 in
       record {
         c = c.0;
@@ -382,11 +377,11 @@ module _ (lim : Limits) (imposed : Option Version) (h ms : Bytes) (es : List Ent
         ends = ap (λ (a : Answer Columns). a >>= finish (version_of f) [] start l >>= held_against h es) c.1
             ∙ ap₂ (λ (x : FileFormat) (k : ℕ). ok (ending (version_of x) k, column_entries start l c.0)) (sym j.0) c.2;
       }
-  columns_say f (verdict.Refused x) j = ap (λ (a : Answer Columns). a >>= finish (version_of f) [] start l >>= held_against h es) j
+  columns_say f (Err x) j = ap (λ (a : Answer Columns). a >>= finish (version_of f) [] start l >>= held_against h es) j
 
 module _ (lim : Limits) (h : Bytes) (es : List Entry) (ms : Bytes) (start end : ℕ) {l : Bytes} (el : l ≡ part h start end) (imposed : Option Version) (p : Phase) where
   -- the line is the one that the code read, and the phase is x
-  here : {x : Phase} → p ≡ x → (r : Verdict) {ms' : Bytes} → (MarkedBefore lim (stage_of x) h start l ms es → Says lim h ms' (text_beside lim imposed h es start (stage_of x) l) start (stage_of x) l r)
+  here : {x : Phase} → p ≡ x → (r : Result Verdict Refusal) {ms' : Bytes} → (MarkedBefore lim (stage_of x) h start l ms es → Says lim h ms' (text_beside lim imposed h es start (stage_of x) l) start (stage_of x) l r)
       → MarksKept h ms ms' → TextJudged lim h es ms start end p imposed r ms'
   here {x} e r {ms'} f m = record {
     marks = m;
@@ -396,12 +391,12 @@ module _ (lim : Limits) (h : Bytes) (es : List Entry) (ms : Bytes) (start end : 
         (subst (λ (y : Bytes). Says lim h ms' (text_beside lim imposed h es start (stage_of x) y) start (stage_of x) y r) (el ∙ sym el') (f there));
   }
 
-  pub text_first : p ≡ phase.Empty → (r : Verdict) → FirstJudged imposed l r → TextJudged lim h es ms start end p imposed r ms
+  pub text_first : p ≡ phase.Empty → (r : Result Verdict Refusal) → FirstJudged imposed l r → TextJudged lim h es ms start end p imposed r ms
   text_first e r j = here e r (λ all. first_says lim imposed h ms es start l r j.is) (marks_same h ms)
 
-  pub text_done : {f : FileFormat} {n : ℕ} → p ≡ phase.Done f n → TextJudged lim h es ms start end p imposed (verdict.Refused ExpectedEof) ms
+  pub text_done : {f : FileFormat} {n : ℕ} → p ≡ phase.Done f n → TextJudged lim h es ms start end p imposed (Err ExpectedEof) ms
   unfolding step_text
-  text_done e = here e (verdict.Refused ExpectedEof) (λ all. refl) (marks_same h ms)
+  text_done e = here e (Err ExpectedEof) (λ all. refl) (marks_same h ms)
 
   module _ {f : FileFormat} (e : p ≡ phase.Ready f) {q : Bool} (a : q ≡ starts (ascii "#CHROM") l) where
     body_columns : q ≡ true → columns_beside lim imposed h ms es start l (version_of f) ≡ text_beside lim imposed h es start (body (version_of f)) l
@@ -412,11 +407,11 @@ module _ (lim : Limits) (h : Bytes) (es : List Entry) (ms : Bytes) (start end : 
     unfolding step_text
     body_record b = rw (step_text, sym a ∙ b)
 
-    pub text_columns : q ≡ true → (r : Verdict) → ColumnsJudged l f r → TextJudged lim h es ms start end p imposed r ms
+    pub text_columns : q ≡ true → (r : Result Verdict Refusal) → ColumnsJudged l f r → TextJudged lim h es ms start end p imposed r ms
     text_columns b r j =
         here e r (λ all. subst (λ (y : Answer (Stage × List Entry)). Says lim h ms y start (body (version_of f)) l r) (body_columns b) (columns_say lim imposed h ms es start l f r j.is)) (marks_same h ms)
 
-    pub text_record : q ≡ false → (r : Verdict) {ms' : Bytes} → RecordJudged lim h es ms (version_of f) start end r ms' → TextJudged lim h es ms start end p imposed r ms'
+    pub text_record : q ≡ false → (r : Result Verdict Refusal) {ms' : Bytes} → RecordJudged lim h es ms (version_of f) start end r ms' → TextJudged lim h es ms start end p imposed r ms'
     text_record b r {ms'} j = here e r (λ all. subst (λ (y : Answer (Stage × List Entry)). Says lim h ms' y start (body (version_of f)) l r) (body_record b) (j.is l el all)) j.marks
 
 pub ruleset texts = (text_first, text_done, text_columns, text_record)
@@ -436,10 +431,10 @@ utf8_looked plain l e = record { is = λ f. e }
 pub ruleset utf8s = (utf8_known, utf8_looked)
 
 module _ (lim : Limits) (h : Bytes) (es : List Entry) (ms : Bytes) (plain : Bool) (start end : ℕ) (imposed : Option Version) (p : Phase) {d : Bool} (a : d ≡ is_done_phase p) where
-  abbrev Judged : Verdict → Bytes → Type 0
+  abbrev Judged : Result Verdict Refusal → Bytes → Type 0
   Judged r ms' = LineJudged lim h es ms plain start end p imposed r ms'
 
-  pub line_done : d ≡ true → Judged (verdict.Refused ExpectedEof) ms
+  pub line_done : d ≡ true → Judged (Err ExpectedEof) ms
   unfolding step_on step
   line_done e = record { marks = marks_same h ms; is = λ l el all u. rw (step_on, step, phase_done p ∙ sym a ∙ e) }
 
@@ -448,7 +443,7 @@ module _ (lim : Limits) (h : Bytes) (es : List Entry) (ms : Bytes) (plain : Bool
     most = ap (λ (x : Limits). x.line) g
 
     -- the line is the one that the code looked at
-    of_line : (r : Verdict) {ms' : Bytes} → (MarkedBefore lim (stage_of p) h start l ms es → (plain ≡ true → is_utf8 l ≡ true) → Says lim h ms' (step_on lim imposed h es start (stage_of p) l) start (stage_of p) l r)
+    of_line : (r : Result Verdict Refusal) {ms' : Bytes} → (MarkedBefore lim (stage_of p) h start l ms es → (plain ≡ true → is_utf8 l ≡ true) → Says lim h ms' (step_on lim imposed h es start (stage_of p) l) start (stage_of p) l r)
         → MarksKept h ms ms' → Judged r ms'
     of_line r {ms'} f m = record {
       marks = m;
@@ -457,14 +452,14 @@ module _ (lim : Limits) (h : Bytes) (es : List Entry) (ms : Bytes) (plain : Bool
           (f (subst (λ (y : Bytes). MarkedBefore lim (stage_of p) h start y ms es) (el' ∙ sym el) all) (λ i. subst (λ (y : Bytes). is_utf8 y ≡ true) (el' ∙ sym el) (u i)));
     }
 
-    pub line_long : given.line < length l → Judged (verdict.Refused LineTooLong) ms
+    pub line_long : given.line < length l → Judged (Err LineTooLong) ms
     unfolding step_on step
-    line_long n = of_line (verdict.Refused LineTooLong) (λ all u. rw (step_on, step, phase_done p ∙ sym a ∙ e, lt-leb (length l) lim.line (rw (← most) n))) (marks_same h ms)
+    line_long n = of_line (Err LineTooLong) (λ all u. rw (step_on, step, phase_done p ∙ sym a ∙ e, lt-leb (length l) lim.line (rw (← most) n))) (marks_same h ms)
 
     module _ (n : length l ≤ given.line) {q : Bool} (b : Utf8Told plain l q) where
-      pub line_bytes : not q ≡ true → Judged (verdict.Refused InvalidUtf8) ms
+      pub line_bytes : not q ≡ true → Judged (Err InvalidUtf8) ms
       unfolding step_on step
-      line_bytes f = of_line (verdict.Refused InvalidUtf8) (λ all u.
+      line_bytes f = of_line (Err InvalidUtf8) (λ all u.
           let z : is_utf8 l ≡ false = sym (b.is u) ∙ not_true q f in
           rw (step_on, step, phase_done p ∙ sym a ∙ e, le-leb (length l) lim.line (rw (← most) n), z)) (marks_same h ms)
 
@@ -472,7 +467,7 @@ module _ (lim : Limits) (h : Bytes) (es : List Entry) (ms : Bytes) (plain : Bool
       unfolding step_on step
       line_steps z = rw (step_on, step, phase_done p ∙ sym a ∙ e, le-leb (length l) lim.line (rw (← most) n), z)
 
-      pub line_text : not q ≡ false → (r : Verdict) {ms' : Bytes} → TextJudged lim h es ms start end p imposed r ms' → Judged r ms'
+      pub line_text : not q ≡ false → (r : Result Verdict Refusal) {ms' : Bytes} → TextJudged lim h es ms start end p imposed r ms' → Judged r ms'
       line_text f r {ms'} j = of_line r (λ all u.
           subst (λ (y : Answer (Stage × List Entry)). Says lim h ms' y start (stage_of p) l r) (line_steps (sym (b.is u) ∙ not_false q f)) (j.is l el all)) j.marks
 

@@ -4,7 +4,7 @@ use native.Mathlib.Omega.{arith}
 use mathlib.Core.Path.{◌≡◌, refl, sym, ap, subst, ◌∙◌}
 use mathlib.Core.Bool.{true, false}
 use mathlib.Core.List.{List, [], ◌∷◌, ◌++◌, append_assoc, append-nil}
-use mathlib.Core.Option.{Option, none, some}
+use Rattle.std.specs.Prelude.{Option, None, Some}
 use lib.Dec.{leb, ltb}
 use lib.ListN.{length, drop, length-append}
 use borrow.Author.Tests.{le-leb, leb-true, lt-ltb}
@@ -199,11 +199,11 @@ module _ (lim : Limits) (imposed : Option Version) (room : ℕ) (h : Bytes) wher
     pub answer : reading_means r ≡ closed_at (told_by w)
     pub entries : r.entries ≡ w.point.entries
 
-  refused_tells : (q : Point) (s : State) (m : ℕ) → accepted_in m s ≡ none → Tells (following q.entries (stop m (suc q.line) q.at s)) (record { stop = some m; point = q })
+  refused_tells : (q : Point) (s : State) (m : ℕ) → accepted_in m s ≡ None → Tells (following q.entries (stop m (suc q.line) q.at s)) (record { stop = Some m; point = q })
   refused_tells q s m e = record { answer = rw (append-nil q.entries, e); entries = append-nil q.entries }
 
   -- a line is refused before any header is accepted, or by 1
-  accepted_none : (s : State) (m start : ℕ) (l : Bytes) → step lim imposed start s l ≡ refuse m → accepted_in m s ≡ none
+  accepted_none : (s : State) (m start : ℕ) (l : Bytes) → step lim imposed start s l ≡ refuse m → accepted_in m s ≡ None
   unfolding step
   accepted_none empty zero start l e = refl
   accepted_none empty (suc m) start l e = refl
@@ -214,7 +214,7 @@ module _ (lim : Limits) (imposed : Option Version) (room : ℕ) (h : Bytes) wher
       one : ◌≡◌ {A = Answer (State × List Entry)} (refuse 1) (refuse m) → 1 ≡ m
       one z = cc
 
-  ended_tells : (q : Point) (s : State) → stage_after s ≡ q.stage → Tells (following q.entries (at_end q.line q.at s)) (record { stop = none; point = q })
+  ended_tells : (q : Point) (s : State) → stage_after s ≡ q.stage → Tells (following q.entries (at_end q.line q.at s)) (record { stop = None; point = q })
   ended_tells q empty e = record { answer = rw (append-nil q.entries, ← e); entries = append-nil q.entries }
   ended_tells q (ready v rs) e = record { answer = rw (append-nil q.entries, ← e); entries = append-nil q.entries }
   ended_tells q (done v rs c) e = record { answer = rw (append-nil q.entries, ← e); entries = append-nil q.entries }

@@ -1,8 +1,7 @@
 -- Document 02, §8: the line machine over the entries of a table, whatever they are: what a line is beside the entries kept so far, and the
 -- lines one after the other. Where the entries are those of the lines before it, this is the rules' own machine (`proofs/Whole`).
 -- Assumes nothing.
-use Rattle.std.specs.Prelude.{ℕ, suc, ◌+◌, Bool, true, false, ◌&&◌, List, [], ◌∷◌, ◌++◌, leb, ltb, length, drop}
-use Rattle.std.proofs.Math.Option.{Option, none, some}
+use Rattle.std.specs.Prelude.{ℕ, suc, ◌+◌, Bool, true, false, ◌&&◌, List, [], ◌∷◌, ◌++◌, leb, ltb, length, drop, Option, None, Some}
 use Rattle.values.specs.Bytes.{Bytes}
 use Rattle.rules.specs.Answer.{Answer, ok, refuse, ◌>>=◌, judged}
 use Rattle.rules.specs.Sizes.{Limits}
@@ -69,16 +68,16 @@ passed q p x = record { stage = x.0; line = suc q.line; at = q.at + length p; en
 
 -- the pieces from a point on that begin before `end`; the table has room for `room` entries
 unfoldable pub go_on : Limits → Option Version → ℕ → Bytes → ℕ → Point → List Bytes → Went
-go_on lim imposed room h end q [] = record { stop = none; point = q }
+go_on lim imposed room h end q [] = record { stop = None; point = q }
 go_on lim imposed room h end q (p ∷ ps) = elim (ltb q.at end) [
   | true ↦ elim (step_on lim imposed h q.entries q.at q.stage (line_of p)) [
-    | refuse m ↦ record { stop = some m; point = q }
+    | refuse m ↦ record { stop = Some m; point = q }
     | ok x ↦ elim (leb (length q.entries + length x.1) room) [
       | true ↦ go_on lim imposed room h end (passed q p x) ps
-      | false ↦ record { stop = some 24; point = q }
+      | false ↦ record { stop = Some 24; point = q }
     ]
   ]
-  | false ↦ record { stop = none; point = q }
+  | false ↦ record { stop = None; point = q }
 ]
 
 -- The same with the entries in a table
@@ -116,7 +115,7 @@ told_by w = record { stop = w.stop; spot = spot_of w.point }
 
 -- nothing is read from a spot that does not fit
 unfoldable pub read_on : Form → Option Version → Bytes → ℕ → List ℕ → Spot → Told
-read_on form imposed h end t s = elim (fits form (length h) t s) [ true ↦ told_by (went_on form imposed h end t s) | false ↦ record { stop = none; spot = s } ]
+read_on form imposed h end t s = elim (fits form (length h) t s) [ true ↦ told_by (went_on form imposed h end t s) | false ↦ record { stop = None; spot = s } ]
 
 -- the entries that were kept, after those that were there
 unfoldable pub table_on : Form → Option Version → Bytes → ℕ → List ℕ → Spot → List ℕ

@@ -11,7 +11,7 @@ ghost use Rattle.header.specs.Steps.{body};
 
 use crate::phase::Phase;
 use crate::verdict;
-use crate::verdict::{Met, Place};
+use crate::verdict::Place;
 use entries::form::Form;
 use entries::table;
 use ids::{ahead, scan};
@@ -27,8 +27,8 @@ fn note_line(h: &[u8], at: Place, form: Form, version: FileFormat, notes: &mut [
     let l = bytes::part(h, at.start, at.end);
     let read = record::parse_record(l, version);
     match verdict::meet_read(l, form, at.start, read) {
-        Met::New(new, _) => ahead::note_names(h, new, notes),
-        Met::Refused(_) => {}
+        Ok((new, _)) => ahead::note_names(h, new, notes),
+        Err(_) => {}
     }
 }
 
@@ -39,6 +39,7 @@ fn note_lines(h: &[u8], from: usize, form: Form, version: FileFormat, notes: &mu
         (pieces (drop from h.now)) notes.old }
 {
     let mut start = from;
+    // Kept: no plainer: each line tells where the next one begins.
     while start < h.len() {
         let found = line::next_line(h, start);
         let at = Place {
@@ -66,38 +67,41 @@ fn mark_by(
     scan::mark_noted(h, kept, form, notes, marks);
 }
 
-fn mark_far(h: &[u8], from: usize, version: FileFormat, kept: &[u64], form: Form, marks: &mut [u64])
-    requires { from ≤ length h.now }
-    ensures { AheadMarked (limits_by form) (body (version_of version)) h.now from marks.new (entries_in form kept.now) }
-{
-    let mut notes = [0u64; 32768];
-    mark_by(h, from, version, kept, form, &mut notes, marks);
-}
-
-// With notes of its own where none are lent: a short part is read in less time than many notes are cleared. A function that calls
-// itself is not made a part of its caller, nor is one with more notes of it: else all notes would be on the stack of every header.
-fn mark_lent(
+// With notes of its own, which are on the stack of no caller.
+#[inline(never)]
+fn mark_noting<const N: usize>(
     h: &[u8],
     from: usize,
     version: FileFormat,
     kept: &[u64],
     form: Form,
-    notes: &mut [u64],
+    marks: &mut [u64],
+)
+    requires inside { from ≤ length h.now }
+    requires few { N ≤ 32768 }
+    ensures { AheadMarked (limits_by form) (body (version_of version)) h.now from marks.new (entries_in form kept.now) }
+{
+    let mut notes = [0u64; N];
+    mark_by(h, from, version, kept, form, &mut notes, marks);
+}
+
+// A short part is read in less time than many notes are cleared.
+fn mark_named(
+    h: &[u8],
+    from: usize,
+    version: FileFormat,
+    kept: &[u64],
+    form: Form,
     marks: &mut [u64],
 )
     requires { from ≤ length h.now }
     ensures { AheadMarked (limits_by form) (body (version_of version)) h.now from marks.new (entries_in form kept.now) }
 {
-    if 0 < notes.len() {
-        mark_by(h, from, version, kept, form, notes, marks);
-        return;
+    if h.len() - from < 16384 {
+        mark_noting::<1024>(h, from, version, kept, form, marks);
+    } else {
+        mark_noting::<32768>(h, from, version, kept, form, marks);
     }
-    if 16384 <= h.len() - from {
-        mark_far(h, from, version, kept, form, marks);
-        return;
-    }
-    let mut few = [0u64; 1024];
-    mark_lent(h, from, version, kept, form, &mut few, marks);
 }
 
 // Marks what lines from `from` on may clash with. Few entries are all marked in less time than the lines are looked at.
@@ -105,14 +109,13 @@ pub fn mark_ahead(h: &[u8], from: usize, phase: Phase, kept: &[u64], form: Form,
     requires { from ≤ length h.now }
     ensures { AheadMarked (limits_by form) (stage_of phase) h.now from marks.new (entries_in form kept.now) }
 {
-    let mut none = [0u64; 0];
+    let none = [0u64; 0];
     if table::count(kept, form) <= 256 + (h.len() - from) / 64 {
         scan::mark_noted(h, kept, form, &none, marks);
         return;
     }
     match phase {
-        Phase::Empty => scan::mark_noted(h, kept, form, &none, marks),
-        Phase::Ready(version) => mark_lent(h, from, version, kept, form, &mut none, marks),
-        Phase::Done(_, _) => scan::mark_noted(h, kept, form, &none, marks),
+        Phase::Ready(version) => mark_named(h, from, version, kept, form, marks),
+        Phase::Empty | Phase::Done(_, _) => scan::mark_noted(h, kept, form, &none, marks),
     }
 }

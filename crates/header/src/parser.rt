@@ -6,7 +6,6 @@ ghost use Rattle.header.specs.declared.verdict.Verdict.TheVariants.{Begin, Colum
 ghost use Rattle.header.specs.Parsers.{answer_means, ended_at, refused_as, spot_in, Bounds, KeepsLine, Parses, Begins, BeginsMarked, ReadsOn, ReadCall};
 ghost use Rattle.header.specs.Parts.{BeginsParts, MayPart};
 
-use crate::file_format_option::FileFormatOption;
 use crate::phase::Phase;
 use crate::verdict::{Given, Place, Verdict};
 use crate::{ahead, verdict};
@@ -20,11 +19,7 @@ use records::refusal::Refusal;
 use values::{bytes, utf8};
 
 // What a header is found to be: accepted, with the version in force and the number of samples, or refused.
-#[derive(Clone, Copy)]
-pub enum Outcome {
-    Accepted(FileFormat, usize),
-    Refused(Refusal),
-}
+pub type Outcome = Result<(FileFormat, usize), Refusal>;
 
 // The outcome, the line and its start, and how many entries the table keeps.
 #[derive(Clone, Copy)]
@@ -45,24 +40,14 @@ pub struct Parser {
 }
 
 // How far it is read after some lines: all of them, or up to one that is refused.
-#[derive(Clone, Copy)]
-pub enum Advance {
-    Ended(Parser),
-    Stopped(Parser, Refusal),
-}
+pub type Advance = Result<Parser, (Parser, Refusal)>;
 
 // The version imposed, the form of the entries, and whether the header is known to be ASCII.
 #[derive(Clone, Copy)]
 struct Options {
-    imposed: FileFormatOption,
+    imposed: Option<FileFormat>,
     form: Form,
     ascii: bool,
-}
-
-#[derive(Clone, Copy)]
-enum Partial {
-    Next(Parser),
-    Refused(Refusal),
 }
 
 impl Parser {
@@ -83,16 +68,10 @@ impl Parser {
         ensures { result ≡ fits form size table.now (spot_in self) }
     {
         let limits = form.limits();
-        if limits.header < size {
-            return false;
-        }
-        if table::count(table, form) < self.count {
-            return false;
-        }
-        if size < self.at {
-            return false;
-        }
-        self.line <= self.at
+        size <= limits.header
+            && self.count <= table::count(table, form)
+            && self.at <= size
+            && self.line <= self.at
     }
 
     // As `keep`, where the line is the fileformat line.
@@ -104,19 +83,19 @@ impl Parser {
         v: FileFormat,
         table: &mut [u64],
         form: Form,
-    ) -> Partial
+    ) -> Result<Parser, Refusal>
         requires { Bounds form h.now table.old self }
-        ensures { KeepsLine form self h.now end next (Begin v) table.old result table.new }
+        ensures { KeepsLine form self h.now end next (Ok (Begin v)) table.old result table.new }
     {
         let start = self.at;
         let l = bytes::part(h, start, end);
         let entry = Entry::keyed(kind::FILE_FORMAT, start, l.len(), form.counted(10));
         if !table::put(table, form, self.count, entry) {
-            return Partial::Refused(Refusal::TableFull);
+            return Err(Refusal::TableFull);
         }
         let line = self.line + 1;
         let count = self.count + 1;
-        Partial::Next(Parser {
+        Ok(Parser {
             phase: Phase::Ready(v),
             line,
             at: next,
@@ -134,19 +113,19 @@ impl Parser {
         samples: usize,
         table: &mut [u64],
         form: Form,
-    ) -> Partial
+    ) -> Result<Parser, Refusal>
         requires { Bounds form h.now table.old self }
-        ensures { KeepsLine form self h.now end next (Columns v samples) table.old result table.new }
+        ensures { KeepsLine form self h.now end next (Ok (Columns v samples)) table.old result table.new }
     {
         let count = self.count;
         if table::count(table, form) - count <= samples {
-            return Partial::Refused(Refusal::TableFull);
+            return Err(Refusal::TableFull);
         }
         header_line::write_columns(h, self.at, end, count, table, form);
         let line = self.line + 1;
         let columns = count + 1;
         let all = columns + samples;
-        Partial::Next(Parser {
+        Ok(Parser {
             phase: Phase::Done(v, samples),
             line,
             at: next,
@@ -161,31 +140,31 @@ impl Parser {
         h: &[u8],
         end: usize,
         next: usize,
-        verdict: Verdict,
+        verdict: Result<Verdict, Refusal>,
         table: &mut [u64],
         form: Form,
-    ) -> Partial
+    ) -> Result<Parser, Refusal>
         requires { Bounds form h.now table.old self }
         ensures { KeepsLine form self h.now end next verdict table.old result table.new }
     {
         let phase = self.phase;
         let line = self.line + 1;
         match verdict {
-            Verdict::Refused(x) => Partial::Refused(x),
-            Verdict::Begin(v) => self.keep_begun(h, end, next, v, table, form),
-            Verdict::Entry(e) => {
+            Err(x) => Err(x),
+            Ok(Verdict::Begin(v)) => self.keep_begun(h, end, next, v, table, form),
+            Ok(Verdict::Entry(e)) => {
                 if !table::put(table, form, self.count, e) {
-                    return Partial::Refused(Refusal::TableFull);
+                    return Err(Refusal::TableFull);
                 }
                 let count = self.count + 1;
-                Partial::Next(Parser {
+                Ok(Parser {
                     phase,
                     line,
                     at: next,
                     count,
                 })
             }
-            Verdict::Columns(v, samples) => {
+            Ok(Verdict::Columns(v, samples)) => {
                 self.keep_columns(h, end, next, v, samples, table, form)
             }
         }
@@ -198,7 +177,7 @@ impl Parser {
         options: Options,
         marks: &mut [u64],
         table: &mut [u64],
-    ) -> Partial
+    ) -> Result<Parser, Refusal>
         requires { Bounds options.form h.now table.old self }
         ensures { Parses options.form (imposed_of options.imposed) options.ascii self h.now marks.old
             table.old result marks.new table.new }
@@ -230,19 +209,19 @@ impl Parser {
         let phase = self.phase;
         match phase {
             Phase::Empty => ReadAnswer {
-                outcome: Outcome::Refused(Refusal::Empty),
+                outcome: Err(Refusal::Empty),
                 line: 0,
                 start: 0,
                 entries: self.count,
             },
             Phase::Ready(_) => ReadAnswer {
-                outcome: Outcome::Refused(Refusal::MissingHeader),
+                outcome: Err(Refusal::MissingHeader),
                 line: self.line,
                 start: self.at,
                 entries: self.count,
             },
             Phase::Done(version, samples) => ReadAnswer {
-                outcome: Outcome::Accepted(version, samples),
+                outcome: Ok((version, samples)),
                 line: self.line,
                 start: self.at,
                 entries: self.count,
@@ -255,7 +234,7 @@ fn refuse(x: Refusal, line: usize, start: usize, entries: usize) -> ReadAnswer
     ensures { result ≡ refused_as x line start entries }
 {
     ReadAnswer {
-        outcome: Outcome::Refused(x),
+        outcome: Err(x),
         line,
         start,
         entries,
@@ -275,16 +254,17 @@ fn read_lines(
     ensures { ReadsOn options.form (imposed_of options.imposed) header.now end table.old (spot_in from) result table.new }
 {
     let mut parser = from;
+    // Kept: no plainer: the parser that a line hands on tells where the next one begins.
     while parser.at < end {
         if header.len() <= parser.at {
-            return Advance::Ended(parser);
+            return Ok(parser);
         }
         match parser.parse_partial(header, options, marks, table) {
-            Partial::Next(next) => parser = next,
-            Partial::Refused(x) => return Advance::Stopped(parser, x),
+            Ok(next) => parser = next,
+            Err(x) => return Err((parser, x)),
         }
     }
-    Advance::Ended(parser)
+    Ok(parser)
 }
 
 // What the lines may clash with is marked first, in `marks`, whatever stands in these.
@@ -306,31 +286,20 @@ fn read_marked(
     read_lines(header, end, from, options, table, marks)
 }
 
-fn read_long(
+// With marks of its own, which are on the stack of no caller.
+#[inline(never)]
+fn read_marking<const N: usize>(
     header: &[u8],
     end: usize,
     from: Parser,
     options: Options,
     table: &mut [u64],
 ) -> Advance
-    requires { Begins options.form options.ascii header.now table.old (spot_in from) }
+    requires few { N ≤ 65536 }
+    requires begins { Begins options.form options.ascii header.now table.old (spot_in from) }
     ensures { ReadsOn options.form (imposed_of options.imposed) header.now end table.old (spot_in from) result table.new }
 {
-    let mut marks = [0u64; 16384];
-    read_marked(header, end, from, options, table, &mut marks)
-}
-
-fn read_longer(
-    header: &[u8],
-    end: usize,
-    from: Parser,
-    options: Options,
-    table: &mut [u64],
-) -> Advance
-    requires { Begins options.form options.ascii header.now table.old (spot_in from) }
-    ensures { ReadsOn options.form (imposed_of options.imposed) header.now end table.old (spot_in from) result table.new }
-{
-    let mut marks = [0u64; 65536];
+    let mut marks = [0u64; N];
     read_marked(header, end, from, options, table, &mut marks)
 }
 
@@ -352,9 +321,7 @@ fn marked_size(header: &[u8], at: usize) -> usize
     size - at
 }
 
-// The same, with marks of its own where none are lent: few bytes have few entries, and clearing more marks than they need costs
-// more than it spares. A function that calls itself is not made a part of its caller, nor are those with more marks of it: else all
-// marks would be on the stack of every header.
+// The same, with as many marks as entries of `size` bytes need: clearing more of them costs more than it spares.
 fn read_sized(
     header: &[u8],
     size: usize,
@@ -362,26 +329,16 @@ fn read_sized(
     from: Parser,
     options: Options,
     table: &mut [u64],
-    marks: &mut [u64],
 ) -> Advance
     requires { Begins options.form options.ascii header.now table.old (spot_in from) }
     ensures { ReadsOn options.form (imposed_of options.imposed) header.now end table.old (spot_in from) result table.new }
 {
-    if 0 < marks.len() {
-        return read_marked(header, end, from, options, table, marks);
+    match size {
+        0..4096 => read_marking::<64>(header, end, from, options, table),
+        4096..32768 => read_marking::<512>(header, end, from, options, table),
+        32768..0x7_0000 => read_marking::<16384>(header, end, from, options, table),
+        _ => read_marking::<65536>(header, end, from, options, table),
     }
-    if size < 4096 {
-        let mut few = [0u64; 64];
-        return read_sized(header, size, end, from, options, table, &mut few);
-    }
-    if size < 32768 {
-        let mut own = [0u64; 512];
-        return read_sized(header, size, end, from, options, table, &mut own);
-    }
-    if size < 0x7_0000 {
-        return read_long(header, end, from, options, table);
-    }
-    read_longer(header, end, from, options, table)
 }
 
 // The lines that begin before `end`, with as many marks as the bytes ahead need.
@@ -389,7 +346,7 @@ fn read_part(
     header: &[u8],
     end: usize,
     from: Parser,
-    imposed: FileFormatOption,
+    imposed: Option<FileFormat>,
     form: Form,
     table: &mut [u64],
 ) -> Advance
@@ -402,13 +359,12 @@ fn read_part(
         form,
         ascii: utf8::is_ascii(&header[at..]),
     };
-    let mut none = [0u64; 0];
     // Few lines are held against all entries in less time than it takes to mark those.
     if header.len() - at < 256 {
-        return read_lines(header, end, from, options, table, &mut none);
+        return read_lines(header, end, from, options, table, &mut [0u64; 0]);
     }
     let size = marked_size(header, at);
-    read_sized(header, size, end, from, options, table, &mut none)
+    read_sized(header, size, end, from, options, table)
 }
 
 // As `read_part`, in parts, each up to the last LF of so many bytes: what the lines of a part may clash with are few of the entries
@@ -417,7 +373,7 @@ fn read_parts(
     header: &[u8],
     end: usize,
     from: Parser,
-    imposed: FileFormatOption,
+    imposed: Option<FileFormat>,
     form: Form,
     table: &mut [u64],
 ) -> Advance
@@ -426,6 +382,7 @@ fn read_parts(
 {
     let mut parser = from;
     let mut reach = from.at;
+    // Kept: no plainer: each part ends where a line does.
     while 0x12_0000 <= end - reach {
         let ahead = reach + 0x10_0000;
         let cut = line::last_end(&header[..ahead], reach);
@@ -434,8 +391,8 @@ fn read_parts(
         } else {
             reach = cut;
             match read_part(&header[..cut], cut, parser, imposed, form, table) {
-                Advance::Ended(next) => parser = next,
-                Advance::Stopped(next, x) => return Advance::Stopped(next, x),
+                Ok(next) => parser = next,
+                Err((next, x)) => return Err((next, x)),
             }
         }
     }
@@ -449,16 +406,10 @@ fn is_parted(header: &[u8], end: usize, from: Parser, form: Form, table: &[u64])
     ensures { MayPart form header.now end table.now (spot_in from) result }
 {
     let at = from.at;
-    if header.len() < end {
-        return false;
-    }
-    if end < at {
-        return false;
-    }
-    if end - at < 0x12_0000 {
-        return false;
-    }
-    formed::all_formed(&header[..at], table, form, from.count)
+    end <= header.len()
+        && at <= end
+        && 0x12_0000 <= end - at
+        && formed::all_formed(&header[..at], table, form, from.count)
 }
 
 // Reads the lines that begin before `end`, from where the parser stands on, into the table after the entries that it counts. Where
@@ -467,17 +418,17 @@ pub fn read_on(
     header: &[u8],
     end: usize,
     from: Parser,
-    imposed: FileFormatOption,
+    imposed: Option<FileFormat>,
     form: Form,
     table: &mut [u64],
 ) -> Advance
     ensures { ReadsOn form (imposed_of imposed) header.now end table.old (spot_in from) result table.new }
 {
     if !from.fits(form, header.len(), table) {
-        return Advance::Ended(from);
+        return Ok(from);
     }
     if end <= from.at {
-        return Advance::Ended(from);
+        return Ok(from);
     }
     if is_parted(header, end, from, form, table) {
         return read_parts(header, end, from, imposed, form, table);
@@ -486,7 +437,7 @@ pub fn read_on(
 }
 
 // Reads a header into the table, from its first entry on.
-pub fn read(header: &[u8], imposed: FileFormatOption, form: Form, table: &mut [u64]) -> ReadAnswer
+pub fn read(header: &[u8], imposed: Option<FileFormat>, form: Form, table: &mut [u64]) -> ReadAnswer
     ensures { ReadCall form (imposed_of imposed) header.now table.old result table.new }
 {
     let limits = form.limits();
@@ -494,7 +445,7 @@ pub fn read(header: &[u8], imposed: FileFormatOption, form: Form, table: &mut [u
         return refuse(Refusal::HeaderTooLong, 0, 0, 0);
     }
     match read_on(header, header.len(), Parser::new(), imposed, form, table) {
-        Advance::Ended(parser) => parser.finish(),
-        Advance::Stopped(parser, x) => refuse(x, parser.line + 1, parser.at, parser.count),
+        Ok(parser) => parser.finish(),
+        Err((parser, x)) => refuse(x, parser.line + 1, parser.at, parser.count),
     }
 }

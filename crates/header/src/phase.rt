@@ -16,10 +16,6 @@ impl Phase {
     pub fn is_done(self) -> bool
         ensures { result ≡ is_done_phase self }
     {
-        match self {
-            Phase::Empty => false,
-            Phase::Ready(_) => false,
-            Phase::Done(_, _) => true,
-        }
+        matches!(self, Phase::Done(_, _))
     }
 }

@@ -11,7 +11,6 @@ use alone::read;
 use alone::read::Alone;
 use entries::entry::Entry;
 use entries::form::Form;
-use entries::shown::EntryRead;
 pub use entries::shown::{KeyShown, Shown, bytes_of, entry, id, key};
 use entries::{kind, part, shown};
 use records::file_format::FileFormat;
@@ -22,13 +21,13 @@ fn line_field(h: &[u8], form: Form, e: Entry, version: FileFormat, i: usize) -> 
     ensures inside { Inside (length (line_in h.now (entry_of e))) result }
 {
     match read::read_entry(h, form, e, version) {
-        Alone::Map(map) => {
+        Some(Alone::Map(map)) => {
             let l = part::line_part(h, e);
             let key = map.key;
             shown::nth_field(l, map.value + 1, key.has_brackets(version), i)
         }
-        Alone::Plain(_) => Shown::Refused,
-        Alone::Refused => Shown::Refused,
+        Some(Alone::Plain(_)) => None,
+        None => None,
     }
 }
 
@@ -38,11 +37,8 @@ fn field_at(h: &[u8], form: Form, e: Entry, version: FileFormat, i: usize) -> Sh
 {
     let at = e.start;
     match line_field(h, form, e, version, i) {
-        Shown::Part { start, end } => Shown::Part {
-            start: at + start,
-            end: at + end,
-        },
-        Shown::Refused => Shown::Refused,
+        Some((start, end)) => Some((at + start, at + end)),
+        None => None,
     }
 }
 
@@ -51,11 +47,11 @@ pub fn field(h: &[u8], table: &[u64], form: Form, n: usize, version: FileFormat,
     ensures shown { answered result ≡ or_refused (shown_field form h.now table.now n (version_of version) i) }
     ensures inside { Inside (length h.now) result }
 {
-    let EntryRead::Entry(e) = shown::entry_at(h, table, form, n) else {
-        return Shown::Refused;
+    let Some(e) = shown::entry_at(h, table, form, n) else {
+        return None;
     };
     if !kind::has_id(e.kind) {
-        return Shown::Refused;
+        return None;
     }
     field_at(h, form, e, version, i)
 }

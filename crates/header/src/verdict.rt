@@ -6,10 +6,9 @@ ghost use Rattle.entries.specs.Values.{entry_of, limits_by};
 ghost use Rattle.entries.specs.Tables.{entries_in};
 ghost use Rattle.header.specs.Verdicts.{imposed_of, IdJudged, FirstJudged, made_of, MeetsRead, RecordJudged, ColumnsJudged, TextJudged, Utf8Told, LineJudged};
 
-use crate::file_format_option::FileFormatOption;
 use crate::phase::Phase;
 use columns::header_line;
-use columns::header_line::ColumnsRead;
+use columns::header_line::ColumnsRefusal;
 use entries::entry::Entry;
 use entries::form::Form;
 use entries::kind;
@@ -17,7 +16,7 @@ use ids::scan;
 use ids::scan::Clash;
 use records::file_format::FileFormat;
 use records::record;
-use records::record::{MapRecord, RecordRead};
+use records::record::{MapRecord, Record};
 use records::refusal::Refusal;
 use values::{bytes, utf8};
 
@@ -32,7 +31,7 @@ pub struct Place {
 #[derive(Clone, Copy)]
 pub struct Given {
     pub phase: Phase,
-    pub imposed: FileFormatOption,
+    pub imposed: Option<FileFormat>,
     pub form: Form,
     pub ascii: bool,
 }
@@ -43,33 +42,29 @@ pub enum Verdict {
     Begin(FileFormat),
     Entry(Entry),
     Columns(FileFormat, usize),
-    Refused(Refusal),
 }
 
-fn in_force(imposed: FileFormatOption, v: FileFormat) -> FileFormat
+fn in_force(imposed: Option<FileFormat>, v: FileFormat) -> FileFormat
     ensures { version_of result ≡ in_force (imposed_of imposed) (version_of v) }
 {
     match imposed {
-        FileFormatOption::None => v,
-        FileFormatOption::Some(w) => w,
+        None => v,
+        Some(w) => w,
     }
 }
 
 // The first line is read under 4.5 and must be fileformat.
-fn judge_first(l: &[u8], imposed: FileFormatOption) -> Verdict
+fn judge_first(l: &[u8], imposed: Option<FileFormat>) -> Result<Verdict, Refusal>
     ensures { FirstJudged (imposed_of imposed) l.now result }
 {
     match record::parse_record(l, FileFormat::V4_5) {
-        RecordRead::FileFormat(v) => {
+        Ok(Record::FileFormat(v)) => {
             let w = in_force(imposed, v);
-            Verdict::Begin(FileFormat {
-                major: w.major,
-                minor: w.minor,
-            })
+            Ok(Verdict::Begin(w))
         }
-        RecordRead::Map(_) => Verdict::Refused(Refusal::MissingFileFormat),
-        RecordRead::Text(_) => Verdict::Refused(Refusal::MissingFileFormat),
-        RecordRead::Refused(x) => Verdict::Refused(x),
+        Ok(Record::Map(_)) => Err(Refusal::MissingFileFormat),
+        Ok(Record::Text(_)) => Err(Refusal::MissingFileFormat),
+        Err(x) => Err(x),
     }
 }
 
@@ -81,33 +76,16 @@ fn judge_id(
     marks: &mut [u64],
     prefix: &[u8],
     new: Entry,
-) -> Verdict
+) -> Result<Verdict, Refusal>
     ensures { IdJudged (limits_by form) h.now (entries_in form kept.now) marks.old prefix.now (entry_of new) result
         marks.new }
 {
     match scan::find_clash(h, kept, form, marks, prefix, new) {
-        Clash::Free => Verdict::Entry(Entry {
-            kind: new.kind,
-            start: new.start,
-            length: new.length,
-            offset: new.offset,
-            id_length: new.id_length,
-            quoted: new.quoted,
-            tag: new.tag,
-            key_length: new.key_length,
-            field_count: new.field_count,
-        }),
-        Clash::TypedId => Verdict::Refused(Refusal::DuplicateId),
-        Clash::Mixed => Verdict::Refused(Refusal::MixedValues),
-        Clash::OtherId => Verdict::Refused(Refusal::DuplicateOtherId),
+        None => Ok(Verdict::Entry(new)),
+        Some(Clash::TypedId) => Err(Refusal::DuplicateId),
+        Some(Clash::Mixed) => Err(Refusal::MixedValues),
+        Some(Clash::OtherId) => Err(Refusal::DuplicateOtherId),
     }
-}
-
-// What a line is by itself: a record, with its entry and where its value stands; or a refusal.
-#[derive(Clone, Copy)]
-pub enum Met {
-    New(Entry, usize),
-    Refused(Refusal),
 }
 
 // The entry of a map that stands on the line l, at `start`.
@@ -132,18 +110,24 @@ fn map_entry(l: &[u8], form: Form, start: usize, map: MapRecord) -> Entry
 }
 
 // What was read of the line l, which stands at `start`, as an entry.
-pub fn meet_read(l: &[u8], form: Form, start: usize, read: RecordRead) -> Met
+// A record, with its entry and where its value stands; or a refusal.
+pub fn meet_read(
+    l: &[u8],
+    form: Form,
+    start: usize,
+    read: Result<Record, Refusal>,
+) -> Result<(Entry, usize), Refusal>
     ensures { MeetsRead (limits_by form) start l.now read result }
 {
     match read {
-        RecordRead::FileFormat(_) => Met::Refused(Refusal::UnexpectedFileFormat),
-        RecordRead::Map(map) => Met::New(map_entry(l, form, start, map), map.value),
-        RecordRead::Text(value) => {
+        Ok(Record::FileFormat(_)) => Err(Refusal::UnexpectedFileFormat),
+        Ok(Record::Map(map)) => Ok((map_entry(l, form, start, map), map.value)),
+        Ok(Record::Text(value)) => {
             let key_length = form.counted(record::key_length(value));
             let new = Entry::keyed(kind::OTHER_TEXT, start, l.len(), key_length);
-            Met::New(new, value)
+            Ok((new, value))
         }
-        RecordRead::Refused(x) => Met::Refused(x),
+        Err(x) => Err(x),
     }
 }
 
@@ -155,29 +139,24 @@ fn judge_record(
     marks: &mut [u64],
     at: Place,
     version: FileFormat,
-) -> Verdict
+) -> Result<Verdict, Refusal>
     ensures { RecordJudged (limits_by form) h.now (entries_in form kept.now) marks.old (version_of version) at.start at.end result
         marks.new }
 {
     let l = bytes::part(h, at.start, at.end);
     match meet_read(l, form, at.start, record::read_record(l, version)) {
-        Met::New(new, value) => judge_id(h, kept, form, marks, bytes::part(l, 0, value), new),
-        Met::Refused(x) => Verdict::Refused(x),
+        Ok((new, value)) => judge_id(h, kept, form, marks, bytes::part(l, 0, value), new),
+        Err(x) => Err(x),
     }
 }
 
-fn judge_columns(l: &[u8], version: FileFormat) -> Verdict
+fn judge_columns(l: &[u8], version: FileFormat) -> Result<Verdict, Refusal>
     ensures { ColumnsJudged l.now version result }
 {
     match header_line::parse_header(l) {
-        // Field by field: a copy of the whole lies across an entry's words, and reading those back stalls the processor.
-        ColumnsRead::Columns(_, samples) => {
-            let major = version.major;
-            let minor = version.minor;
-            Verdict::Columns(FileFormat { major, minor }, samples)
-        }
-        ColumnsRead::WrongColumn => Verdict::Refused(Refusal::InvalidHeader),
-        ColumnsRead::DuplicateSample => Verdict::Refused(Refusal::DuplicateSampleName),
+        Ok((_, samples)) => Ok(Verdict::Columns(version, samples)),
+        Err(ColumnsRefusal::WrongColumn) => Err(Refusal::InvalidHeader),
+        Err(ColumnsRefusal::DuplicateSample) => Err(Refusal::DuplicateSampleName),
     }
 }
 
@@ -189,8 +168,8 @@ fn judge_text(
     marks: &mut [u64],
     at: Place,
     phase: Phase,
-    imposed: FileFormatOption,
-) -> Verdict
+    imposed: Option<FileFormat>,
+) -> Result<Verdict, Refusal>
     ensures { TextJudged (limits_by form) h.now (entries_in form kept.now) marks.old at.start at.end phase (imposed_of imposed)
         result marks.new }
 {
@@ -203,7 +182,7 @@ fn judge_text(
             }
             judge_record(h, kept, form, marks, at, version)
         }
-        Phase::Done(_, _) => Verdict::Refused(Refusal::ExpectedEof),
+        Phase::Done(_, _) => Err(Refusal::ExpectedEof),
     }
 }
 
@@ -211,14 +190,17 @@ fn judge_text(
 fn is_utf8(l: &[u8], ascii: bool) -> bool
     ensures { Utf8Told ascii l.now result }
 {
-    if ascii {
-        return true;
-    }
-    utf8::utf8(l)
+    ascii || utf8::utf8(l)
 }
 
 // A line, by 1, 2, 3, then its grammar; `kept` are the entries before it, which are marked, and so is it if it is kept.
-pub fn judge_line(h: &[u8], kept: &[u64], marks: &mut [u64], at: Place, given: Given) -> Verdict
+pub fn judge_line(
+    h: &[u8],
+    kept: &[u64],
+    marks: &mut [u64],
+    at: Place,
+    given: Given,
+) -> Result<Verdict, Refusal>
     ensures { LineJudged (limits_by given.form) h.now (entries_in given.form kept.now) marks.old
         given.ascii at.start at.end given.phase (imposed_of given.imposed) result marks.new }
 {
@@ -227,14 +209,14 @@ pub fn judge_line(h: &[u8], kept: &[u64], marks: &mut [u64], at: Place, given: G
     let form = given.form;
     let limits = form.limits();
     if phase.is_done() {
-        return Verdict::Refused(Refusal::ExpectedEof);
+        return Err(Refusal::ExpectedEof);
     }
     let l = bytes::part(h, at.start, at.end);
     if limits.line < l.len() {
-        return Verdict::Refused(Refusal::LineTooLong);
+        return Err(Refusal::LineTooLong);
     }
     if !is_utf8(l, given.ascii) {
-        return Verdict::Refused(Refusal::InvalidUtf8);
+        return Err(Refusal::InvalidUtf8);
     }
     judge_text(h, kept, form, marks, at, phase, imposed)
 }

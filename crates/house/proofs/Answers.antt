@@ -4,7 +4,7 @@ use native.Mathlib.Omega.{arith}
 use mathlib.Core.Path.{◌≡◌, refl, ap, ◌∙◌}
 use mathlib.Core.Bool.{false}
 use mathlib.Core.List.{List, ◌++◌}
-use mathlib.Core.Option.{Option, none, some}
+use Rattle.std.specs.Prelude.{Option, None, Some, Result, Ok, Err}
 use lib.Dec.{leb}
 use lib.ListN.{length, take, drop, take-append-drop}
 use lib.Seq.{sets}
@@ -20,12 +20,10 @@ use Rattle.rules.specs.House.{house_lines, house_form, HouseReading, too_long, r
 use Rattle.rules.proofs.Trace.{header_traced}
 use Rattle.rules.proofs.Stands.{reading_fits}
 use Rattle.records.specs.Formats.{version_of}
-use Rattle.records.specs.Refusals.{number}
 use Rattle.records.specs.declared.refusal.Refusal.{Refusal}
 use Rattle.records.specs.declared.refusal.Refusal.TheVariants as refusal
 use Rattle.records.proofs.Refusals.{number_suc}
 use Rattle.records.specs.declared.file_format.FileFormat.{FileFormat}
-use Rattle.header.specs.declared.parser.Outcome.TheVariants as outcome
 use Rattle.header.specs.declared.parser.ReadAnswer.{ReadAnswer}
 use Rattle.header.specs.Parsers.{AnswerMeaning, answer_means, reading_means, read_into, ReadCall}
 use Rattle.entries.specs.declared.form.Form.{Form}
@@ -37,33 +35,33 @@ use Rattle.entries.proofs.Tables.{entries_fit, kept_some}
 use Rattle.entries.proofs.Stored.{stored_length}
 use Rattle.entries.proofs.Noted.{kept_bare}
 use Rattle.header.proofs.Callers.{Read, read_line_lem, read_start, read_entries, read_refused, read_accepted, read_records, read_kept, read_good}
-use Rattle.house.specs.declared.form.FormOutcome.{FormOutcome}
-use Rattle.house.specs.declared.form.FormOutcome.TheVariants.{Whole, TooLong, LineTooLong, NoRoom}
+use Rattle.house.specs.declared.form.FormRefusal.{FormRefusal}
+use Rattle.house.specs.declared.form.FormRefusal.TheVariants.{TooLong, LineTooLong, NoRoom}
 use Rattle.house.specs.declared.form.HouseAnswer.{HouseAnswer}
 use Rattle.house.specs.Keys.{AllListed}
 use Rattle.house.specs.Forms.{form_lines, fitted_as, lined_as, outcome_of, written_of, WritesForm}
 use Rattle.house.specs.Answers.{FormMeaning, form_answer_means, house_means, refused_answer, form_answered, AnswersForm, HouseCall}
 use Rattle.house.proofs.Arranged.{FormIs, form_is}
-use Rattle.rules.specs.Claims.{Sized, Accepted}
+use Rattle.rules.specs.Claims.{Sized}
 
 -- what answers the needs of `answer`
-module _ (a : ReadAnswer) (form : FormOutcome) where
-  pub answer_whole : {n : ℕ} → form ≡ Whole n → ◌≡◌ {A = HouseAnswer} (record { outcome = a.outcome; line = a.line; start = a.start; entries = a.entries; length = n }) (form_answered a form)
+module _ (a : ReadAnswer) (form : Result ℕ FormRefusal) where
+  pub answer_whole : {n : ℕ} → form ≡ Ok n → ◌≡◌ {A = HouseAnswer} (record { outcome = a.outcome; line = a.line; start = a.start; entries = a.entries; length = n }) (form_answered a form)
   answer_whole e = rw e
 
-  pub answer_long : form ≡ TooLong → {r : HouseAnswer} → r ≡ refused_answer refusal.HeaderTooLong 0 0 a.entries → r ≡ form_answered a form
+  pub answer_long : form ≡ Err TooLong → {r : HouseAnswer} → r ≡ refused_answer refusal.HeaderTooLong 0 0 a.entries → r ≡ form_answered a form
   answer_long e q = q ∙ rw e
 
-  pub answer_line_lem : {l s : ℕ} → form ≡ LineTooLong l s → {r : HouseAnswer} → r ≡ refused_answer refusal.LineTooLong l s a.entries → r ≡ form_answered a form
+  pub answer_line_lem : {l s : ℕ} → form ≡ Err (LineTooLong l s) → {r : HouseAnswer} → r ≡ refused_answer refusal.LineTooLong l s a.entries → r ≡ form_answered a form
   answer_line_lem e q = q ∙ rw e
 
-  pub answer_room : form ≡ NoRoom → {r : HouseAnswer} → r ≡ refused_answer refusal.FormTooLong 0 0 a.entries → r ≡ form_answered a form
+  pub answer_room : form ≡ Err NoRoom → {r : HouseAnswer} → r ≡ refused_answer refusal.FormTooLong 0 0 a.entries → r ≡ form_answered a form
   answer_room e q = q ∙ rw e
 
 pub ruleset answers = (answer_whole, answer_long, answer_line_lem, answer_room)
 
 -- what answers the needs of `answer_accepted`
-pub form_answered_lem : (a : ReadAnswer) (f : FileFormat) → f.major < 4294967296 → f.minor < 4294967296 → {lim : Limits} {h : Bytes} {es : List Entry} {out : Bytes} {written : FormOutcome} {new : Bytes}
+pub form_answered_lem : (a : ReadAnswer) (f : FileFormat) → f.major < 4294967296 → f.minor < 4294967296 → {lim : Limits} {h : Bytes} {es : List Entry} {out : Bytes} {written : Result ℕ FormRefusal} {new : Bytes}
     → WritesForm lim (version_of f) h es out written new → {r : HouseAnswer} → r ≡ form_answered a written → AnswersForm lim a f h es out r new
 form_answered_lem a f i j w e = record { written = _; writes = w; answers = e; sized = record { major = omega arith; minor = omega arith } }
 
@@ -72,7 +70,7 @@ form_answered_lem a f i j w e = record { written = _; writes = w; answers = e; s
 abbrev sizing : ℕ → AnswerMeaning → FormMeaning
 sizing n x = record { number = x.number; line = x.line; start = x.start; entries = x.entries; size = n; accepted = x.accepted }
 
-pub record Answers (a : ReadAnswer) (r : Reading) (ls : List Bytes) (form : FormOutcome) (f : HouseReading) : Type 0 where
+pub record Answers (a : ReadAnswer) (r : Reading) (ls : List Bytes) (form : Result ℕ FormRefusal) (f : HouseReading) : Type 0 where
   pub tells_it : form_answer_means (form_answered a form) ≡ house_means r f
   pub writes_it : written_of form ls ≡ f.form
 
@@ -93,8 +91,8 @@ module _ (lim : Limits) (a : ReadAnswer) (r : Reading) (e : answer_means a ≡ r
   ]
 
   answers_lined : (x : Option (ℕ × ℕ)) → Answers a r ls (lined_as room size x) (lined room r (write_lines ls) x)
-  answers_lined none = answers_fit
-  answers_lined (some p) = record { tells_it = rw counted; writes_it = refl }
+  answers_lined None = answers_fit
+  answers_lined (Some p) = record { tells_it = rw counted; writes_it = refl }
 
   answers_form : Answers a r ls (outcome_of lim room ls) (form_answer lim room r m)
   unfolding outcome_of form_answer house_form
@@ -149,7 +147,7 @@ module _ (form : Form) (imposed : Option Version) (h : Bytes) (t₀ : List ℕ) 
   abbrev form_in : ℕ → HouseReading
   form_in size = house (limits_by form) imposed (room form t₀) size h
 
-  module _ {x : Refusal} (o : a.outcome ≡ outcome.Refused x) where
+  module _ {x : Refusal} (o : a.outcome ≡ Err x) where
     pub refused_house : (size : ℕ) → form_in size ≡ refused_form read.number read.line read.start
     unfolding house
     refused_house size = let n = number_suc x in house_refused (limits_by form) size read (read_refused call o ∙ n.1)
@@ -163,7 +161,7 @@ module _ (form : Form) (imposed : Option Version) (h : Bytes) (t₀ : List ℕ) 
     house_refused_call out q = record { answer = refused_told (length out) q; table = call.table; output = rw (refused_house (length out)) }
 
   -- an accepted reading: o is what came of its form, where the output has `space` bytes
-  module _ {f : FileFormat} {n : ℕ} (o : a.outcome ≡ outcome.Accepted f n) (sized : Sized (version_of f)) where
+  module _ {f : FileFormat} {n : ℕ} (o : a.outcome ≡ Ok (f, n)) (sized : Sized (version_of f)) where
     abbrev was_read : Read read (version_of f) n
     was_read = read_records call o
 
@@ -182,14 +180,14 @@ module _ (form : Form) (imposed : Option Version) (h : Bytes) (t₀ : List ℕ) 
       the_lines : form_lines (version_of f) h (entries_in form kept) ≡ house_lines means
       the_lines = ap (form_lines (version_of f) h) (read_kept call o ek) ∙ is_form.lines
 
-      pub answers_it : (space : ℕ) (written : FormOutcome) → written ≡ outcome_of (limits_by form) space (form_lines (version_of f) h (entries_in form kept))
+      pub answers_it : (space : ℕ) (written : Result ℕ FormRefusal) → written ≡ outcome_of (limits_by form) space (form_lines (version_of f) h (entries_in form kept))
           → Answers a read (form_lines (version_of f) h (entries_in form kept)) written (form_in space)
       unfolding house
       answers_it space written e =
           let house-is : form_in space ≡ form_answer (limits_by form) space read means = rw (house, was_read.accepted.state, read_accepted call o) in
           rw (e, the_lines, house-is) (answers_form (limits_by form) a read call.answer (read_accepted call o) space means)
 
-  module _ {f : FileFormat} {n : ℕ} (o : a.outcome ≡ outcome.Accepted f n) {kept : List ℕ} (ek : kept ≡ first_entries form t a.entries)
+  module _ {f : FileFormat} {n : ℕ} (o : a.outcome ≡ Ok (f, n)) {kept : List ℕ} (ek : kept ≡ first_entries form t a.entries)
       {t' : List ℕ} (et : t' ≡ t) {out : Bytes} {r : HouseAnswer} {new : Bytes} (w : AnswersForm (limits_by form) a f h (entries_in form kept) out r new) where
     pub house_accepted_call : HouseCall form imposed h t₀ out r t' new
     house_accepted_call =

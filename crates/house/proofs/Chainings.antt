@@ -1,35 +1,23 @@
 -- The links of entries, on plain values: they are made from the last entry to the first, for some slots after others. Assumes nothing.
-use Prim.Native.Nat.{ℕ, ◌+◌, ◌-◌, ◌*◌, ◌%◌, ◌^◌, ◌≤◌, ◌<◌}
+use Prim.Native.Nat.{ℕ, ◌+◌, ◌-◌, ◌%◌, ◌^◌, ◌≤◌, ◌<◌}
 use native.Mathlib.Omega.{arith}
 use mathlib.Core.Path.{◌≡◌, refl, sym, ap, subst, ◌∙◌}
-use mathlib.Core.Bool.{Bool, false, not}
+use mathlib.Core.Bool.{false}
 use mathlib.Core.List.{List}
 use lib.Dec.{eqb, leb, ltb}
 use lib.ListN.{length, get_or, set, replicate, length-set, length-replicate, get_or-replicate}
 use lib.Seq.{get_or-set_same, get_or-set_other}
 use borrow.Author.Tests.{eqb-true, eqb-false, ltb-true, ltb-false, lt-ltb, le-ltb, lt-leb}
 use Rattle.values.specs.Bytes.{Bytes}
-use Rattle.values.specs.Hash.{wide_basis, wide_step, wide_from}
 use Rattle.values.proofs.Tests.{pass, fail, test}
-use Rattle.rules.specs.Entry.{Entry}
 use Rattle.entries.specs.declared.entry.Entry.{Entry as CodeEntry}
 use Rattle.entries.specs.declared.form.Form.{Form}
 use Rattle.entries.specs.Values.{entry_of}
 use Rattle.entries.specs.Tables.{room, entry_in}
 use Rattle.entries.specs.Notes.{bare, note_at, noted}
 use Rattle.entries.proofs.Noted.{bare_length, same_room, same_entry, noted_bare, noted_own, noted_other, bare_notes}
-use Rattle.house.specs.Keys.{is_other_record, prefix_in}
 use Rattle.house.specs.Links.{slot_in}
 use Rattle.house.specs.Chains.{link_at, is_written, written_at, next_at, slot_at, FirstFrom, Nexts, LinkedFrom, Headless, Relinks, LinksEntry, LinksRange, LinksBelow, LinksAll}
-use Rattle.house.proofs.Linkings.{slot_some, slot_typed, slot_other}
-
--- what answers the needs of `slot_in`
-
-pub slot_any : (h : Bytes) (n : ℕ) (e : Entry) {q : Bool} → q ≡ is_other_record e → not q ≡ false → 0 < n → {p : Bytes} → p ≡ prefix_in h e → {x : ℕ} → x ≡ wide_from wide_basis p → {y : ℕ} → y ≡ wide_step x 0
-    → y % n ≡ slot_in h n e
-slot_any h n e o c l {p} i a d = slot_other h n e o c i (slot_some n p (λ z. omega arith) a d)
-
-pub ruleset keyed = (slot_typed, slot_any)
 
 -- what answers the needs of `next_of`, `is_written` and `mark_written`
 
@@ -55,27 +43,6 @@ module _ (form : Form) (t : List ℕ) (k : ℕ) {n : ℕ} (e : n ≡ note_at for
   written_set f = f ∙ ap (λ (x : ℕ). noted form t k (x + 8388608)) link_is
 
 pub ruleset tellings = (next_there, next_none, written_is, written_set)
-
--- what answers the needs of `count_used`: n of the slots before number k have an entry
-
-pub record Counting (heads : List ℕ) (n k : ℕ) : Type 0 where
-  pub few : n ≤ k
-  pub inside : k ≤ length heads
-
-pub count_start : (heads : List ℕ) → Counting heads 0 0
-count_start heads = record { few = omega arith; inside = omega arith }
-
-module _ {heads : List ℕ} {n k : ℕ} (g : Counting heads n k) where
-  pub count_fits : k < length heads → length heads * 4 < 2 ^ 63 → n + 1 < 2 ^ 64
-  count_fits l z = omega (arith, g.few)
-
-  pub count_next : {n' : ℕ} → n' ≤ n + 1 → k < length heads → Counting heads n' (k + 1)
-  count_next a l = record { few = omega (arith, g.few); inside = omega arith }
-
-  pub count_end : n ≤ length heads
-  count_end = omega (arith, g.few, g.inside)
-
-pub ruleset countings = (count_start, count_fits, count_next, count_end)
 
 -- The first one of a slot, from number k on
 

@@ -3,7 +3,7 @@ use Prim.Native.Nat.{ℕ, zero, suc, ◌≤◌}
 use native.Mathlib.Omega.{arith}
 use mathlib.Core.Path.{◌≡◌, refl, sym, ap, ◌∙◌}
 use mathlib.Core.List.{List}
-use mathlib.Core.Option.{Option, some}
+use Rattle.std.specs.Prelude.{Option, Some, Ok}
 use lib.ListN.{length}
 use lib.Seq.{sets}
 use Rattle.values.specs.Bytes.{Bytes}
@@ -17,7 +17,6 @@ use Rattle.rules.specs.Claims.{Accepted, Moved}
 use Rattle.rules.proofs.Rooms.{roomier}
 use Rattle.rules.proofs.Exchange.{lines_moved, house_moved}
 use Rattle.records.specs.declared.file_format.FileFormat.{FileFormat}
-use Rattle.header.specs.declared.parser.Outcome.TheVariants as outcome
 use Rattle.header.specs.declared.parser.ReadAnswer.{ReadAnswer}
 use Rattle.header.specs.Parsers.{AnswerMeaning, outcome_number, accepted_in, reading_means, read_into, ReadCall}
 use Rattle.header.proofs.Answers.{answer_injective}
@@ -50,7 +49,7 @@ module _ (form : Form) (imposed : Option Version) {h h' : Bytes} (x : Moved h h'
       ap reading_means (still_read a) ∙ rw (d.accepted.number, d.accepted.state, a.number, a.state, d.line, d.start, d.count)
 
   -- if a reading is accepted, the other gets the same answer
-  pub read_call_moved : {r s : ReadAnswer} {t₁ u₁ : List ℕ} {f : FileFormat} {n : ℕ} → ReadCall form imposed h t r t₁ → ReadCall form imposed h' u s u₁ → r.outcome ≡ outcome.Accepted f n → s ≡ r
+  pub read_call_moved : {r s : ReadAnswer} {t₁ u₁ : List ℕ} {f : FileFormat} {n : ℕ} → ReadCall form imposed h t r t₁ → ReadCall form imposed h' u s u₁ → r.outcome ≡ Ok (f, n) → s ≡ r
   read_call_moved {r} {s} {f = f} {n} p q o =
       let z = sym (ap (λ (y : AnswerMeaning). y.number) p.answer) ∙ ap outcome_number o in
       let a = read_records p o in
@@ -76,7 +75,7 @@ pub form_moved : {form : Form} {imposed : Option Version} {h h' : Bytes} {t u t�
 form_moved {form} {imposed} {h} {h'} {t} {u} x roomy l p q a =
     let w = wrote p a in
     let d = lines_moved (limits_by form) imposed (room form t) x w.accepted in
-    let m : means (limits_by form) imposed (room form u) h' ≡ some (header_meaning w.version w.records w.columns)
-    = ap (λ (y : Reading). meant y.number y.state) (roomier (limits_by form) imposed (room form t) (room form u) h' roomy d.accepted.number) ∙ means_is (limits_by form) imposed (room form t) h' d.accepted ∙ ap some d.meaning in
+    let m : means (limits_by form) imposed (room form u) h' ≡ Some (header_meaning w.version w.records w.columns)
+    = ap (λ (y : Reading). meant y.number y.state) (roomier (limits_by form) imposed (room form t) (room form u) h' roomy d.accepted.number) ∙ means_is (limits_by form) imposed (room form t) h' d.accepted ∙ ap Some d.meaning in
     let f = form_written_lem q m w.fits (omega (arith, w.size)) in
     (f.0, f.1 ∙ sym w.written)

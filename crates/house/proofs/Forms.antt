@@ -4,7 +4,8 @@ use native.Mathlib.Omega.{arith}
 use mathlib.Core.Path.{◌≡◌, refl, sym, ap, ◌∙◌, subst}
 use mathlib.Core.Bool.{Bool, true, false, false≢true}
 use mathlib.Core.List.{List, [], ◌∷◌}
-use mathlib.Core.Option.{none, or_else}
+use Rattle.std.specs.Option.{option_or}
+use Rattle.std.specs.Prelude.{None, Result, Ok, Err}
 use lib.Dec.{leb}
 use lib.ListN.{length, take, drop}
 use borrow.Author.Tests.{eq-eqb, ne_eqb, le-leb, lt-leb, leb-true, leb-false}
@@ -24,8 +25,8 @@ use Rattle.entries.specs.Values.{entry_of}
 use Rattle.entries.specs.Tables.{room, entries_in, entry_in}
 use Rattle.entries.proofs.Stored.{entries_here, entries_past}
 use Rattle.house.specs.declared.progress.Progress.{Progress}
-use Rattle.house.specs.declared.form.FormOutcome.{FormOutcome}
-use Rattle.house.specs.declared.form.FormOutcome.TheVariants.{Whole, TooLong, LineTooLong, NoRoom}
+use Rattle.house.specs.declared.form.FormRefusal.{FormRefusal}
+use Rattle.house.specs.declared.form.FormRefusal.TheVariants.{TooLong, LineTooLong, NoRoom}
 use Rattle.house.specs.Writes.{long_in, WroteLines}
 use Rattle.house.specs.Keys.{AllListed, AreFormed, PutsKeys, PutsOthers}
 use Rattle.house.proofs.Picks.{listed_on}
@@ -99,7 +100,6 @@ module _ (lim : Limits) (small : lim.header < 2 ^ 24) {v : Version} {h : Bytes} 
   whole_size l = omega (arith, at_size, small)
 
   first_long : m.next.at ≤ lim.header → long_in m ≡ too_long lim.line 0 0 ls
-  unfolding or_else
   first_long l =
       let s = whole_size l in
       (p.is a).long (omega (arith, s, small)) (omega (arith, s, small, lines_count ls))
@@ -114,17 +114,17 @@ module _ (lim : Limits) (small : lim.header < 2 ^ 24) {v : Version} {h : Bytes} 
     | fail q ↦ rw (measured_as, q, outcome_of, lt-leb size lim.header (omega (arith, at_size, leb-false m.next.at lim.header q)))
   ]
 
-abbrev pub is_whole : FormOutcome → Bool
-is_whole (Whole n) = true
-is_whole TooLong = false
-is_whole (LineTooLong l s) = false
-is_whole NoRoom = false
+abbrev pub is_whole : Result ℕ FormRefusal → Bool
+is_whole (Ok n) = true
+is_whole (Err TooLong) = false
+is_whole (Err (LineTooLong l s)) = false
+is_whole (Err NoRoom) = false
 
-pub is_whole_lem : (o : FormOutcome) → is_whole o ≡ true → (ls : List Bytes) → written_of o ls ≡ write_lines ls
-is_whole_lem (Whole n) e ls = refl
-is_whole_lem TooLong e ls = absurd (false≢true e)
-is_whole_lem (LineTooLong l s) e ls = absurd (false≢true e)
-is_whole_lem NoRoom e ls = absurd (false≢true e)
+pub is_whole_lem : (o : Result ℕ FormRefusal) → is_whole o ≡ true → (ls : List Bytes) → written_of o ls ≡ write_lines ls
+is_whole_lem (Ok n) e ls = refl
+is_whole_lem (Err TooLong) e ls = absurd (false≢true e)
+is_whole_lem (Err (LineTooLong l s)) e ls = absurd (false≢true e)
+is_whole_lem (Err NoRoom) e ls = absurd (false≢true e)
 
 -- the code has the form's limits in hand
 module _ (form : Form) {limits : CodeLimits} (g : limits_of limits ≡ limits_by form) {v : Version} {h : Bytes} {es : List Entry} {given none_out none_left : Bytes} {m : Progress}
@@ -132,12 +132,12 @@ module _ (form : Form) {limits : CodeLimits} (g : limits_of limits ≡ limits_by
   small : limits.header < 2 ^ 24
   small = subst (λ (x : Limits). x.header < 2 ^ 24) (sym g) (limits_small form)
 
-  outcome_is : (room : ℕ) {o : FormOutcome} → o ≡ measured_as (limits_of limits) room m → AllListed false v h es → o ≡ outcome_of (limits_by form) room (form_lines v h es)
+  outcome_is : (room : ℕ) {o : Result ℕ FormRefusal} → o ≡ measured_as (limits_of limits) room m → AllListed false v h es → o ≡ outcome_of (limits_by form) room (form_lines v h es)
   outcome_is room e a = e ∙ measured_is (limits_of limits) small p (k.is a) room ∙ ap (λ (x : Limits). outcome_of x room (form_lines v h es)) g
 
 -- what answers the needs of `compare_form`
 pub form_compared : (form : Form) {limits : CodeLimits} → limits_of limits ≡ limits_by form → {v : Version} {h : Bytes} {es : List Entry} {none_out none_left : Bytes} {m : Progress}
-    → {f : Bool} → AreFormed v h es f → PutsForm limits.line f v h es h none_out m none_left → {o : FormOutcome} → o ≡ measured_as (limits_of limits) limits.header m
+    → {f : Bool} → AreFormed v h es f → PutsForm limits.line f v h es h none_out m none_left → {o : Result ℕ FormRefusal} → o ≡ measured_as (limits_of limits) limits.header m
     → ComparesForm (limits_by form) v h es (record { outcome = o; differs = m.next.differs })
 form_compared form {limits} g {v} {h} {es} k p e = record {
   is = λ a. outcome_is form g p k limits.header e a ∙ ap (λ (x : Limits). outcome_of (limits_by form) x.header (form_lines v h es)) g;
@@ -146,7 +146,7 @@ form_compared form {limits} g {v} {h} {es} k p e = record {
 
 -- what answers the needs of `outcome_of`
 module _ (lim : Limits) (room : ℕ) (m : Progress) where
-  pub outcome_long : lim.header < m.next.at → TooLong ≡ measured_as lim room m
+  pub outcome_long : lim.header < m.next.at → Err TooLong ≡ measured_as lim room m
   unfolding measured_as
   outcome_long l = rw (measured_as, lt-leb m.next.at lim.header l)
 
@@ -155,21 +155,21 @@ module _ (lim : Limits) (room : ℕ) (m : Progress) where
     unfolding measured_as
     within = rw (measured_as, le-leb m.next.at lim.header l)
 
-    pub outcome_line : 0 < m.long → LineTooLong m.long m.start ≡ measured_as lim room m
+    pub outcome_line : 0 < m.long → Err (LineTooLong m.long m.start) ≡ measured_as lim room m
     outcome_line b = go m.long refl ∙ sym within
       where
-        go : (k : ℕ) → m.long ≡ k → LineTooLong m.long m.start ≡ lined_as room m.next.at (long_in m)
+        go : (k : ℕ) → m.long ≡ k → Err (LineTooLong m.long m.start) ≡ lined_as room m.next.at (long_in m)
         go zero e = absurd (omega arith)
         go (suc n) e = rw e
 
     module _ (b : m.long ≤ 0) where
-      no_line : long_in m ≡ none
+      no_line : long_in m ≡ None
       no_line = let z : m.long ≡ 0 = omega arith in rw z
 
-      pub outcome_room : room < m.next.at → NoRoom ≡ measured_as lim room m
+      pub outcome_room : room < m.next.at → Err NoRoom ≡ measured_as lim room m
       outcome_room r = sym (within ∙ rw no_line (rw (lined_as, fitted_as, lt-leb m.next.at room r)))
 
-      pub outcome_whole : m.next.at ≤ room → Whole m.next.at ≡ measured_as lim room m
+      pub outcome_whole : m.next.at ≤ room → Ok m.next.at ≡ measured_as lim room m
       outcome_whole r = sym (within ∙ rw no_line (rw (lined_as, fitted_as, le-leb m.next.at room r)))
 
 pub ruleset outcomes = (outcome_long, outcome_line, outcome_room, outcome_whole)

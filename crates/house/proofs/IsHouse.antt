@@ -5,7 +5,7 @@ use native.Mathlib.Omega.{arith}
 use mathlib.Core.Path.{◌≡◌, refl, sym, ap, ap₂, subst, ◌∙◌}
 use mathlib.Core.Bool.{Bool, true, false, true≢false, false≢true}
 use mathlib.Core.List.{List, [], ◌∷◌, ◌++◌, map}
-use mathlib.Core.Option.{Option, none, some}
+use Rattle.std.specs.Prelude.{Option, None, Some}
 use mathlib.Core.Logic.{◌↔◌}
 use lib.Dec.{eqb, leb}
 use lib.ListN.{length}
@@ -74,7 +74,7 @@ no_lf v xs c e g = ((format_pure v).line, go xs e)
 
 -- no line of an accepted run is too long
 short_lines : (lim : Limits) (imposed : Option Version) (room n start count : ℕ) (s : State) (ls : List Bytes) → NoLF ls → {v : Version} {rs : List Record} {c : Columns}
-    → Accepted v rs c (run lim imposed room n start count s (map write_line ls)) → (k at : ℕ) → too_long lim.line k at ls ≡ none
+    → Accepted v rs c (run lim imposed room n start count s (map write_line ls)) → (k at : ℕ) → too_long lim.line k at ls ≡ None
 unfolding too_long
 short_lines lim imposed room n start count s [] p a k at = refl
 short_lines lim imposed room n start count s (l ∷ ls) p a k at =
@@ -172,7 +172,7 @@ module _ {form : Form} {imposed : Option Version} {h : Bytes} {t : List ℕ} {r 
   number_accepted a = sym (ap (λ (x : VerdictMeaning). x.number) (verdict ∙ kept)) ∙ ap outcome_number a.2
 
   -- an accepted call's meaning, and its form
-  own_form : (a : IsAccepted answered) → (m : Meaning) × (means (limits_by form) imposed (room form t) h ≡ some m) × (answer.form ≡ house_form m)
+  own_form : (a : IsAccepted answered) → (m : Meaning) × (means (limits_by form) imposed (room form t) h ≡ Some m) × (answer.form ≡ house_form m)
   own_form a =
       let x = wrote as_house_call a in
       let n = blank_length limit in (
@@ -201,16 +201,16 @@ module _ {form : Form} {imposed : Option Version} {h : Bytes} {t : List ℕ} {r 
   ]
 
   -- yes exactly when the header is accepted and equals its own house form
-  pub is_house_exactly : SizedOption imposed → (r.holds ≡ true) ↔ ((m : Meaning) × (means (limits_by form) imposed (room form t) h ≡ some m) × (h ≡ house_form m))
+  pub is_house_exactly : SizedOption imposed → (r.holds ≡ true) ↔ ((m : Meaning) × (means (limits_by form) imposed (room form t) h ≡ Some m) × (h ≡ house_form m))
   is_house_exactly i = (to, from)
     where
-      to : r.holds ≡ true → (m : Meaning) × (means (limits_by form) imposed (room form t) h ≡ some m) × (h ≡ house_form m)
+      to : r.holds ≡ true → (m : Meaning) × (means (limits_by form) imposed (room form t) h ≡ Some m) × (h ≡ house_form m)
       to e =
           let d = judged_true (said e) in
           let x = own_form (accepted_number d.0) in
           (x.0, x.1, d.1 ∙ x.2)
 
-      from : (m : Meaning) × (means (limits_by form) imposed (room form t) h ≡ some m) × (h ≡ house_form m) → r.holds ≡ true
+      from : (m : Meaning) × (means (limits_by form) imposed (room form t) h ≡ Some m) × (h ≡ house_form m) → r.holds ≡ true
       from x =
           let a = was_meant read x.1 in
           let f : Fits (limits_by form) x.0 = subst (Fits (limits_by form)) a.is (own_form_fits (limits_by form) imposed (room form t) h i a.accepted (x.2 ∙ ap house_form (sym a.is))) in
@@ -227,7 +227,7 @@ module _ {form : Form} {imposed : Option Version} {h : Bytes} {t : List ℕ} {r 
       placed e ∙ rw d.0 (rw (ap (λ (x : Bytes). same x answer.form) d.1 ∙ same_self answer.form))
 
   -- the place of a no on an accepted header is the first place where it and its form differ, or the shorter one's length
-  pub no_place : IsAccepted answered → r.holds ≡ false → (m : Meaning) × (means (limits_by form) imposed (room form t) h ≡ some m) × FirstDiffers h (house_form m) r.differs
+  pub no_place : IsAccepted answered → r.holds ≡ false → (m : Meaning) × (means (limits_by form) imposed (room form t) h ≡ Some m) × FirstDiffers h (house_form m) r.differs
   no_place a e =
       let z = number_accepted a in
       let x = own_form a in
@@ -236,7 +236,7 @@ module _ {form : Form} {imposed : Option Version} {h : Bytes} {t : List ℕ} {r 
 
 -- what a house-form call wrote is its own form: with a table of at least the same size, the call says yes
 pub written_holds : {form : Form} {imposed : Option Version} {h : Bytes} {t : List ℕ} {out : Bytes} {r : HouseAnswer} {t₁ : List ℕ} {out₁ : Bytes} → SizedOption imposed
-    → HouseCall form imposed h t out r t₁ out₁ → IsAccepted r → {u u₁ : List ℕ} {s : IsHouseAnswer} → IsHouseCall form none (form_written r out₁) u s u₁ → room form t ≤ room form u → s.holds ≡ true
+    → HouseCall form imposed h t out r t₁ out₁ → IsAccepted r → {u u₁ : List ℕ} {s : IsHouseAnswer} → IsHouseCall form None (form_written r out₁) u s u₁ → room form t ≤ room form u → s.holds ≡ true
 written_holds {form} {imposed} {h} {t} i call a {u} call' l =
     let x = wrote call a in
     let m = reads_back i call a (room form u) l ∙ means_is (limits_by form) imposed (room form t) h x.accepted in
@@ -267,8 +267,8 @@ room_enough lim r m n = elim (test (leb (length (house_form m)) lim.header)) [
 ]
   where
     within : leb (length (house_form m)) lim.header ≡ true → (x : Option (ℕ × ℕ)) → (lined lim.header r (house_form m) x).number ≡ 28 → ⊥
-    within q (some p) n = omega arith
-    within q none n = let k : ◌≡◌ {A = ℕ} 0 28 = rw (lined, fitted, q) at n in omega arith
+    within q (Some p) n = omega arith
+    within q None n = let k : ◌≡◌ {A = ℕ} 0 28 = rw (lined, fitted, q) at n in omega arith
 
 -- so that an accepted header is never answered by 28
 pub never_28 : (lim : Limits) (imposed : Option Version) (tableRoom : ℕ) (h : Bytes) → (reading lim imposed tableRoom h).number ≡ 0 → (is_house lim imposed tableRoom h).number ≡ 28 → ⊥

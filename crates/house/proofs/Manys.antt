@@ -421,13 +421,10 @@ step_start form v h t given old s a b c = record {
   is = λ x g n. record { listed = x; same = refl; linked = g; marked = record { is = λ m i j o. n m }; ls = []; lines = refl; wrote = wrote_no_lines given old s a b c };
 }
 
-module _ {form : Form} {v : Version} {h : Bytes} {t : List ℕ} {given old : Bytes} {s₀ : Progress} {d : List ℕ} {new : Bytes} {s : Progress} {k : ℕ} (g : Stepping form v h t given old s₀ d new s k) {n : ℕ} (c : n ≡ room form d) where
+module _ {form : Form} {v : Version} {h : Bytes} {t : List ℕ} {given old : Bytes} {s₀ : Progress} {d : List ℕ} {new : Bytes} {s : Progress} {k : ℕ} (g : Stepping form v h t given old s₀ d new s k) {n : ℕ} (c : n ≡ room form t) where
   module _ (l : k < n) where
     pub step_more : {r : Progress} {o : Bytes} {d' : List ℕ} → PutsNew form v h d k given new s r o d' → length o ≡ length new → Stepping form v h t given old s₀ d' o r (k + 1)
-    step_more p a = record { size = a ∙ g.size; same = p.same ∙ g.same; is = λ x f z. p.is (omega arith) t old s₀ (g.is x f z) }
-
-    pub step_less : room form t - (k + 1) < room form t - k
-    step_less = omega (arith, same_room form d t g.same)
+    step_more p a = record { size = a ∙ g.size; same = p.same ∙ g.same; is = λ x f z. p.is (omega (arith, same_room form d t g.same)) t old s₀ (g.is x f z) }
 
   pub step_end : n ≤ k → PutsEach form v h t given old s₀ s new d
   unfolding other_lines
@@ -442,7 +439,7 @@ module _ {form : Form} {v : Version} {h : Bytes} {t : List ℕ} {given old : Byt
     };
   }
 
-pub ruleset steps = (step_more, step_less, step_end)
+pub ruleset steps = (step_more, step_end)
 
 -- what answers the needs of `put_linked`
 module _ {form : Form} {v : Version} {h : Bytes} {t t' t'' : List ℕ} {given old : Bytes} {s r : Progress} {new : Bytes} (b : bare t ≡ t) (l : LinksAll form h t t') (p : PutsEach form v h t' given old s r new t'') where

@@ -2,14 +2,14 @@
 use Prim.Native.Nat.{ℕ, ◌+◌, ◌≤◌, ◌<◌}
 use native.Mathlib.Omega.{arith}
 use mathlib.Core.Path.{◌≡◌, refl, sym, ap, subst, ◌∙◌}
-use mathlib.Core.Bool.{Bool, true, false, not}
+use mathlib.Core.Bool.{Bool, true, false}
 use mathlib.Core.List.{List, [], ◌∷◌, ◌++◌, append-nil}
 use lib.Dec.{ltb}
 use lib.ListN.{length, drop}
 use borrow.Author.Tests.{lt-ltb, le-ltb}
 use Rattle.values.specs.Bytes.{Bytes, ascii, starts}
 use Rattle.values.specs.Written.{last}
-use Rattle.values.proofs.Tests.{and_off, not_true, not_false}
+use Rattle.values.proofs.Tests.{and_off}
 use Rattle.rules.specs.Version.{Version}
 use Rattle.rules.specs.Known.{typed_keys}
 use Rattle.rules.specs.Entry.{Entry}
@@ -38,13 +38,13 @@ module _ (e : CodeEntry) where
   record_is a b = rw (lt-ltb 1 e.kind (omega arith), lt-ltb e.kind 9 (omega arith))
 
   module _ (h prefix : Bytes) {q : Bool} (a : q ≡ is_record (entry_of e)) where
-    pub under_not : not q ≡ true → false ≡ is_under h prefix (entry_of e)
+    pub under_not : q ≡ false → false ≡ is_under h prefix (entry_of e)
     unfolding is_under
-    under_not n = rw (← a, not_true q n)
+    under_not n = rw (← a, n)
 
-    pub under_line : not q ≡ false → {p : Bytes} → p ≡ line_in h (entry_of e) → {r : Bool} → r ≡ starts prefix p → r ≡ is_under h prefix (entry_of e)
+    pub under_line : q ≡ true → {p : Bytes} → p ≡ line_in h (entry_of e) → {r : Bool} → r ≡ starts prefix p → r ≡ is_under h prefix (entry_of e)
     unfolding is_under
-    under_line n i f = f ∙ rw (← a, not_false q n, i)
+    under_line n i f = f ∙ rw (← a, n, i)
 
 pub ruleset unders = (record_low, record_high, record_is, under_not, under_line)
 

@@ -3,7 +3,7 @@ use Prim.Native.Nat.{ℕ, zero, suc, ◌+◌, ◌≤◌}
 use native.Mathlib.Omega.{arith}
 use mathlib.Core.Path.{◌≡◌, refl, sym, ap, subst, ◌∙◌}
 use mathlib.Core.List.{List}
-use mathlib.Core.Option.{Option, none, some}
+use Rattle.std.specs.Prelude.{Option, None, Some, Result, Ok, Err}
 use mathlib.Core.Logic.{◌↔◌}
 use lib.Dec.{leb}
 use lib.ListN.{length, take, drop}
@@ -24,8 +24,6 @@ use Rattle.rules.proofs.Rooms.{roomier}
 use Rattle.records.specs.Formats.{version_of}
 use Rattle.records.specs.declared.file_format.FileFormat.{FileFormat}
 use Rattle.records.proofs.Refusals.{number_suc}
-use Rattle.header.specs.declared.parser.Outcome.{Outcome}
-use Rattle.header.specs.declared.parser.Outcome.TheVariants as outcome
 use Rattle.header.specs.Parsers.{outcome_number, outcome_says, accepted_in}
 use Rattle.entries.specs.declared.form.Form.{Form}
 use Rattle.entries.specs.Values.{limits_by}
@@ -33,6 +31,7 @@ use Rattle.entries.specs.Tables.{room}
 use Rattle.house.specs.declared.form.HouseAnswer.{HouseAnswer}
 use Rattle.house.specs.Answers.{FormMeaning, HouseCall, IsAccepted, form_written, meant, means}
 use Rattle.rules.specs.Claims.{SizedOption, Accepted, Fits}
+use Rattle.records.specs.declared.refusal.Refusal.{Refusal}
 
 pub take_sets : (t₀ ws : List ℕ) (n : ℕ) → n ≡ length ws → length ws ≤ length t₀ → take n (sets t₀ 0 ws) ≡ ws
 take_sets t₀ ws n e l = rw (e, sets-eq ws t₀ 0 (omega arith)) (take-append_seam ws (drop (0 + length ws) t₀))
@@ -53,8 +52,8 @@ module _ (lim : Limits) (room : ℕ) (r : Reading) (m : Meaning) where
   ]
     where
       short : (x : Option (ℕ × ℕ)) → too_long lim.line 0 0 (house_lines m) ≡ x → length (house_form m) ≤ lim.header → (lined room r (house_form m) x).number ≡ 0 → Formed lim room m (lined room r (house_form m) x)
-      short (some p) e l n = absurd (omega arith)
-      short none e l n = elim (test (leb (length (house_form m)) room)) [
+      short (Some p) e l n = absurd (omega arith)
+      short None e l n = elim (test (leb (length (house_form m)) room)) [
         | fail q ↦ let k : ◌≡◌ {A = ℕ} 28 0 = rw (lined, fitted, q) at n in absurd (omega arith)
         | pass q ↦ rw (lined, fitted, q) (record { fits = record { header = l; lines = e }; form = refl; inside = leb-true (length (house_form m)) room q })
       ]
@@ -105,7 +104,7 @@ module _ {form : Form} {imposed : Option Version} {h : Bytes} {t : List ℕ} {ou
       number : answer.number ≡ 0
       number = sym (ap (λ (x : FormMeaning). x.number) call.answer) ∙ ap outcome_number a.2
 
-      go : (s : State) → read.state ≡ s → accepted_in 0 read.state ≡ some (version_of a.0, a.1) → Wrote form imposed h t out r out'
+      go : (s : State) → read.state ≡ s → accepted_in 0 read.state ≡ Some (version_of a.0, a.1) → Wrote form imposed h t out r out'
       go empty q e = none_not (rw q at e)
       go (ready v rs) q e = none_not (rw q at e)
       go (done v rs c) q e =
@@ -124,7 +123,7 @@ module _ {form : Form} {imposed : Option Version} {h : Bytes} {t : List ℕ} {ou
             inside = f.inside;
           }
 
-pub means_is : (lim : Limits) (imposed : Option Version) (room : ℕ) (h : Bytes) {v : Version} {rs : List Record} {c : Columns} → Accepted v rs c (reading lim imposed room h) → means lim imposed room h ≡ some (header_meaning v rs c)
+pub means_is : (lim : Limits) (imposed : Option Version) (room : ℕ) (h : Bytes) {v : Version} {rs : List Record} {c : Columns} → Accepted v rs c (reading lim imposed room h) → means lim imposed room h ≡ Some (header_meaning v rs c)
 means_is lim imposed room h a = rw (a.number, a.state)
 
 -- a header with a meaning was accepted
@@ -135,18 +134,18 @@ pub record Meant (m : Meaning) (r : Reading) : Type 0 where
   pub accepted : Accepted version records columns r
   pub is : header_meaning version records columns ≡ m
 
-pub was_meant : (r : Reading) {m : Meaning} → meant r.number r.state ≡ some m → Meant m r
+pub was_meant : (r : Reading) {m : Meaning} → meant r.number r.state ≡ Some m → Meant m r
 was_meant r {m} e = go r.number refl r.state refl e
   where
-    go : (n : ℕ) → r.number ≡ n → (s : State) → r.state ≡ s → meant n s ≡ some m → Meant m r
+    go : (n : ℕ) → r.number ≡ n → (s : State) → r.state ≡ s → meant n s ≡ Some m → Meant m r
     go zero z empty q e = none_not e
     go zero z (ready v rs) q e = none_not e
     go zero z (done v rs c) q e = record { version = v; records = rs; columns = c; accepted = record { number = z; state = q }; is = some_is e }
     go (suc n) z s q e = none_not e
 
-pub is_accepted : (o : Outcome) → outcome_number o ≡ 0 → (f : FileFormat) × (n : ℕ) × (o ≡ outcome.Accepted f n)
-is_accepted (outcome.Accepted f n) e = (f, n, refl)
-is_accepted (outcome.Refused x) e = let n = number_suc x in absurd (omega (arith, n.1, e))
+pub is_accepted : (o : Result (FileFormat × ℕ) Refusal) → outcome_number o ≡ 0 → (f : FileFormat) × (n : ℕ) × (o ≡ Ok (f, n))
+is_accepted (Ok (f, n)) e = (f, n, refl)
+is_accepted (Err x) e = let n = number_suc x in absurd (omega (arith, n.1, e))
 
 house_meant : (lim : Limits) (size : ℕ) (g : Reading) {m : Meaning} → Meant m g → house_of lim size g g.state ≡ form_answer lim size g m
 house_meant lim size g a =
@@ -155,7 +154,7 @@ house_meant lim size g a =
 
 -- where a header means m, whose form fits the limits and the output, the call is accepted and writes that form
 pub form_written_lem : {form : Form} {imposed : Option Version} {h : Bytes} {t : List ℕ} {out : Bytes} {r : HouseAnswer} {t' : List ℕ} {out' : Bytes} → HouseCall form imposed h t out r t' out'
-    → {m : Meaning} → means (limits_by form) imposed (room form t) h ≡ some m → Fits (limits_by form) m → length (house_form m) ≤ length out → IsAccepted r × (form_written r out' ≡ house_form m)
+    → {m : Meaning} → means (limits_by form) imposed (room form t) h ≡ Some m → Fits (limits_by form) m → length (house_form m) ≤ length out → IsAccepted r × (form_written r out' ≡ house_form m)
 unfolding house
 form_written_lem {form} {imposed} {h} {t} {out} {r} call {m} e f n =
     let g = reading (limits_by form) imposed (room form t) h in
@@ -177,28 +176,28 @@ one_form {form} {imposed} {imposed'} {h} {h'} {t} {u = u} i j p q a b =
     let n = means_is (limits_by form) imposed' (room form u) h' y.accepted in
     let same = house_canonical (limits_by form) imposed imposed' (room form t) (room form u) h h' i j x.accepted y.accepted x.fits y.fits in (
       (λ e. x.written ∙ same.0 (some_is (sym m ∙ e ∙ n)) ∙ sym y.written),
-      (λ e. m ∙ ap some (same.1 (sym x.written ∙ e ∙ y.written)) ∙ sym n),
+      (λ e. m ∙ ap Some (same.1 (sym x.written ∙ e ∙ y.written)) ∙ sym n),
     )
 
 module _ {form : Form} {imposed : Option Version} {h : Bytes} {t : List ℕ} {out : Bytes} {r : HouseAnswer} {t₁ : List ℕ} {out₁ : Bytes}
     (sized : SizedOption imposed) (call : HouseCall form imposed h t out r t₁ out₁) (a : IsAccepted r) where
   -- what was written, read with a table of at least the same size
   again : (n : ℕ) → room form t ≤ n
-      → (rs : List Record) × Accepted (wrote call a).version rs (wrote call a).columns (reading (limits_by form) none n (form_written r out₁))
+      → (rs : List Record) × Accepted (wrote call a).version rs (wrote call a).columns (reading (limits_by form) None n (form_written r out₁))
       × (header_meaning (wrote call a).version rs (wrote call a).columns ≡ header_meaning (wrote call a).version (wrote call a).records (wrote call a).columns)
   again n l =
       let x = wrote call a in
       let b = house_reads_back (limits_by form) imposed (room form t) h sized x.accepted x.fits in
       let g = house_form (header_meaning x.version x.records x.columns) in
-      let more : reading (limits_by form) none n g ≡ reading (limits_by form) none (room form t) g = roomier (limits_by form) none (room form t) n g l b.1.number in
+      let more : reading (limits_by form) None n g ≡ reading (limits_by form) None (room form t) g = roomier (limits_by form) None (room form t) n g l b.1.number in
       rw x.written (b.0, subst (Accepted x.version b.0 x.columns) (sym more) b.1, b.2)
 
   -- reading what was written gives the same meaning
-  pub reads_back : (n : ℕ) → room form t ≤ n → means (limits_by form) none n (form_written r out₁) ≡ means (limits_by form) imposed (room form t) h
-  reads_back n l = let b = again n l in means_is (limits_by form) none n (form_written r out₁) b.1 ∙ ap some b.2 ∙ sym (means_is (limits_by form) imposed (room form t) h (wrote call a).accepted)
+  pub reads_back : (n : ℕ) → room form t ≤ n → means (limits_by form) None n (form_written r out₁) ≡ means (limits_by form) imposed (room form t) h
+  reads_back n l = let b = again n l in means_is (limits_by form) None n (form_written r out₁) b.1 ∙ ap Some b.2 ∙ sym (means_is (limits_by form) imposed (room form t) h (wrote call a).accepted)
 
   -- a call on what was written, with a table of at least the same size and an output that holds it, is accepted and writes the same
-  pub fixed : {u u₁ : List ℕ} {o o₁ : Bytes} {s : HouseAnswer} → HouseCall form none (form_written r out₁) u o s u₁ o₁ → room form t ≤ room form u → r.length ≤ length o
+  pub fixed : {u u₁ : List ℕ} {o o₁ : Bytes} {s : HouseAnswer} → HouseCall form None (form_written r out₁) u o s u₁ o₁ → room form t ≤ room form u → r.length ≤ length o
       → IsAccepted s × (form_written s o₁ ≡ form_written r out₁)
   fixed {u} {o = o} call' l m =
       let x = wrote call a in

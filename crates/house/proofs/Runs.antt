@@ -4,7 +4,8 @@ use native.Mathlib.Omega.{arith}
 use mathlib.Core.Path.{◌≡◌, refl, sym, ap, subst, ◌∙◌}
 use mathlib.Core.Bool.{Bool, true, false, not}
 use mathlib.Core.List.{List, [], ◌∷◌, ◌++◌, append_assoc, append-nil}
-use mathlib.Core.Option.{or_else}
+use Rattle.std.specs.Option.{option_or}
+use Rattle.std.specs.Prelude.{}
 use lib.Dec.{eqb}
 use lib.ListN.{length, get_or, take, drop, length-take, length-drop}
 use lib.Seq.{take-add, drop-drop}
@@ -115,8 +116,8 @@ module _ (form : Form) (h t prefix : Bytes) (limit k : ℕ) (l : k < room form t
   unfolding line_end
   stop_is = z ∙ ap (line_end h) ee
 
-  alone : (f : Bool) → FindsRun form f h t prefix limit k (record { end = k + 1; stop = stop })
-  alone f = record {
+  pub run_alone : {f : Bool} → FindsRun form f h t prefix limit k (record { end = k + 1; stop = stop })
+  run_alone = record {
     ahead = omega arith;
     within = omega arith;
     under = λ m a b. absurd (omega arith);
@@ -124,13 +125,7 @@ module _ (form : Form) (h t prefix : Bytes) (limit k : ℕ) (l : k < room form t
     more = λ o. absurd (omega arith);
   }
 
-  pub run_unformed : {f : Bool} → not f ≡ true → FindsRun form f h t prefix limit k (record { end = k + 1; stop = stop })
-  run_unformed {f} o = alone f
-
   module _ {line : Bytes} (i : line ≡ line_in h (entry_of e)) {q : Bool} (s : IsShort limit line q) where
-    pub run_long : not q ≡ true → (f : Bool) → FindsRun form f h t prefix limit k (record { end = k + 1; stop = stop })
-    run_long o f = alone f
-
     pub run_start : not q ≡ false → Running form h t prefix limit k (k + 1) stop
     unfolding lines_at write_lines too_long
     run_start o =
@@ -139,7 +134,7 @@ module _ (form : Form) (h t prefix : Bytes) (limit k : ℕ) (l : k < room form t
         let x = line_in h (entry_in form t k) in
         record {
           low = rw stop_is (omega arith);
-          found = alone true;
+          found = run_alone;
           lines = record {
             text = rw (n, stop_is, line_taken form h t k) (append-nil (write_line x) ∙ short_line b);
             short = λ m a. rw (n, too_long, le-leb (length x) limit b.size);
@@ -182,7 +177,7 @@ module _ {form : Form} {h t prefix : Bytes} {limit k end stop : ℕ} (g : Runnin
         rw z (lines_snoc form h t (end - k) k ∙ rw y)
 
     pub run_more : Running form h t prefix limit k (end + 1) p
-    unfolding write_lines too_long or_else
+    unfolding write_lines too_long
     run_more =
         let low = g.low in
         let a = g.found.ahead in
@@ -209,7 +204,7 @@ module _ {form : Form} {h t prefix : Bytes} {limit k end stop : ℕ} (g : Runnin
           short = λ m a. ap (too_long limit m a) lines_on ∙ too_long_append limit m a (lines_at form h t k (end - k)) (line ∷ []) ∙ rw (g.lines.short m a) (rw (too_long, le-leb (length line) limit next.short.size));
         }
 
-pub ruleset findings = (run_unformed, run_long, run_start, run_end, run_more)
+pub ruleset findings = (run_alone, run_start, run_end, run_more)
 
 pub run_here : (form : Form) (t : List ℕ) {k n : ℕ} → n ≡ room form t → k < n → k < room form t
 run_here form t en l = rw (← en) l

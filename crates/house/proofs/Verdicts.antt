@@ -4,7 +4,7 @@ use native.Mathlib.Omega.{arith}
 use mathlib.Core.Path.{◌≡◌, refl, sym, ap, ap₂, ◌∙◌}
 use mathlib.Core.Bool.{Bool, true, false, false≢true}
 use mathlib.Core.List.{List, [], ◌∷◌}
-use mathlib.Core.Option.{Option}
+use Rattle.std.specs.Prelude.{Option, Result, Ok, Err}
 use lib.Dec.{eqb, leb, ltb}
 use lib.ListN.{length, get_or, drop, drop_of_length-le}
 use borrow.Author.Tests.{eqb-true, eq-eqb, ne_eqb, ltb-true, ltb-false, lt-ltb, le-ltb, leb-true}
@@ -29,12 +29,10 @@ use Rattle.entries.specs.declared.form.Form.{Form}
 use Rattle.entries.specs.Values.{limits_by}
 use Rattle.entries.specs.Tables.{room, first_entries, entries_in}
 use Rattle.entries.proofs.Words.{limits_small}
-use Rattle.header.specs.declared.parser.Outcome.{Outcome}
-use Rattle.header.specs.declared.parser.Outcome.TheVariants as outcome
 use Rattle.header.specs.declared.parser.ReadAnswer.{ReadAnswer}
 use Rattle.header.specs.Parsers.{outcome_number, read_into, ReadCall}
-use Rattle.house.specs.declared.form.FormOutcome.{FormOutcome}
-use Rattle.house.specs.declared.form.FormOutcome.TheVariants.{Whole, TooLong, LineTooLong, NoRoom}
+use Rattle.house.specs.declared.form.FormRefusal.{FormRefusal}
+use Rattle.house.specs.declared.form.FormRefusal.TheVariants.{TooLong, LineTooLong, NoRoom}
 use Rattle.house.specs.declared.form.Compared.{Compared}
 use Rattle.house.specs.declared.form.HouseAnswer.{HouseAnswer}
 use Rattle.house.specs.declared.form.IsHouseAnswer.{IsHouseAnswer}
@@ -91,11 +89,11 @@ compared h at (b ∷ text) l = elim (test (is_at h at b)) [
 
 -- what answers the needs of `judge`
 module _ (a : HouseAnswer) (size differs : ℕ) where
-  pub judge_refused : {x : Refusal} → a.outcome ≡ outcome.Refused x → {r : IsHouseAnswer} → r ≡ told_answer a false 0 → r ≡ verdict a size differs
+  pub judge_refused : {x : Refusal} → a.outcome ≡ Err x → {r : IsHouseAnswer} → r ≡ told_answer a false 0 → r ≡ verdict a size differs
   unfolding verdict
   judge_refused e q = q ∙ sym (ap (verdict_by a size differs) e)
 
-  module _ {f : FileFormat} {n : ℕ} (e : a.outcome ≡ outcome.Accepted f n) {r : IsHouseAnswer} where
+  module _ {f : FileFormat} {n : ℕ} (e : a.outcome ≡ Ok (f, n)) {r : IsHouseAnswer} where
     pub judge_early : differs < a.length → r ≡ told_answer a false differs → r ≡ verdict a size differs
     unfolding verdict
     judge_early l q = q ∙ sym (ap (verdict_by a size differs) e ∙ rw (verdict_by, lt-ltb differs a.length l))
@@ -148,7 +146,7 @@ module _ (h : Bytes) (a : HouseAnswer) (r : Reading) (f : HouseReading) (e : for
     | fail s ↦ s
   ]
 
-  found : f.number ≡ 0 → a.length ≡ length f.form → (v : FileFormat) (n : ℕ) → verdict_means (verdict_by a (length h) differs (outcome.Accepted v n)) ≡ is_house_means r (judged h f f.number)
+  found : f.number ≡ 0 → a.length ≡ length f.form → (v : FileFormat) (n : ℕ) → verdict_means (verdict_by a (length h) differs (Ok (v, n))) ≡ is_house_means r (judged h f f.number)
   found z s v n = elim (test (ltb differs a.length)) [
     | pass t ↦
         let p = at_place z in
@@ -173,22 +171,22 @@ module _ (h : Bytes) (a : HouseAnswer) (r : Reading) (f : HouseReading) (e : for
   unfolding verdict
   verdict_is = go a.outcome refl
     where
-      number_is : {o : Outcome} → a.outcome ≡ o → f.number ≡ outcome_number o
+      number_is : {o : Result (FileFormat × ℕ) Refusal} → a.outcome ≡ o → f.number ≡ outcome_number o
       number_is q = sym (ap (λ (x : FormMeaning). x.number) e) ∙ ap outcome_number q
 
-      go : (o : Outcome) → a.outcome ≡ o → verdict_means (verdict_by a (length h) differs a.outcome) ≡ is_house_means r (judged h f f.number)
-      go (outcome.Refused x) q =
+      go : (o : Result (FileFormat × ℕ) Refusal) → a.outcome ≡ o → verdict_means (verdict_by a (length h) differs a.outcome) ≡ is_house_means r (judged h f f.number)
+      go (Err x) q =
           let n = number_suc x in
-          ap (λ (o : Outcome). verdict_means (verdict_by a (length h) differs o)) q ∙ tells false 0 ∙ sym (ap (λ (k : ℕ). is_house_means r (judged h f k)) (number_is q ∙ n.1))
-      go (outcome.Accepted v n) q =
-          ap (λ (o : Outcome). verdict_means (verdict_by a (length h) differs o)) q ∙ found (number_is q) (ap (λ (x : FormMeaning). x.size) e) v n
+          ap (λ (o : Result (FileFormat × ℕ) Refusal). verdict_means (verdict_by a (length h) differs o)) q ∙ tells false 0 ∙ sym (ap (λ (k : ℕ). is_house_means r (judged h f k)) (number_is q ∙ n.1))
+      go (Ok (v, n)) q =
+          ap (λ (o : Result (FileFormat × ℕ) Refusal). verdict_means (verdict_by a (length h) differs o)) q ∙ found (number_is q) (ap (λ (x : FormMeaning). x.size) e) v n
 
 -- the form of an accepted call is whole, and within the limit
-accepted_whole : (a : ReadAnswer) (o : FormOutcome) → outcome_number (form_answered a o).outcome ≡ 0 → is_whole o ≡ true
-accepted_whole a (Whole n) z = refl
-accepted_whole a TooLong z = let n = number_suc refusal.HeaderTooLong in absurd (omega (arith, n.1, z))
-accepted_whole a (LineTooLong l s) z = let n = number_suc refusal.LineTooLong in absurd (omega (arith, n.1, z))
-accepted_whole a NoRoom z = let n = number_suc refusal.FormTooLong in absurd (omega (arith, n.1, z))
+accepted_whole : (a : ReadAnswer) (o : Result ℕ FormRefusal) → outcome_number (form_answered a o).outcome ≡ 0 → is_whole o ≡ true
+accepted_whole a (Ok n) z = refl
+accepted_whole a (Err TooLong) z = let n = number_suc refusal.HeaderTooLong in absurd (omega (arith, n.1, z))
+accepted_whole a (Err (LineTooLong l s)) z = let n = number_suc refusal.LineTooLong in absurd (omega (arith, n.1, z))
+accepted_whole a (Err NoRoom) z = let n = number_suc refusal.FormTooLong in absurd (omega (arith, n.1, z))
 
 whole_within : (lim : Limits) (space : ℕ) (ls : List Bytes) → is_whole (outcome_of lim space ls) ≡ true → length (write_lines ls) ≤ lim.header
 unfolding outcome_of
@@ -208,7 +206,7 @@ module _ (form : Form) (imposed : Option Version) (h : Bytes) (t₀ : List ℕ) 
   abbrev form_in : HouseReading
   form_in = house (limits_by form) imposed (room form t₀) (header_limit) h
 
-  pub is_house_refused : {x : Refusal} → a.outcome ≡ outcome.Refused x → {q : HouseAnswer} → q ≡ refused_answer x a.line a.start a.entries → {r : IsHouseAnswer} → r ≡ told_answer q false 0
+  pub is_house_refused : {x : Refusal} → a.outcome ≡ Err x → {q : HouseAnswer} → q ≡ refused_answer x a.line a.start a.entries → {r : IsHouseAnswer} → r ≡ told_answer q false 0
       → IsHouseCall form imposed h t₀ r t
   unfolding is_house
   is_house_refused {x} o {q} e {r} w =
@@ -221,12 +219,12 @@ module _ (form : Form) (imposed : Option Version) (h : Bytes) (t₀ : List ℕ) 
         table = call.table;
       }
 
-  module _ {f : FileFormat} {n : ℕ} (o : a.outcome ≡ outcome.Accepted f n) {kept : List ℕ} (ek : kept ≡ first_entries form t a.entries) {t' : List ℕ} (et : t' ≡ t) {r : IsHouseAnswer}
+  module _ {f : FileFormat} {n : ℕ} (o : a.outcome ≡ Ok (f, n)) {kept : List ℕ} (ek : kept ≡ first_entries form t a.entries) {t' : List ℕ} (et : t' ≡ t) {r : IsHouseAnswer}
       (w : AnswersComparison (limits_by form) a f h (entries_in form kept) r) where
     abbrev ls : List Bytes
     ls = form_lines (version_of f) h (entries_in form kept)
 
-    abbrev written : FormOutcome
+    abbrev written : Result ℕ FormRefusal
     written = w.compared.outcome
 
     readable : AllListed false (version_of f) h (entries_in form kept)

@@ -4,7 +4,8 @@ use native.Mathlib.Omega.{arith}
 use mathlib.Core.Path.{◌≡◌, refl, sym, ap, subst, ◌∙◌}
 use mathlib.Core.Bool.{Bool, true, false, not, ◌||◌, or_assoc, or-false}
 use mathlib.Core.List.{List, [], ◌∷◌, ◌++◌, append_assoc, append-nil}
-use mathlib.Core.Option.{Option, none, some, or_else}
+use Rattle.std.specs.Option.{option_or}
+use Rattle.std.specs.Prelude.{Option, None, Some, Ok, Err}
 use lib.Dec.{eqb, leb}
 use lib.ListN.{length, drop, length-append}
 use borrow.Author.Tests.{le-leb, lt-leb, leb-true, leb-false, eqb-true, eqb-false}
@@ -35,7 +36,7 @@ use Rattle.forms.proofs.Lines.{entry_is, entry_ended}
 use Rattle.house.specs.declared.progress.Progress.{Progress}
 use Rattle.house.specs.declared.sizes.Sum.{Sum}
 use Rattle.house.specs.declared.form.Compared.{Compared}
-use Rattle.house.specs.declared.form.FormOutcome.TheVariants.{Whole, NoRoom}
+use Rattle.house.specs.declared.form.FormRefusal.TheVariants.{NoRoom}
 use Rattle.house.specs.Writes.{long_in, WroteLines, Readable}
 use Rattle.house.specs.Keys.{is_record, is_under, picked, is_other_record, prefix_in, Listed, AllListed, AreFormed, lines_under, seen_under, is_first, lines_if, other_lines}
 use Rattle.house.specs.Forms.{column_line, record_lines, form_lines, PutsForm, outcome_of, fitted_as, written_of, WritesForm, ComparesForm}
@@ -85,7 +86,7 @@ unfolding total write_lines
 total_size [] = refl
 total_size (l ∷ ls) = length-append (write_line l) (write_lines ls) ∙ ap (line_size l +◌) (total_size ls)
 
-none_long : (limit n start : ℕ) (ls : List Bytes) → total (excess limit) ls ≡ 0 → too_long limit n start ls ≡ none
+none_long : (limit n start : ℕ) (ls : List Bytes) → total (excess limit) ls ≡ 0 → too_long limit n start ls ≡ None
 unfolding total too_long
 none_long limit n start [] z = refl
 none_long limit n start (l ∷ ls) z = elim (test (leb (length l) limit)) [
@@ -93,12 +94,12 @@ none_long limit n start (l ∷ ls) z = elim (test (leb (length l) limit)) [
   | fail q ↦ let y : 1 + total (excess limit) ls ≡ 0 = rw (excess, q) at z in absurd (omega arith)
 ]
 
-long_none : (limit n start : ℕ) (ls : List Bytes) → too_long limit n start ls ≡ none → total (excess limit) ls ≡ 0
+long_none : (limit n start : ℕ) (ls : List Bytes) → too_long limit n start ls ≡ None → total (excess limit) ls ≡ 0
 unfolding total too_long
 long_none limit n start [] z = refl
 long_none limit n start (l ∷ ls) z = elim (test (leb (length l) limit)) [
   | pass q ↦ let y = long_none limit (suc n) (start + length (write_line l)) ls (rw (too_long, q) at z) in rw (excess, q) (omega (arith, y))
-  | fail q ↦ let y : ◌≡◌ {A = Option (ℕ × ℕ)} (some (suc n, start)) none = rw (too_long, q) at z in never cc
+  | fail q ↦ let y : ◌≡◌ {A = Option (ℕ × ℕ)} (Some (suc n, start)) None = rw (too_long, q) at z in never cc
 ]
 
 -- The size of lines of which m are too long, and which take n bytes
@@ -485,7 +486,6 @@ module _ (limit : ℕ) (v : Version) (columns : Bytes) {given old : Bytes} {r₁
   at_end_lem = outer_put.text.place ∙ ap (onward 0) (total_size outer)
 
   first_long : bytes ≤ last → long_in r₂ ≡ too_long limit 0 0 outer
-  unfolding or_else
   first_long l = let z = total_size outer in outer_put.long (omega (arith, z)) (omega arith)
 
   -- with other lines
@@ -503,9 +503,9 @@ module _ (limit : ℕ) (v : Version) (columns : Bytes) {given old : Bytes} {r₁
     ]);
   }
     where
-      noted : (n : ℕ) → r₂.long ≡ n → long_in r₂ ≡ none → ⊥
+      noted : (n : ℕ) → r₂.long ≡ n → long_in r₂ ≡ None → ⊥
       noted zero z y = omega arith
-      noted (suc n) z y = let x : ◌≡◌ {A = Option (ℕ × ℕ)} (some (suc n, r₂.start)) none = rw z at y in never cc
+      noted (suc n) z y = let x : ◌≡◌ {A = Option (ℕ × ℕ)} (Some (suc n, r₂.start)) None = rw z at y in never cc
 
   pub size_sum : r₂.long ≤ 0 → {r : ℕ} → r ≡ onward r₂.next.at records → SizesForm limit v columns records r
   unfolding onward
@@ -519,7 +519,7 @@ module _ (limit : ℕ) (v : Version) (columns : Bytes) {given old : Bytes} {r₁
           | pass f ↦
               let i = leb-true bytes last f in
               let zero-long : r₂.long ≡ 0 = omega arith in
-              let none_yet : long_in r₂ ≡ none = rw zero-long in
+              let none_yet : long_in r₂ ≡ None = rw zero-long in
               let z : over + m ≡ m = let c = long_none limit 0 0 outer (sym (first_long i) ∙ none_yet) in omega (arith, c) in
               rw z (sym (sized_more m n bytes) ∙ rw (← size_totals limit ls, ← e) (omega (arith, y, a, i)))
         ]);
@@ -544,8 +544,8 @@ module _ (lim : Limits) (ls : List Bytes) where
   ]
     where
       go : (x : Option (ℕ × ℕ)) → too_long lim.line 0 0 ls ≡ x → leb bytes_of lim.header ≡ true → (outcome_of lim a ls ≡ outcome_of lim b ls) × (written_of (outcome_of lim a ls) ls ≡ [])
-      go (some p) e q = (rw (outcome_of, q, e), rw (outcome_of, q, e))
-      go none e q =
+      go (Some p) e q = (rw (outcome_of, q, e), rw (outcome_of, q, e))
+      go None e q =
           let z = size_totals lim.line ls in
           let x : size_of lim.line ls ≡ onward 0 (total line_size ls) = rw (long_none lim.line 0 0 ls e) at z in
           absurd (omega (arith, x, total_size ls, leb-true bytes_of lim.header q))
@@ -582,10 +582,10 @@ module _ (form : Form) {limits : CodeLimits} (g : limits_of limits ≡ limits_by
     fitted : (space : ℕ) → AllListed false v h es → outcome_of (limits_by form) space ls ≡ fitted_as space size
     fitted space a = ap (λ (x : Limits). outcome_of x space ls) (sym g) ∙ sum_fits (limits_of limits) ls small (rw (size_is a) at l) space ∙ ap (fitted_as space) (sym (size_is a))
 
-    pub sum_no_room : {out : Bytes} → length out < size → WritesForm (limits_by form) v h es out NoRoom out
+    pub sum_no_room : {out : Bytes} → length out < size → WritesForm (limits_by form) v h es out (Err NoRoom) out
     sum_no_room {out} b = record { is = λ a. rw (fitted (length out) a, fitted_as, lt-leb size (length out) b); output = λ a. refl }
 
-    pub sum_whole : {out : Bytes} → size ≤ length out → {given : Bytes} {m : Progress} {new : Bytes} → PutsForm limits.line r.formed v h es given out m new → WritesForm (limits_by form) v h es out (Whole size) new
+    pub sum_whole : {out : Bytes} → size ≤ length out → {given : Bytes} {m : Progress} {new : Bytes} → PutsForm limits.line r.formed v h es given out m new → WritesForm (limits_by form) v h es out (Ok size) new
     sum_whole {out} b p = record { is = λ a. rw (fitted (length out) a, fitted_as, le-leb size (length out) b); output = λ a. (p.is (s.formed.is a)).text.output }
 
 pub ruleset sum_writes = (sum_formed, sum_refused, sum_no_room, sum_whole)

@@ -4,7 +4,8 @@ use native.Mathlib.Omega.{arith}
 use mathlib.Core.Path.{◌≡◌, refl, sym, ap, subst, ◌∙◌}
 use mathlib.Core.Bool.{Bool, true, false}
 use mathlib.Core.List.{List, [], ◌∷◌, ◌++◌, append_assoc, append-nil}
-use mathlib.Core.Option.{Option, none, some, or_else}
+use Rattle.std.specs.Option.{option_or}
+use Rattle.std.specs.Prelude.{Option, None, Some}
 use lib.Dec.{eqb, leb}
 use lib.ListN.{length, length-append}
 use borrow.Author.Tests.{eq-eqb, ne_eqb, lt-ltb, le-ltb, leb-true, leb-false}
@@ -56,8 +57,8 @@ pub ruleset notes = (note_long, note_short, note_back, note_later)
 -- The first line that is too long
 
 pub too_long_append : (limit n start : ℕ) (ls ms : List Bytes)
-    → too_long limit n start (ls ++ ms) ≡ or_else (too_long limit n start ls) (too_long limit (n + length ls) (start + length (write_lines ls)) ms)
-unfolding too_long write_lines or_else
+    → too_long limit n start (ls ++ ms) ≡ option_or (too_long limit n start ls) (too_long limit (n + length ls) (start + length (write_lines ls)) ms)
+unfolding too_long write_lines
 too_long_append limit n start [] ms = let a : n + 0 ≡ n = omega arith in let b : start + 0 ≡ start = omega arith in rw (a, b)
 too_long_append limit n start (l ∷ ls) ms = elim (test (leb (length l) limit)) [
   | pass e ↦
@@ -88,18 +89,17 @@ lines_count (l ∷ ls) = rw (length-append (write_line l) (write_lines ls)) (ome
 
 -- Lines after lines
 
-else_none : (x : Option (ℕ × ℕ)) → or_else x none ≡ x
-unfolding or_else
-else_none none = refl
-else_none (some p) = refl
+else_none : (x : Option (ℕ × ℕ)) → option_or x None ≡ x
+else_none None = refl
+else_none (Some p) = refl
 
 pub wrote_no_lines : (given out : Bytes) (s : Progress) → s.next.at ≤ last → s.lines ≤ last → length out ≤ last → WroteLines given out s [] s out
-unfolding write_lines too_long onward or_else
+unfolding write_lines too_long onward
 wrote_no_lines given out s a b d = record { limit = refl; formed = refl; text = puts_nothing given out s.next a d; count = omega arith; long = λ x y. sym (else_none (long_in s)) }
 
 pub then_lines : {given out : Bytes} {s : Progress} {ls : List Bytes} {r : Progress} {o : Bytes} {ms : List Bytes} {r' : Progress} {o' : Bytes}
     → WroteLines given out s ls r o → WroteLines given o r ms r' o' → WroteLines given out s (ls ++ ms) r' o'
-unfolding onward or_else
+unfolding onward
 then_lines {given} {out} {s} {ls} {r} {o} {ms} {r'} {o'} p q = record {
   limit = q.limit ∙ p.limit;
   formed = q.formed ∙ p.formed;
@@ -115,9 +115,9 @@ then_lines {given} {out} {s} {ls} {r} {o} {ms} {r'} {o'} p q = record {
       (else_assoc (long_in s) (too_long s.limit s.lines s.next.at ls) (too_long s.limit (s.lines + length ls) (s.next.at + length (write_lines ls)) ms));
 }
   where
-    else_assoc : (x y z : Option (ℕ × ℕ)) → or_else (or_else x y) z ≡ or_else x (or_else y z)
-    else_assoc none y z = refl
-    else_assoc (some p) y z = refl
+    else_assoc : (x y z : Option (ℕ × ℕ)) → option_or (option_or x y) z ≡ option_or x (option_or y z)
+    else_assoc None y z = refl
+    else_assoc (Some p) y z = refl
 
 -- One line
 
@@ -139,26 +139,26 @@ module _ (s : Progress) (end : ℕ) (next : Sink) where
   noted_lines = elim (test (is_long s end)) [ pass e ↦ rw (noted, e) | fail e ↦ rw (noted, e) ]
 
   -- an earlier line was too long
-  long_before : {n : ℕ} → s.long ≡ suc n → long_in (noted s end next) ≡ some (suc n, s.start)
+  long_before : {n : ℕ} → s.long ≡ suc n → long_in (noted s end next) ≡ Some (suc n, s.start)
   unfolding noted
   long_before {n} e = rw (noted, e, ne_eqb (suc n) 0 (λ z. omega arith)) (rw e)
 
   module _ (none_yet : s.long ≡ 0) where
-    long_now : s.limit < end - s.next.at → s.lines + 1 ≤ last → long_in (noted s end next) ≡ some (suc s.lines, s.next.at)
+    long_now : s.limit < end - s.next.at → s.lines + 1 ≤ last → long_in (noted s end next) ≡ Some (suc s.lines, s.next.at)
     unfolding noted onward
     long_now h l =
         let n : min (s.lines + 1) last ≡ suc s.lines = omega arith in
         rw (noted, none_yet, lt-ltb s.limit (end - s.next.at) h, n)
 
-    short_now : end - s.next.at ≤ s.limit → long_in (noted s end next) ≡ none
+    short_now : end - s.next.at ≤ s.limit → long_in (noted s end next) ≡ None
     unfolding noted
     short_now h = rw (noted, none_yet, le-ltb s.limit (end - s.next.at) h) (rw none_yet)
 
-  noted_long : (l : Bytes) → end - s.next.at ≡ length l → s.lines + 1 ≤ last → long_in (noted s end next) ≡ or_else (long_in s) (too_long s.limit s.lines s.next.at (l ∷ []))
-  unfolding too_long or_else
+  noted_long : (l : Bytes) → end - s.next.at ≡ length l → s.lines + 1 ≤ last → long_in (noted s end next) ≡ option_or (long_in s) (too_long s.limit s.lines s.next.at (l ∷ []))
+  unfolding too_long
   noted_long l size h = go s.long refl
     where
-      go : (k : ℕ) → s.long ≡ k → long_in (noted s end next) ≡ or_else (long_in s) (too_long s.limit s.lines s.next.at (l ∷ []))
+      go : (k : ℕ) → s.long ≡ k → long_in (noted s end next) ≡ option_or (long_in s) (too_long s.limit s.lines s.next.at (l ∷ []))
       go (suc n) e = long_before e ∙ rw e
       go zero e = elim (test (leb (length l) s.limit)) [
         | pass q ↦ short_now e (rw size (leb-true (length l) s.limit q)) ∙ rw (e, too_long, q)
@@ -233,7 +233,7 @@ lines_put text count {given} {out} {s} w {next} {o'} w' e = record {
     formed = refl;
     text = subst (λ (b : Bytes). Puts given out s.next b next o') (sym t) (then w w');
     count = rw size e;
-    long = λ x y. sym (ap (or_else (long_in s)) (short s.lines s.next.at) ∙ else_none (long_in s));
+    long = λ x y. sym (ap (option_or (long_in s)) (short s.lines s.next.at) ∙ else_none (long_in s));
   };
 }
 

@@ -1,6 +1,5 @@
 -- What a house-form call answers. Assumes nothing.
-use Rattle.std.specs.Prelude.{ℕ, zero, suc, ◌≡◌, List, length, take}
-use Rattle.std.proofs.Math.Option.{Option, none, some}
+use Rattle.std.specs.Prelude.{ℕ, zero, suc, ◌≡◌, List, length, take, Option, None, Some, Result, Ok, Err}
 use Rattle.std.proofs.lemmas.List.Edits.{sets}
 use Rattle.values.specs.Bytes.{Bytes}
 use Rattle.rules.specs.Sizes.{Limits}
@@ -15,14 +14,13 @@ use Rattle.records.specs.declared.refusal.Refusal.TheVariants as refusal
 use Rattle.entries.specs.declared.form.Form.{Form}
 use Rattle.entries.specs.Values.{limits_by}
 use Rattle.entries.specs.Tables.{room, stored}
-use Rattle.header.specs.declared.parser.Outcome.TheVariants as outcome
 use Rattle.header.specs.declared.parser.ReadAnswer.{ReadAnswer}
 use Rattle.header.specs.Parsers.{outcome_number, outcome_says, accepted_in, read_into}
-use Rattle.house.specs.declared.form.FormOutcome.{FormOutcome}
-use Rattle.house.specs.declared.form.FormOutcome.TheVariants.{Whole, TooLong, LineTooLong, NoRoom}
+use Rattle.house.specs.declared.form.FormRefusal.{FormRefusal}
+use Rattle.house.specs.declared.form.FormRefusal.TheVariants.{TooLong, LineTooLong, NoRoom}
 use Rattle.house.specs.declared.form.HouseAnswer.{HouseAnswer}
 use Rattle.house.specs.Forms.{WritesForm}
-use Rattle.rules.specs.Claims.{Sized, Accepted}
+use Rattle.rules.specs.Claims.{Sized}
 use Rattle.rules.specs.Meaning.{Meaning, header_meaning}
 
 -- document 01's number, the place, the number of entries, the form's length, and of an accepted header the version in force and the number of samples
@@ -56,19 +54,19 @@ house_means r f = record {
 }
 
 abbrev pub refused_answer : Refusal → ℕ → ℕ → ℕ → HouseAnswer
-refused_answer x line start entries = record { outcome = outcome.Refused x; line = line; start = start; entries = entries; length = 0 }
+refused_answer x line start entries = record { outcome = Err x; line = line; start = start; entries = entries; length = 0 }
 
 -- after an accepted reading
-abbrev pub form_answered : ReadAnswer → FormOutcome → HouseAnswer
-form_answered a (Whole n) = record { outcome = a.outcome; line = a.line; start = a.start; entries = a.entries; length = n }
-form_answered a TooLong = refused_answer refusal.HeaderTooLong 0 0 a.entries
-form_answered a (LineTooLong l s) = refused_answer refusal.LineTooLong l s a.entries
-form_answered a NoRoom = refused_answer refusal.FormTooLong 0 0 a.entries
+abbrev pub form_answered : ReadAnswer → Result ℕ FormRefusal → HouseAnswer
+form_answered a (Ok n) = record { outcome = a.outcome; line = a.line; start = a.start; entries = a.entries; length = n }
+form_answered a (Err TooLong) = refused_answer refusal.HeaderTooLong 0 0 a.entries
+form_answered a (Err (LineTooLong l s)) = refused_answer refusal.LineTooLong l s a.entries
+form_answered a (Err NoRoom) = refused_answer refusal.FormTooLong 0 0 a.entries
 
 -- the form was written, or not, and answered for
 pub record AnswersForm (lim : Limits) (a : ReadAnswer) (f : FileFormat) (h : Bytes) (es : List Entry) (old : Bytes) (r : HouseAnswer) (new : Bytes) :
     Type 0 where
-  pub written : FormOutcome
+  pub written : Result ℕ FormRefusal
   pub writes : WritesForm lim (version_of f) h es old written new
   pub answers : r ≡ form_answered a written
   pub sized : Sized (version_of f)
@@ -82,17 +80,17 @@ pub record HouseCall (form : Form) (imposed : Option Version) (h : Bytes) (t : L
 
 -- the call was accepted
 abbrev pub IsAccepted : HouseAnswer → Type 0
-IsAccepted r = (f : FileFormat) × (n : ℕ) × (r.outcome ≡ outcome.Accepted f n)
+IsAccepted r = (f : FileFormat) × (n : ℕ) × (r.outcome ≡ Ok (f, n))
 
 -- what was written
 abbrev pub form_written : HouseAnswer → Bytes → Bytes
 form_written r out' = take r.length out'
 
 abbrev pub meant : ℕ → State → Option Meaning
-meant zero empty = none
-meant zero (ready v rs) = none
-meant zero (done v rs c) = some (header_meaning v rs c)
-meant (suc n) s = none
+meant zero empty = None
+meant zero (ready v rs) = None
+meant zero (done v rs c) = Some (header_meaning v rs c)
+meant (suc n) s = None
 
 -- the meaning of a header, if it is accepted
 abbrev pub means : Limits → Option Version → ℕ → Bytes → Option Meaning

@@ -1,6 +1,5 @@
 -- Document 02, §13: verdicts of every sort, computed by the checker. Assumes nothing.
-use Rattle.std.specs.Prelude.{ℕ, ◌≡◌, refl, Bool, true, false, [], ◌∷◌, ◌++◌, map}
-use Rattle.std.proofs.Math.Option.{none}
+use Rattle.std.specs.Prelude.{ℕ, ◌≡◌, refl, Bool, true, false, [], ◌∷◌, ◌++◌, map, None}
 use Rattle.values.specs.Bytes.{Bytes, ascii}
 use Rattle.values.specs.Hash.{wide_step, wide_from}
 use Rattle.rules.specs.Sizes.{Limits, limits}
@@ -26,7 +25,7 @@ abbrev pub answer : IsHouse → Answer
 answer r = (r.number, r.line, r.start, r.holds, r.place)
 
 abbrev pub asked : Bytes → Answer
-asked h = answer (is_house limits none 64 h)
+asked h = answer (is_house limits None 64 h)
 
 abbrev pub columns : Bytes
 columns = ascii "#CHROM\tPOS\tID\tREF\tALT\tQUAL\tFILTER\tINFO"
@@ -51,7 +50,7 @@ verdicts = refl
 abbrev pub few : Limits
 few = record { header = 90; line = 60; counted = false }
 
-refusals : map (λ (h : Bytes). answer (is_house few none 64 h)) (
+refusals : map (λ (h : Bytes). answer (is_house few None 64 h)) (
     header (ascii "##ALT=<ID=x,Description=aaaaa>") []
     ∷ header (ascii "##ALT=<ID=x,Description=>") (ascii "\n")
     ∷ []

@@ -1,6 +1,5 @@
 -- The whole form, as a header's bytes and its entries tell it, and what becomes of it. Assumes nothing.
-use Rattle.std.specs.Prelude.{ℕ, ◌≡◌, Bool, true, false, List, [], ◌∷◌, ◌++◌, eqb, leb, length}
-use Rattle.std.proofs.Math.Option.{Option, none, some}
+use Rattle.std.specs.Prelude.{ℕ, ◌≡◌, Bool, true, false, List, [], ◌∷◌, ◌++◌, eqb, leb, length, Option, None, Some, Result, Ok, Err}
 use Rattle.std.proofs.lemmas.List.Edits.{sets}
 use Rattle.values.specs.Bytes.{Bytes}
 use Rattle.values.specs.Written.{last, differing, sooner}
@@ -14,8 +13,8 @@ use Rattle.rules.specs.Shown.{line_in}
 use Rattle.rules.specs.House.{write_record, too_long}
 use Rattle.house.specs.declared.progress.Progress.{Progress}
 use Rattle.house.specs.declared.form.Compared.{Compared}
-use Rattle.house.specs.declared.form.FormOutcome.{FormOutcome}
-use Rattle.house.specs.declared.form.FormOutcome.TheVariants.{Whole, TooLong, LineTooLong, NoRoom}
+use Rattle.house.specs.declared.form.FormRefusal.{FormRefusal}
+use Rattle.house.specs.declared.form.FormRefusal.TheVariants.{TooLong, LineTooLong, NoRoom}
 use Rattle.house.specs.Writes.{long_in, WroteLines}
 use Rattle.house.specs.Keys.{AllListed, lines_under, other_lines}
 
@@ -44,32 +43,32 @@ pub record PutsRecords (v : Version) (h : Bytes) (es : List Entry) (given old : 
 pub record PutsForm (limit : ℕ) (formed : Bool) (v : Version) (h : Bytes) (es : List Entry) (given old : Bytes) (r : Progress) (new : Bytes) : Type 0 where
   pub is : AllListed formed v h es → WroteLines given old (begun limit formed) (form_lines v h es) r new
 
-abbrev pub fitted_as : ℕ → ℕ → FormOutcome
-fitted_as room size = elim (leb size room) [ true ↦ Whole size | false ↦ NoRoom ]
+abbrev pub fitted_as : ℕ → ℕ → Result ℕ FormRefusal
+fitted_as room size = elim (leb size room) [ true ↦ Ok size | false ↦ Err NoRoom ]
 
-abbrev pub lined_as : ℕ → ℕ → Option (ℕ × ℕ) → FormOutcome
-lined_as room size none = fitted_as room size
-lined_as room size (some p) = LineTooLong p.0 p.1
+abbrev pub lined_as : ℕ → ℕ → Option (ℕ × ℕ) → Result ℕ FormRefusal
+lined_as room size None = fitted_as room size
+lined_as room size (Some p) = Err (LineTooLong p.0 p.1)
 
 -- what becomes of a form whose writing told this
-unfoldable pub measured_as : Limits → ℕ → Progress → FormOutcome
-measured_as lim room m = elim (leb m.next.at lim.header) [ true ↦ lined_as room m.next.at (long_in m) | false ↦ TooLong ]
+unfoldable pub measured_as : Limits → ℕ → Progress → Result ℕ FormRefusal
+measured_as lim room m = elim (leb m.next.at lim.header) [ true ↦ lined_as room m.next.at (long_in m) | false ↦ Err TooLong ]
 
 -- what becomes of these lines, where the output has `room` bytes
-unfoldable pub outcome_of : Limits → ℕ → List Bytes → FormOutcome
+unfoldable pub outcome_of : Limits → ℕ → List Bytes → Result ℕ FormRefusal
 outcome_of lim room ls = elim (leb (length (write_lines ls)) lim.header) [
   | true ↦ lined_as room (length (write_lines ls)) (too_long lim.line 0 0 ls)
-  | false ↦ TooLong
+  | false ↦ Err TooLong
 ]
 
 -- the bytes that are written
-abbrev pub written_of : FormOutcome → List Bytes → Bytes
-written_of (Whole n) ls = write_lines ls
-written_of TooLong ls = []
-written_of (LineTooLong l s) ls = []
-written_of NoRoom ls = []
+abbrev pub written_of : Result ℕ FormRefusal → List Bytes → Bytes
+written_of (Ok n) ls = write_lines ls
+written_of (Err TooLong) ls = []
+written_of (Err (LineTooLong l s)) ls = []
+written_of (Err NoRoom) ls = []
 
-pub record WritesForm (lim : Limits) (v : Version) (h : Bytes) (es : List Entry) (old : Bytes) (r : FormOutcome) (new : Bytes) : Type 0 where
+pub record WritesForm (lim : Limits) (v : Version) (h : Bytes) (es : List Entry) (old : Bytes) (r : Result ℕ FormRefusal) (new : Bytes) : Type 0 where
   pub is : AllListed false v h es → r ≡ outcome_of lim (length old) (form_lines v h es)
   pub output : AllListed false v h es → new ≡ sets old 0 (written_of r (form_lines v h es))
 

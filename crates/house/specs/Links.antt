@@ -1,5 +1,5 @@
 -- The entries of a key that is not typed, found by heads and links. Assumes nothing.
-use Rattle.std.specs.Prelude.{ℕ, zero, suc, ◌+◌, ◌%◌, ◌≤◌, ◌<◌, ◌≡◌, Bool, true, false, not, List, [], ◌++◌, length, get_or, take, drop}
+use Rattle.std.specs.Prelude.{ℕ, zero, suc, ◌+◌, ◌%◌, ◌≤◌, ◌<◌, ◌≡◌, Bool, true, false, List, [], ◌++◌, length, get_or, take, drop}
 use Rattle.values.specs.Bytes.{Bytes, is, any}
 use Rattle.values.specs.Hash.{wide_basis, wide_step, wide_from}
 use Rattle.rules.specs.Version.{Version}

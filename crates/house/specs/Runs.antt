@@ -1,6 +1,5 @@
 -- Runs of entries of one key, whose lines follow one another in the header as they do in the form. Assumes nothing.
-use Rattle.std.specs.Prelude.{ℕ, zero, suc, ◌+◌, ◌-◌, ◌≤◌, ◌<◌, ◌≡◌, Bool, true, false, List, [], ◌∷◌, ◌++◌, length, get_or, take, drop}
-use Rattle.std.proofs.Math.Option.{none}
+use Rattle.std.specs.Prelude.{ℕ, zero, suc, ◌+◌, ◌-◌, ◌≤◌, ◌<◌, ◌≡◌, Bool, true, false, List, [], ◌∷◌, ◌++◌, length, get_or, take, drop, None}
 use Rattle.values.specs.Bytes.{Bytes, CR, LF}
 use Rattle.rules.specs.Lines.{ends, write_lines}
 use Rattle.rules.specs.Entry.{Entry}
@@ -46,7 +45,7 @@ run_text form h t k stop = take (stop - (entry_in form t k).start) (drop (entry_
 -- the lines of the entries from number k up to `end` are what stands in the header up to `stop`, and an LF
 pub record OneAfterAnother (form : Form) (h : Bytes) (t : List ℕ) (limit k end stop : ℕ) : Type 0 where
   pub text : write_lines (lines_at form h t k (end - k)) ≡ run_text form h t k stop ++ LF ∷ []
-  pub short : (n start : ℕ) → too_long limit n start (lines_at form h t k (end - k)) ≡ none
+  pub short : (n start : ℕ) → too_long limit n start (lines_at form h t k (end - k)) ≡ None
 
 -- the entries from number k on are under the key if the first one is
 pub record FindsRun (form : Form) (formed : Bool) (h : Bytes) (t : List ℕ) (prefix : Bytes) (limit k : ℕ) (r : Run) : Type 0 where

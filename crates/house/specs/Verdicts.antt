@@ -1,6 +1,5 @@
 -- What a call of `is_house` answers. Assumes nothing.
-use Rattle.std.specs.Prelude.{ℕ, ◌≡◌, Bool, true, false, List, eqb, ltb, length}
-use Rattle.std.proofs.Math.Option.{Option}
+use Rattle.std.specs.Prelude.{ℕ, ◌≡◌, Bool, true, false, List, eqb, ltb, length, Option, Result, Ok, Err}
 use Rattle.values.specs.Bytes.{Bytes}
 use Rattle.rules.specs.Sizes.{Limits}
 use Rattle.rules.specs.Version.{Version}
@@ -12,8 +11,6 @@ use Rattle.records.specs.declared.file_format.FileFormat.{FileFormat}
 use Rattle.entries.specs.declared.form.Form.{Form}
 use Rattle.entries.specs.Values.{limits_by}
 use Rattle.entries.specs.Tables.{room, stored}
-use Rattle.header.specs.declared.parser.Outcome.{Outcome}
-use Rattle.header.specs.declared.parser.Outcome.TheVariants as outcome
 use Rattle.header.specs.declared.parser.ReadAnswer.{ReadAnswer}
 use Rattle.header.specs.Parsers.{outcome_number, outcome_says, accepted_in, read_into}
 use Rattle.house.specs.declared.form.Compared.{Compared}
@@ -22,6 +19,7 @@ use Rattle.house.specs.declared.form.IsHouseAnswer.{IsHouseAnswer}
 use Rattle.house.specs.Forms.{ComparesForm}
 use Rattle.house.specs.Answers.{form_answered}
 use Rattle.house.specs.IsHouse.{IsHouse, is_house}
+use Rattle.records.specs.declared.refusal.Refusal.{Refusal}
 
 -- document 01's number, the place, the number of entries, the verdict, and of an accepted header the version in force and the number of samples
 pub record VerdictMeaning : Type 0 where
@@ -59,9 +57,9 @@ is_house_means r f = record {
 abbrev pub told_answer : HouseAnswer → Bool → ℕ → IsHouseAnswer
 told_answer a holds place = record { outcome = a.outcome; line = a.line; start = a.start; entries = a.entries; holds = holds; differs = place }
 
-abbrev pub verdict_by : HouseAnswer → ℕ → ℕ → Outcome → IsHouseAnswer
-verdict_by a size differs (outcome.Refused x) = told_answer a false 0
-verdict_by a size differs (outcome.Accepted f n) = elim (ltb differs a.length) [
+abbrev pub verdict_by : HouseAnswer → ℕ → ℕ → Result (FileFormat × ℕ) Refusal → IsHouseAnswer
+verdict_by a size differs (Err x) = told_answer a false 0
+verdict_by a size differs (Ok (f, n)) = elim (ltb differs a.length) [
   | true ↦ told_answer a false differs
   | false ↦ elim (eqb a.length size) [ true ↦ told_answer a true 0 | false ↦ told_answer a false a.length ]
 ]

@@ -1,6 +1,6 @@
 -- Lines of the form, one after another: how far it is written, and which line was the first that is too long. Assumes nothing.
-use Rattle.std.specs.Prelude.{ℕ, zero, suc, ◌+◌, ◌-◌, ◌≤◌, ◌≡◌, Bool, true, false, ◌&&◌, List, [], ◌∷◌, ◌++◌, eqb, ltb, length}
-use Rattle.std.proofs.Math.Option.{Option, none, some, or_else}
+use Rattle.std.specs.Option.{option_or}
+use Rattle.std.specs.Prelude.{ℕ, zero, suc, ◌+◌, ◌-◌, ◌≤◌, ◌≡◌, Bool, true, false, ◌&&◌, List, [], ◌∷◌, ◌++◌, eqb, ltb, length, Option, None, Some}
 use Rattle.values.specs.Bytes.{Bytes, LF}
 use Rattle.values.specs.Written.{last, onward, Puts}
 use Rattle.values.specs.declared.sink.Sink.{Sink}
@@ -14,7 +14,7 @@ use Rattle.house.specs.declared.progress.Progress.{Progress}
 
 -- the first line that was too long
 abbrev pub long_in : Progress → Option (ℕ × ℕ)
-long_in s = elim s.long [ zero ↦ none | suc n ↦ some (suc n, s.start) ]
+long_in s = elim s.long [ zero ↦ None | suc n ↦ Some (suc n, s.start) ]
 
 -- a line that ends at `end` is the first that is too long
 abbrev pub is_long : Progress → ℕ → Bool
@@ -33,7 +33,7 @@ pub record WroteLines (given old : Bytes) (s : Progress) (ls : List Bytes) (r : 
   pub formed : r.formed ≡ s.formed
   pub text : Puts given old s.next (write_lines ls) r.next new
   pub count : r.lines ≡ onward s.lines (length ls)
-  pub long : s.next.at + length (write_lines ls) ≤ last → s.lines + length ls ≤ last → long_in r ≡ or_else (long_in s) (too_long s.limit s.lines s.next.at ls)
+  pub long : s.next.at + length (write_lines ls) ≤ last → s.lines + length ls ≤ last → long_in r ≡ option_or (long_in s) (too_long s.limit s.lines s.next.at ls)
 
 -- a line that is read as a map or a text
 pub record Readable (v : Version) (l : Bytes) : Type 0 where
@@ -46,7 +46,7 @@ pub record PutsEntry (v : Version) (l given old : Bytes) (s r : Progress) (new :
 
 -- lines of which none is too long were written, which are this text and an LF
 pub record PutsLines (text : Bytes) (count : ℕ) (given old : Bytes) (s r : Progress) (new : Bytes) : Type 0 where
-  pub is : (ls : List Bytes) → length ls ≡ count → write_lines ls ≡ text ++ LF ∷ [] → ((n start : ℕ) → too_long s.limit n start ls ≡ none) → WroteLines given old s ls r new
+  pub is : (ls : List Bytes) → length ls ≡ count → write_lines ls ≡ text ++ LF ∷ [] → ((n start : ℕ) → too_long s.limit n start ls ≡ None) → WroteLines given old s ls r new
 
 -- one line, which may not stand in form, or several such ones
 pub record PutsRun (v : Version) (text : Bytes) (count : ℕ) (given old : Bytes) (s r : Progress) (new : Bytes) : Type 0 where

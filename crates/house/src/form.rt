@@ -18,7 +18,6 @@ use crate::{keys, progress, sizes};
 use entries::form::Form;
 use entries::limits::Limits;
 use entries::{kind, part, table};
-use header::file_format_option::FileFormatOption;
 use header::parser;
 use header::parser::{Outcome, ReadAnswer};
 use records::file_format::FileFormat;
@@ -48,9 +47,10 @@ pub struct IsHouseAnswer {
 }
 
 // What came of a form: its length; or it is too long, or a line of it, with the line's number and start, or it does not fit.
+type FormOutcome = Result<usize, FormRefusal>;
+
 #[derive(Clone, Copy)]
-enum FormOutcome {
-    Whole(usize),
+enum FormRefusal {
     TooLong,
     LineTooLong(usize, usize),
     NoRoom,
@@ -67,10 +67,8 @@ struct Compared {
 fn column_line<'a>(h: &'a [u8], kept: &[u64], form: Form) -> &'a [u8]
     ensures { result.now ≡ column_line h.now (entries_in form kept.now) }
 {
-    let mut k = 0;
-    while k < table::count(kept, form) {
+    for k in 0..table::count(kept, form) {
         let e = table::get(kept, form, k);
-        k += 1;
         if e.kind == kind::COLUMNS {
             return part::line_part(h, e);
         }
@@ -135,15 +133,15 @@ fn outcome_of(measured: Progress, limits: Limits, room: usize) -> FormOutcome
     let size = end.at;
     let long = measured.long;
     if limits.header < size {
-        return FormOutcome::TooLong;
+        return Err(FormRefusal::TooLong);
     }
     if 0 < long {
-        return FormOutcome::LineTooLong(long, measured.start);
+        return Err(FormRefusal::LineTooLong(long, measured.start));
     }
     if room < size {
-        return FormOutcome::NoRoom;
+        return Err(FormRefusal::NoRoom);
     }
-    FormOutcome::Whole(size)
+    Ok(size)
 }
 
 // The size of a form whose records take so many bytes; the largest number if one of its other lines is too long.
@@ -216,17 +214,17 @@ fn write_form(
         return compared.outcome;
     }
     if out.len() < size {
-        return FormOutcome::NoRoom;
+        return Err(FormRefusal::NoRoom);
     }
     put_form(h, kept, form, version, limits.line, formed, out, b"");
-    FormOutcome::Whole(size)
+    Ok(size)
 }
 
 fn refuse(x: Refusal, line: usize, start: usize, entries: usize) -> HouseAnswer
     ensures { result ≡ refused_answer x line start entries }
 {
     HouseAnswer {
-        outcome: Outcome::Refused(x),
+        outcome: Err(x),
         line,
         start,
         entries,
@@ -241,16 +239,21 @@ fn answer(read: ReadAnswer, written: FormOutcome) -> HouseAnswer
     let entries = read.entries;
     let outcome = read.outcome;
     match written {
-        FormOutcome::Whole(length) => HouseAnswer {
+        Ok(length) => HouseAnswer {
             outcome,
             line: read.line,
             start: read.start,
             entries,
             length,
         },
-        FormOutcome::TooLong => refuse(Refusal::HeaderTooLong, 0, 0, entries),
-        FormOutcome::LineTooLong(line, start) => refuse(Refusal::LineTooLong, line, start, entries),
-        FormOutcome::NoRoom => refuse(Refusal::FormTooLong, 0, 0, entries),
+        Err(FormRefusal::TooLong) => refuse(Refusal::HeaderTooLong, 0, 0, entries),
+        Err(FormRefusal::LineTooLong(line, start)) => refuse(
+            Refusal::LineTooLong,
+            line,
+            start,
+            entries,
+        ),
+        Err(FormRefusal::NoRoom) => refuse(Refusal::FormTooLong, 0, 0, entries),
     }
 }
 
@@ -274,7 +277,7 @@ fn answer_accepted(
 // Reads a header into the table and writes its house form, from the output's first byte on; nothing is written if it is refused.
 pub fn house_form(
     header: &[u8],
-    imposed: FileFormatOption,
+    imposed: Option<FileFormat>,
     form: Form,
     table: &mut [u64],
     out: &mut [u8],
@@ -285,8 +288,8 @@ pub fn house_form(
     let entries = read.entries;
     let outcome = read.outcome;
     match outcome {
-        Outcome::Refused(x) => refuse(x, read.line, read.start, entries),
-        Outcome::Accepted(version, _) => {
+        Err(x) => refuse(x, read.line, read.start, entries),
+        Ok((version, _)) => {
             let n = form.words() * entries;
             answer_accepted(header, &mut table[..n], form, read, version, out)
         }
@@ -313,7 +316,7 @@ fn judge(answered: HouseAnswer, size: usize, differs: usize) -> IsHouseAnswer
 {
     let outcome = answered.outcome;
     let length = answered.length;
-    let Outcome::Accepted(_, _) = outcome else {
+    let Ok((_, _)) = outcome else {
         return told(answered, false, 0);
     };
     if differs < length {
@@ -346,7 +349,7 @@ fn judge_accepted(
 // Reads a header into the table and says whether it is its own house form, and if not, where the two first differ.
 pub fn is_house(
     header: &[u8],
-    imposed: FileFormatOption,
+    imposed: Option<FileFormat>,
     form: Form,
     table: &mut [u64],
 ) -> IsHouseAnswer
@@ -356,8 +359,8 @@ pub fn is_house(
     let entries = read.entries;
     let outcome = read.outcome;
     match outcome {
-        Outcome::Refused(x) => told(refuse(x, read.line, read.start, entries), false, 0),
-        Outcome::Accepted(version, _) => {
+        Err(x) => told(refuse(x, read.line, read.start, entries), false, 0),
+        Ok((version, _)) => {
             let n = form.words() * entries;
             judge_accepted(header, &mut table[..n], form, read, version)
         }

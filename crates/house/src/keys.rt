@@ -1,5 +1,5 @@
 // The entries of a key, as they follow one another in the header.
-ghost use Rattle.std.specs.Prelude.{◌≡◌, ◌<◌, length};
+ghost use Rattle.std.specs.Prelude.{◌≡◌, ◌^◌, ◌<◌, length};
 ghost use Rattle.records.specs.Formats.{version_of};
 ghost use Rattle.rules.specs.Known.{typed_keys};
 ghost use Rattle.entries.specs.Values.{entry_of};
@@ -21,23 +21,14 @@ use values::bytes;
 pub fn is_record(e: Entry) -> bool
     ensures { result ≡ is_record (entry_of e) }
 {
-    if e.kind < kind::INFO {
-        return false;
-    }
-    if kind::OTHER_TEXT < e.kind {
-        return false;
-    }
-    true
+    kind::INFO <= e.kind && e.kind <= kind::OTHER_TEXT
 }
 
 // Whether an entry is a record whose line begins with the prefix, `##key=`.
 pub fn is_under(h: &[u8], e: Entry, prefix: &[u8]) -> bool
     ensures { result ≡ is_under h.now prefix.now (entry_of e) }
 {
-    if !is_record(e) {
-        return false;
-    }
-    bytes::starts_with(part::line_part(h, e), prefix)
+    is_record(e) && bytes::starts_with(part::line_part(h, e), prefix)
 }
 
 // The lines of all entries under the key that the prefix names.
@@ -56,6 +47,7 @@ pub fn put_key(
 {
     let mut progress = s;
     let mut k = 0;
+    // Kept: a `for` is no plainer, since a turn passes a whole run of entries.
     while k < table::count(kept, form) {
         let e = table::get(kept, form, k);
         if is_under(h, e, prefix) {
@@ -74,14 +66,10 @@ pub fn put_key(
 pub fn are_formed(h: &[u8], kept: &[u64], form: Form, version: FileFormat) -> bool
     ensures { AreFormed (version_of version) h.now (entries_in form kept.now) result }
 {
-    let mut k = 0;
-    while k < table::count(kept, form) {
+    for k in 0..table::count(kept, form) {
         let e = table::get(kept, form, k);
-        k += 1;
-        if is_record(e) {
-            if !formed::is_formed(part::line_part(h, e), version) {
-                return false;
-            }
+        if is_record(e) && !formed::is_formed(part::line_part(h, e), version) {
+            return false;
         }
     }
     true
@@ -107,23 +95,14 @@ fn put_later_typed(
 fn is_typed(e: Entry) -> bool
     ensures { result ≡ is_typed_record (entry_of e) }
 {
-    if e.kind < kind::INFO {
-        return false;
-    }
-    if kind::OTHER_MAP <= e.kind {
-        return false;
-    }
-    true
+    kind::INFO <= e.kind && e.kind < kind::OTHER_MAP
 }
 
 fn has_typed(kept: &[u64], form: Form) -> bool
     ensures { result ≡ any_typed (entries_in form kept.now) }
 {
-    let mut k = 0;
-    while k < table::count(kept, form) {
-        let e = table::get(kept, form, k);
-        k += 1;
-        if is_typed(e) {
+    for k in 0..table::count(kept, form) {
+        if is_typed(table::get(kept, form, k)) {
             return true;
         }
     }
@@ -166,13 +145,7 @@ pub fn prefix_part(h: &[u8], e: Entry) -> &[u8]
 pub fn is_other(e: Entry) -> bool
     ensures { result ≡ is_other_record (entry_of e) }
 {
-    if e.kind < kind::OTHER_MAP {
-        return false;
-    }
-    if kind::OTHER_TEXT < e.kind {
-        return false;
-    }
-    true
+    kind::OTHER_MAP <= e.kind && e.kind <= kind::OTHER_TEXT
 }
 
 // Whether a record before number `end` is under the key, whose slot is given.
@@ -189,6 +162,7 @@ fn is_seen(
     ensures { SeesKey form h.now kept.now prefix.now slot heads.now links.now end result }
 {
     let mut k = links::number_at(heads, slot);
+    // Kept: a `for` is no plainer, since the links tell the next number.
     while k < end {
         let e = table::get(kept, form, k);
         k += 1;
@@ -220,6 +194,7 @@ fn put_linked(
 {
     let mut progress = s;
     let mut k = first;
+    // Kept: a `for` is no plainer, since the links and the runs tell the next number.
     while k < table::count(kept, form) {
         let e = table::get(kept, form, k);
         let near = k + 1;
@@ -263,7 +238,7 @@ fn put_if_first(
         return s;
     }
     let prefix = prefix_part(h, e);
-    let slot = links::slot_of(heads, prefix);
+    let slot = links::slot_of(heads.len(), prefix);
     if is_seen(h, kept, form, prefix, slot, heads, links, k) {
         return s;
     }
@@ -276,14 +251,13 @@ fn put_if_first(
 fn skip_under(h: &[u8], kept: &[u64], form: Form, prefix: &[u8], start: usize) -> usize
     ensures { SkipsUnder form h.now kept.now prefix.now start result }
 {
-    let mut k = start;
-    while k < table::count(kept, form) {
+    let end = table::count(kept, form);
+    for k in start..end {
         if !is_under(h, table::get(kept, form, k), prefix) {
             return k;
         }
-        k += 1;
     }
-    k
+    end.max(start)
 }
 
 // Past an entry, and where none are linked past those after it that are under its key, if that is not typed: none of these is the first of a
@@ -320,6 +294,7 @@ fn put_others_by(
 {
     let mut progress = s;
     let mut k = 0;
+    // Kept: a `for` is no plainer, since a turn passes all entries of a key that follow one another.
     while k < table::count(kept, form) {
         progress = put_if_first(
             h, kept, form, heads, links, k, version, out, given, progress,
@@ -347,7 +322,9 @@ fn put_others_linked(
     put_others_by(h, kept, form, version, heads, links, out, given, s)
 }
 
-// The other keys where there are more entries than links. No header that was read has so many that a note can't hold their numbers.
+// The other keys where there are more entries than links. No header that was read has so many that a note can't hold their numbers. It is made
+// no part of its caller, as `put_others_among`.
+#[inline(never)]
 fn put_others_noted(
     h: &[u8],
     kept: &mut [u64],
@@ -367,7 +344,9 @@ fn put_others_noted(
     many::put_linked(h, kept, form, version, out, given, s)
 }
 
-fn put_others_many(
+// The same, with as many heads and links of its own. It is made no part of its caller: else all sizes would be on the stack of every header.
+#[inline(never)]
+fn put_others_among<const N: usize>(
     h: &[u8],
     kept: &[u64],
     form: Form,
@@ -376,65 +355,14 @@ fn put_others_many(
     given: &[u8],
     s: Progress,
 ) -> Progress
+    requires { N < 2 ^ 32 }
     ensures { PutsOthers (version_of version) h.now (entries_in form kept.now) given.now out.old s result out.new }
 {
-    let mut heads = [0xFFFF_FFFFu32; 16384];
-    let mut links = [0xFFFF_FFFFu32; 16384];
+    let mut heads = [0xFFFF_FFFFu32; N];
+    let mut links = [0xFFFF_FFFFu32; N];
     put_others_linked(
         h, kept, form, version, &mut heads, &mut links, out, given, s,
     )
-}
-
-fn put_others_most(
-    h: &[u8],
-    kept: &[u64],
-    form: Form,
-    version: FileFormat,
-    out: &mut [u8],
-    given: &[u8],
-    s: Progress,
-) -> Progress
-    ensures { PutsOthers (version_of version) h.now (entries_in form kept.now) given.now out.old s result out.new }
-{
-    let mut heads = [0xFFFF_FFFFu32; 131072];
-    let mut links = [0xFFFF_FFFFu32; 98304];
-    put_others_linked(
-        h, kept, form, version, &mut heads, &mut links, out, given, s,
-    )
-}
-
-// The same, with heads and links of its own where none are lent, as many as there are entries. A function that calls itself is not made a
-// part of its caller, nor are those with more links of it: else all links would be on the stack of every header.
-fn put_others_sized(
-    h: &[u8],
-    kept: &mut [u64],
-    form: Form,
-    version: FileFormat,
-    heads: &mut [u32],
-    links: &mut [u32],
-    out: &mut [u8],
-    given: &[u8],
-    s: Progress,
-) -> Progress
-    requires { bare kept.old ≡ kept.old }
-    ensures lines { PutsOthers (version_of version) h.now (entries_in form kept.old) given.now out.old s result out.new }
-    ensures table { kept.new ≡ kept.old }
-{
-    if 0 < links.len() {
-        return put_others_linked(h, kept, form, version, heads, links, out, given, s);
-    }
-    if kept.len() < 2048 {
-        let mut one = [0xFFFF_FFFFu32; 1024];
-        let mut two = [0xFFFF_FFFFu32; 1024];
-        return put_others_sized(h, kept, form, version, &mut one, &mut two, out, given, s);
-    }
-    if kept.len() < 32768 {
-        return put_others_many(h, kept, form, version, out, given, s);
-    }
-    if table::count(kept, form) < 98304 {
-        return put_others_most(h, kept, form, version, out, given, s);
-    }
-    put_others_noted(h, kept, form, version, out, given, s)
 }
 
 // Few entries are looked through in less time than it takes to link them.
@@ -470,9 +398,14 @@ pub fn put_others(
     if kept.len() <= 128 {
         return put_others_few(h, kept, form, version, out, given, s);
     }
-    let mut heads = [0u32; 0];
-    let mut links = [0u32; 0];
-    put_others_sized(
-        h, kept, form, version, &mut heads, &mut links, out, given, s,
-    )
+    if kept.len() < 2048 {
+        return put_others_among::<1024>(h, kept, form, version, out, given, s);
+    }
+    if kept.len() < 32768 {
+        return put_others_among::<16384>(h, kept, form, version, out, given, s);
+    }
+    if table::count(kept, form) < 98304 {
+        return put_others_among::<98304>(h, kept, form, version, out, given, s);
+    }
+    put_others_noted(h, kept, form, version, out, given, s)
 }

@@ -11,25 +11,25 @@ use entries::form::Form;
 use entries::table;
 use values::hash;
 
-// The slot of a key, among those of `heads`.
-pub fn slot_of(heads: &[u32], prefix: &[u8]) -> usize
-    ensures { result ≡ slot_of (length heads.now) prefix.now }
+// The slot of a key, among so many.
+pub fn slot_of(slots: usize, prefix: &[u8]) -> usize
+    ensures { result ≡ slot_of slots prefix.now }
 {
-    if heads.len() == 0 {
+    if slots == 0 {
         return 0;
     }
     let hash = hash::wide_from(hash::WIDE_BASIS, prefix, false);
-    (hash::wide_step(hash, 0) % (heads.len() as u64)) as usize
+    (hash::wide_step(hash, 0) % (slots as u64)) as usize
 }
 
 // That of an entry's key; past them if the key is typed.
-fn slot_in(h: &[u8], e: Entry, heads: &[u32]) -> usize
-    ensures { result ≡ slot_in h.now (length heads.now) (entry_of e) }
+pub fn slot_in(h: &[u8], e: Entry, slots: usize) -> usize
+    ensures { result ≡ slot_in h.now slots (entry_of e) }
 {
     if !keys::is_other(e) {
-        return heads.len();
+        return slots;
     }
-    slot_of(heads, keys::prefix_part(h, e))
+    slot_of(slots, keys::prefix_part(h, e))
 }
 
 fn wide(n: u32) -> usize
@@ -65,7 +65,7 @@ fn take_place(h: &[u8], e: Entry, k: usize, heads: &mut [u32]) -> u32
     if !keys::is_other(e) {
         return 0xFFFF_FFFF;
     }
-    let slot = slot_of(heads, keys::prefix_part(h, e));
+    let slot = slot_of(heads.len(), keys::prefix_part(h, e));
     if heads.len() <= slot {
         return 0xFFFF_FFFF;
     }
@@ -104,12 +104,9 @@ fn lower(links: &mut [u32], k: usize, next: u32)
 pub fn link_all(h: &[u8], kept: &[u64], form: Form, heads: &mut [u32], links: &mut [u32])
     ensures { Links form h.now kept.now heads.new links.new 0 }
 {
-    let mut k = table::count(kept, form);
-    while 0 < k {
-        let after = k;
-        k -= 1;
+    for k in (0..table::count(kept, form)).rev() {
         let next = take_place(h, table::get(kept, form, k), k, heads);
-        lower(links, after, next);
+        lower(links, k + 1, next);
     }
 }
 
@@ -134,7 +131,7 @@ pub fn pass_other(h: &[u8], e: Entry, slot: usize, heads: &[u32], links: &[u32],
     if heads.len() <= slot {
         return k;
     }
-    if slot_in(h, e, heads) != slot {
+    if slot_in(h, e, heads.len()) != slot {
         return k;
     }
     next_of(slot, heads, links, k)

@@ -30,6 +30,7 @@ fn put_all(
     let end = table::count(kept, form);
     let mut progress = s;
     let mut k = first;
+    // Kept: a `for` is no plainer, since the notes tell the next number.
     while k < end {
         let at = k;
         k = chains::next_of(kept, form, at, end);
@@ -80,10 +81,8 @@ fn put_each(
     ensures { PutsEach form (version_of version) h.now kept.old given.now out.old s result out.new kept.new }
 {
     let mut progress = s;
-    let mut k = 0;
-    while k < table::count(kept, form) {
+    for k in 0..table::count(kept, form) {
         progress = put_if_new(h, kept, form, k, version, out, given, progress);
-        k += 1;
     }
     progress
 }

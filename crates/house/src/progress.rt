@@ -28,10 +28,7 @@ pub struct Progress {
 pub fn count_on(n: usize, more: usize) -> usize
     ensures { result ≡ onward n more }
 {
-    if more <= 0xFFFF_FFFF_FFFF_FFFF - n {
-        return n + more;
-    }
-    0xFFFF_FFFF_FFFF_FFFF
+    n.saturating_add(more)
 }
 
 // A line was written whose text ends at `end` and whose ending at `next`.
@@ -40,30 +37,17 @@ fn note_line(s: Progress, end: usize, next: Sink) -> Progress
 {
     let here = s.next;
     let at = here.at;
-    let long = s.long;
     let lines = count_on(s.lines, 1);
-    if long == 0 {
-        if at <= end {
-            if s.limit < end - at {
-                return Progress {
-                    limit: s.limit,
-                    next,
-                    lines,
-                    long: lines,
-                    start: at,
-                    formed: s.formed,
-                };
-            }
-        }
+    if s.long == 0 && at <= end && s.limit < end - at {
+        return Progress {
+            next,
+            lines,
+            long: lines,
+            start: at,
+            ..s
+        };
     }
-    Progress {
-        limit: s.limit,
-        next,
-        lines,
-        long,
-        start: s.start,
-        formed: s.formed,
-    }
+    Progress { next, lines, ..s }
 }
 
 // The line of an entry: most stand as the form writes them, and are copied.
@@ -76,10 +60,7 @@ pub fn put_entry(
 ) -> Progress
     ensures { PutsEntry (version_of version) line.now given.now out.old s result out.new }
 {
-    if s.formed {
-        return put_plain(line, out, given, s);
-    }
-    if formed::is_formed(line, version) {
+    if s.formed || formed::is_formed(line, version) {
         return put_plain(line, out, given, s);
     }
     let at = s.next;
@@ -126,12 +107,9 @@ fn put_lines(text: &[u8], count: usize, out: &mut [u8], given: &[u8], s: Progres
     let end = copying::put_text(out, given, at, text);
     let next = line::end_line(out, given, end, false);
     Progress {
-        limit: s.limit,
         next,
         lines: count_on(s.lines, count),
-        long: s.long,
-        start: s.start,
-        formed: s.formed,
+        ..s
     }
 }
 

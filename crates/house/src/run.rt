@@ -34,29 +34,18 @@ fn line_end(h: &[u8], e: Entry) -> usize
 fn is_short(s: &[u8], limit: usize) -> bool
     ensures { IsShort limit s.now result }
 {
-    if limit < s.len() {
-        return false;
-    }
-    !line::ends_with_cr(s)
+    s.len() <= limit && !line::ends_with_cr(s)
 }
 
 // Whether an entry is under the key, and its line, which is such a one, stands past the LF that is at `stop`.
 fn is_next(h: &[u8], e: Entry, prefix: &[u8], limit: usize, stop: usize) -> bool
     ensures { IsNext h.now prefix.now limit stop (entry_of e) result }
 {
-    if h.len() <= stop {
-        return false;
-    }
-    if e.start != stop + 1 {
-        return false;
-    }
-    if h[stop] != 10 {
-        return false;
-    }
-    if !keys::is_under(h, e, prefix) {
-        return false;
-    }
-    is_short(part::line_part(h, e), limit)
+    stop < h.len()
+        && e.start == stop + 1
+        && h[stop] == b'\n'
+        && keys::is_under(h, e, prefix)
+        && is_short(part::line_part(h, e), limit)
 }
 
 // From entry number k on, which is under the key; of this one alone if not all lines stand in form.
@@ -74,21 +63,16 @@ pub fn find_run(
 {
     let count = table::count(kept, form);
     let first = table::get(kept, form, k);
-    let mut end = k + 1;
     let mut stop = line_end(h, first);
-    if !formed {
-        return Run { end, stop };
+    if !formed || !is_short(part::line_part(h, first), limit) {
+        return Run { end: k + 1, stop };
     }
-    if !is_short(part::line_part(h, first), limit) {
-        return Run { end, stop };
-    }
-    while end < count {
+    for end in k + 1..count {
         let e = table::get(kept, form, end);
         if !is_next(h, e, prefix, limit, stop) {
             return Run { end, stop };
         }
-        end += 1;
         stop = line_end(h, e);
     }
-    Run { end, stop }
+    Run { end: count, stop }
 }

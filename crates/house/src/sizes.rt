@@ -69,10 +69,8 @@ pub fn sum_lines(h: &[u8], kept: &[u64], form: Form, version: FileFormat, limit:
         formed: true,
         size: 0,
     };
-    let mut k = 0;
-    while k < table::count(kept, form) {
+    for k in 0..table::count(kept, form) {
         let e = table::get(kept, form, k);
-        k += 1;
         if keys::is_record(e) {
             sum = add_record(sum, part::line_part(h, e), version, limit);
         }

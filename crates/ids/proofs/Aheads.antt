@@ -2,7 +2,7 @@
 use Prim.Native.Nat.{ℕ, ◌*◌, ◌^◌, ◌≤◌, ◌<◌}
 use native.Mathlib.Omega.{arith}
 use mathlib.Core.Path.{◌≡◌, refl, sym, ◌∙◌}
-use mathlib.Core.Bool.{Bool, true, false, not, ◌||◌}
+use mathlib.Core.Bool.{Bool, true, false, ◌||◌}
 use mathlib.Core.List.{List}
 use lib.Dec.{eqb, ltb}
 use lib.ListN.{length}
@@ -11,7 +11,7 @@ use Rattle.values.specs.Bytes.{Bytes}
 use Rattle.values.specs.Value.{meaning}
 use Rattle.values.specs.Hash.{wide_step}
 use Rattle.values.specs.Marks.{is_noted, note}
-use Rattle.values.proofs.Tests.{pass, fail, test, and_l, and_r, not_true, not_false}
+use Rattle.values.proofs.Tests.{pass, fail, test, and_l, and_r}
 use Rattle.values.proofs.Markings.{note_length, note_own, note_kept, none_noted}
 use Rattle.rules.specs.Entry.{Entry}
 use Rattle.rules.specs.Shown.{id_in, id_meaning}
@@ -33,13 +33,13 @@ module _ (ns : List ℕ) (hash : ℕ) {o : ℕ} (eo : o ≡ wide_step hash 0) wh
   hash_noting e f g = g ∙ rw (e, f, eo)
 
   module _ {q : Bool} (a : q ≡ is_noted ns o) where
-    pub hash_missed : not q ≡ true → false ≡ hash_noted ns hash
+    pub hash_missed : q ≡ false → false ≡ hash_noted ns hash
     unfolding hash_noted
-    hash_missed n = rw (← eo, ← a, not_true q n)
+    hash_missed n = rw (← eo, ← a, n)
 
-    pub hash_looked : not q ≡ false → {t : ℕ} → t ≡ wide_step o 0 → {r : Bool} → r ≡ is_noted ns t → r ≡ hash_noted ns hash
+    pub hash_looked : q ≡ true → {t : ℕ} → t ≡ wide_step o 0 → {r : Bool} → r ≡ is_noted ns t → r ≡ hash_noted ns hash
     unfolding hash_noted
-    hash_looked n f g = g ∙ rw (← eo, ← a, not_false q n, f)
+    hash_looked n f g = g ∙ rw (← eo, ← a, n, f)
 
 pub ruleset two_bits = (hash_noting, hash_missed, hash_looked)
 

@@ -1,5 +1,5 @@
 -- Marks: what they tell of the entries. Assumes nothing.
-use Prim.Native.Nat.{ℕ, zero, suc, ◌+◌, ◌-◌, ◌*◌, ◌^◌, ◌≤◌, ◌<◌}
+use Prim.Native.Nat.{ℕ, zero, suc, ◌+◌, ◌-◌, ◌*◌, ◌^◌, ◌≤◌, ◌<◌, max}
 use native.Mathlib.Omega.{arith}
 use mathlib.Core.Path.{◌≡◌, refl, sym, ap, subst, ◌∙◌}
 use mathlib.Core.Bool.{Bool, true, false, not, ◌&&◌, false≢true, true≢false}
@@ -278,23 +278,23 @@ pub ruleset hashes = (key_typed, key_other, id_hashed, under_hashed)
 
 -- m is what the marks answered
 module _ (h : Bytes) (es : List Entry) (ms : List ℕ) (prefix : Bytes) (key kind : ℕ) {hash : ℕ} (eh : hash ≡ under_hash key kind) {m : Bool} (e : m ≡ is_met ms hash) where
-  pub key_unmarked : not m ≡ true → false ≡ key_found h es ms prefix key kind
+  pub key_unmarked : m ≡ false → false ≡ key_found h es ms prefix key kind
   unfolding key_found
-  key_unmarked f = rw (← eh, ← e, not_true m f)
+  key_unmarked f = rw (← eh, ← e, f)
 
-  pub key_looked : not m ≡ false → {r : Bool} → r ≡ key_seen h prefix kind es → r ≡ key_found h es ms prefix key kind
+  pub key_looked : m ≡ true → {r : Bool} → r ≡ key_seen h prefix kind es → r ≡ key_found h es ms prefix key kind
   unfolding key_found
-  key_looked f g = g ∙ rw (← eh, ← e, not_false m f)
+  key_looked f g = g ∙ rw (← eh, ← e, f)
 
 module _ (h : Bytes) (es : List Entry) (ms : List ℕ) (prefix : Bytes) (key : ℕ) (x : CodeEntry) {hash : ℕ} (eh : hash ≡ id_hash key x.kind (id_meaning h (entry_of x))) {m : Bool} (e : m ≡ is_met ms hash) where
-  pub id_unmarked : not m ≡ true → false ≡ id_found h es ms prefix key (entry_of x)
+  pub id_unmarked : m ≡ false → false ≡ id_found h es ms prefix key (entry_of x)
   unfolding id_found
-  id_unmarked f = rw (← eh, ← e, not_true m f)
+  id_unmarked f = rw (← eh, ← e, f)
 
   -- the code holds the new entry's ID in p
-  pub id_looked : not m ≡ false → {p : Bytes} → p ≡ id_in h (entry_of x) → {r : Bool} → r ≡ id_seen h prefix x.kind (meaning x.quoted p) es → r ≡ id_found h es ms prefix key (entry_of x)
+  pub id_looked : m ≡ true → {p : Bytes} → p ≡ id_in h (entry_of x) → {r : Bool} → r ≡ id_seen h prefix x.kind (meaning x.quoted p) es → r ≡ id_found h es ms prefix key (entry_of x)
   unfolding id_found
-  id_looked f ep g = g ∙ rw (← eh, ← e, not_false m f, ep)
+  id_looked f ep g = g ∙ rw (← eh, ← e, f, ep)
 
 -- no new line clashes with the fileformat line
 pub unmarked : (h ms : Bytes) (e : Entry) → e.kind < 2 → Marked h ms e
@@ -512,7 +512,11 @@ module _ {h : Bytes} {form : Form} {t ns : List ℕ} {first k : ℕ} (g : Nextin
     ];
   }
 
-pub ruleset nexts = (next_any, next_start, next_found, next_away)
+  -- none is left, up to the last one
+  pub next_end : {m : ℕ} → m ≤ k → NextNear h form t ns first (max m first)
+  next_end {m} l = record { later = omega arith; spared = λ n a b. g.spared n a (omega arith) }
+
+pub ruleset nexts = (next_any, next_start, next_found, next_away, next_end)
 
 passed_over : (h : Bytes) (ns : List ℕ) (form : Form) (t ms : List ℕ) (k d : ℕ) → ((n : ℕ) → k ≤ n → n < k + d → (ms : List ℕ) → mark_names h ns (entry_in form t n) ms ≡ ms)
     → mark_noted h ns (drop k (entries_in form t)) ms ≡ mark_noted h ns (drop (k + d) (entries_in form t)) ms

@@ -1,9 +1,10 @@
 -- The scans of the entries, a turn of each on plain values. Assumes nothing.
+use Rattle.std.specs.Prelude.{Option, Some, None}
 use Prim.Native.Nat.{ℕ, ◌+◌, ◌-◌, ◌<◌, ◌≤◌}
 use native.Mathlib.Omega.{arith}
 use mathlib.Core.Path.{◌≡◌, refl, sym, ap, ◌∙◌}
 use mathlib.Core.Bool.{Bool, true, false, not, ◌||◌, ◌&&◌, true≢false, false≢true}
-use mathlib.Core.List.{List, [], ◌∷◌}
+use mathlib.Core.List.{List}
 use lib.Dec.{eqb, ltb}
 use lib.ListN.{length, get_or, take, drop}
 use borrow.Author.Tests.{eq-eqb, ne_eqb, eqb-true, eqb-false, ltb-true, ltb-false, lt-ltb, le-ltb}
@@ -25,7 +26,7 @@ use Rattle.ids.specs.Clashes.{has_key, key_seen, is_of_key, is_of_id, id_seen, m
 use Rattle.ids.specs.Names.{prefix_hash, under_hash, id_hash, other_sort}
 use Rattle.ids.specs.Marks.{mark_under, meet_id, meet_key, key_found, id_found, mixed_found, twice_found, clash_of, clash_under}
 use Rattle.ids.specs.declared.scan.Clash.{Clash}
-use Rattle.ids.specs.declared.scan.Clash.TheVariants.{Free, TypedId, Mixed, OtherId}
+use Rattle.ids.specs.declared.scan.Clash.TheVariants.{TypedId, Mixed, OtherId}
 
 -- what answers the needs of `is_under`
 module _ (h prefix : Bytes) (kind : ℕ) (e : Entry) where
@@ -38,12 +39,6 @@ module _ (h prefix : Bytes) (kind : ℕ) (e : Entry) where
   other_under l a b = b ∙ rw (le-ltb kind 7 l, a)
 
 pub ruleset unders = (typed_under, other_under)
-
-pub no_last : (s : Bytes) → length s ≡ 0 → 0 ≡ last_of s
-no_last [] e = refl
-no_last (b ∷ s) e = absurd (omega arith)
-
-pub ruleset lasts = (no_last)
 
 -- what answers the needs of `may_equal`
 pub may : {h : Bytes} {e : Entry} {id : Bytes} {last : ℕ} {quoted : Bool} → MayEqual h e id last quoted true
@@ -74,11 +69,11 @@ module _ {h : Bytes} (e : Entry) {prefix : Bytes} {kind : ℕ} {id : Bytes} {las
   other_kind ne = record { passed = λ f. absurd (false≢true f); failed = λ l f. rw (ne_eqb e.kind kind ne) }
 
   module _ (ek : e.kind ≡ kind) {t : Bool} (m : MayEqual h e id last quoted t) where
-    pub unequal : not t ≡ true → Candidate h e prefix kind id last quoted false
+    pub unequal : t ≡ false → Candidate h e prefix kind id last quoted false
     unfolding is_of_id
     unequal n = record {
       passed = λ f. absurd (false≢true f);
-      failed = λ l f. rw (eq-eqb e.kind kind ek, m.other l (not_true t n)) (and_off (is_of_key h prefix kind e) refl);
+      failed = λ l f. rw (eq-eqb e.kind kind ek, m.other l n) (and_off (is_of_key h prefix kind e) refl);
     }
 
     pub candidate : {u : Bool} → u ≡ is_of_key h prefix kind e → Candidate h e prefix kind id last quoted u
@@ -237,20 +232,20 @@ key_marked key kind ms l a b = b ∙ rw (meet_key, le-ltb kind 7 l, a)
 pub ruleset keys_marked = (key_unmarked, key_marked)
 
 module _ (kind : ℕ) (twice mixed : Bool) where
-  pub of_mixed : mixed ≡ true → Mixed ≡ clash_of kind twice mixed
+  pub of_mixed : mixed ≡ true → Some Mixed ≡ clash_of kind twice mixed
   unfolding clash_of
   of_mixed e = rw (clash_of, e)
 
   module _ (e : mixed ≡ false) where
-    pub of_free : not twice ≡ true → Free ≡ clash_of kind twice mixed
+    pub of_free : not twice ≡ true → None ≡ clash_of kind twice mixed
     unfolding clash_of
     of_free f = rw (clash_of, e, not_true twice f)
 
-    pub of_typed : not twice ≡ false → kind < 7 → TypedId ≡ clash_of kind twice mixed
+    pub of_typed : not twice ≡ false → kind < 7 → Some TypedId ≡ clash_of kind twice mixed
     unfolding clash_of
     of_typed f l = rw (clash_of, e, not_false twice f, lt-ltb kind 7 l)
 
-    pub of_other : not twice ≡ false → 7 ≤ kind → OtherId ≡ clash_of kind twice mixed
+    pub of_other : not twice ≡ false → 7 ≤ kind → Some OtherId ≡ clash_of kind twice mixed
     unfolding clash_of
     of_other f l = rw (clash_of, e, not_false twice f, le-ltb kind 7 l)
 
@@ -258,8 +253,8 @@ pub ruleset all_clashes = (of_mixed, of_free, of_typed, of_other)
 
 -- a typed kind has no other sort; a map's is a text, a text's a map, and a text has no ID
 by_tests : (l n k i t m : Bool) → (l ≡ true → n ≡ false) → (k ≡ true → n ≡ false) → (l ≡ false → k ≡ false → n ≡ true)
-    → ◌≡◌ {A = Clash} (elim (not l && elim k [ true ↦ t | false ↦ m ]) [ true ↦ Mixed | false ↦ elim (not n && i) [ true ↦ elim l [ true ↦ TypedId | false ↦ OtherId ] | false ↦ Free ] ])
-    (elim l [ true ↦ elim i [ true ↦ TypedId | false ↦ Free ] | false ↦ elim k [ true ↦ map_clash t i | false ↦ elim m [ true ↦ Mixed | false ↦ Free ] ] ])
+    → ◌≡◌ {A = Option Clash} (elim (not l && elim k [ true ↦ t | false ↦ m ]) [ true ↦ Some Mixed | false ↦ elim (not n && i) [ true ↦ elim l [ true ↦ Some TypedId | false ↦ Some OtherId ] | false ↦ None ] ])
+    (elim l [ true ↦ elim i [ true ↦ Some TypedId | false ↦ None ] | false ↦ elim k [ true ↦ map_clash t i | false ↦ elim m [ true ↦ Some Mixed | false ↦ None ] ] ])
 by_tests true true k i t m a b c = absurd (true≢false (a refl))
 by_tests true false k true t m a b c = refl
 by_tests true false k false t m a b c = refl
@@ -301,7 +296,7 @@ module _ (h prefix : Bytes) (new : CodeEntry) {key : ℕ} (ek : key ≡ prefix_h
   by_key es kind = elim (test (eqb kind 7)) [ pass k ↦ rw (other_sort, k) | fail k ↦ rw (other_sort, k) ]
 
   pub clash_found_lem : (es : List Entry) {mixed : Bool} → mixed ≡ mixed_found h es ms prefix key (entry_of new) → {twice : Bool} → twice ≡ twice_found h es ms prefix key (entry_of new)
-      → {r : Clash} → r ≡ clash_of new.kind twice mixed → r ≡ clash_under h es ms prefix (prefix_hash prefix new.kind) (entry_of new)
+      → {r : Option Clash} → r ≡ clash_of new.kind twice mixed → r ≡ clash_under h es ms prefix (prefix_hash prefix new.kind) (entry_of new)
   unfolding mixed_found twice_found
   clash_found_lem es a b c =
       c ∙ rw (a, b, by_key es new.kind) (by_sort new.kind (id_found h es ms prefix key (entry_of new)) (key_found h es ms prefix key text_kind) (key_found h es ms prefix key (map_kind other)))

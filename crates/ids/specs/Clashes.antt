@@ -1,5 +1,5 @@
 -- Document 01, refusals 19 to 21, as the entries kept so far answer them. Assumes nothing.
-use Rattle.std.specs.Prelude.{ℕ, ◌-◌, ◌≡◌, Bool, true, false, ◌||◌, ◌&&◌, List, [], ◌∷◌, ◌++◌, eqb, ltb, length, get_or}
+use Rattle.std.specs.Prelude.{ℕ, ◌-◌, ◌≡◌, Bool, true, false, ◌||◌, ◌&&◌, List, [], ◌∷◌, ◌++◌, eqb, ltb, length, get_or, Option, Some, None}
 use Rattle.values.specs.Bytes.{Bytes, ascii, starts, same}
 use Rattle.values.specs.Value.{meaning}
 use Rattle.rules.specs.Known.{other}
@@ -7,14 +7,14 @@ use Rattle.rules.specs.Entry.{Entry, map_kind, text_kind}
 use Rattle.rules.specs.Shown.{line_in, id_meaning}
 use Rattle.rules.specs.Claims.{key_in}
 use Rattle.ids.specs.declared.scan.Clash.{Clash}
-use Rattle.ids.specs.declared.scan.Clash.TheVariants.{Free, TypedId, Mixed, OtherId}
+use Rattle.ids.specs.declared.scan.Clash.TheVariants.{TypedId, Mixed, OtherId}
 
 -- the refusal, 0 where there is none
-abbrev pub clash_number : Clash → ℕ
-clash_number Free = 0
-clash_number TypedId = 19
-clash_number Mixed = 20
-clash_number OtherId = 21
+abbrev pub clash_number : Option Clash → ℕ
+clash_number None = 0
+clash_number (Some TypedId) = 19
+clash_number (Some Mixed) = 20
+clash_number (Some OtherId) = 21
 
 -- a record's line through its first `=`
 abbrev pub prefix_of : Bytes → Bytes
@@ -46,20 +46,20 @@ id_seen h prefix kind id [] = false
 id_seen h prefix kind id (e ∷ es) = is_of_id h prefix kind id e || id_seen h prefix kind id es
 
 -- 20, then 21, for an other map: whether its key was seen with a text, and its ID
-abbrev pub map_clash : Bool → Bool → Clash
-map_clash true idIs = Mixed
-map_clash false true = OtherId
-map_clash false false = Free
+abbrev pub map_clash : Bool → Bool → Option Clash
+map_clash true idIs = Some Mixed
+map_clash false true = Some OtherId
+map_clash false false = None
 
 -- 19 for a typed kind; those for an other map; 20 for an other text: whether the ID was seen, the key with a text, and with a map
-unfoldable pub clash_by : ℕ → Bool → Bool → Bool → Clash
+unfoldable pub clash_by : ℕ → Bool → Bool → Bool → Option Clash
 clash_by kind idIs textIs mapIs = elim (ltb kind 7) [
-  | true ↦ elim idIs [ true ↦ TypedId | false ↦ Free ]
-  | false ↦ elim (eqb kind 7) [ true ↦ map_clash textIs idIs | false ↦ elim mapIs [ true ↦ Mixed | false ↦ Free ] ]
+  | true ↦ elim idIs [ true ↦ Some TypedId | false ↦ None ]
+  | false ↦ elim (eqb kind 7) [ true ↦ map_clash textIs idIs | false ↦ elim mapIs [ true ↦ Some Mixed | false ↦ None ] ]
 ]
 
 -- the new entry e, whose line begins with the prefix, beside the entries es
-abbrev pub clash_in : Bytes → List Entry → Bytes → Entry → Clash
+abbrev pub clash_in : Bytes → List Entry → Bytes → Entry → Option Clash
 clash_in h es prefix e = clash_by e.kind (id_seen h prefix e.kind (id_meaning h e) es) (key_seen h prefix text_kind es) (key_seen h prefix (map_kind other) es)
 
 -- Cheap tests before the bytes of two IDs are compared

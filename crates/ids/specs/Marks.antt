@@ -1,5 +1,5 @@
 -- Marks of the entries kept so far, by which a scan of them may be left out. Assumes nothing.
-use Rattle.std.specs.Prelude.{ℕ, ◌≤◌, ◌<◌, ◌≡◌, Bool, true, false, not, ◌&&◌, List, [], ◌∷◌, eqb, ltb}
+use Rattle.std.specs.Prelude.{ℕ, ◌≤◌, ◌<◌, ◌≡◌, Bool, true, false, not, ◌&&◌, List, [], ◌∷◌, eqb, ltb, Option, Some, None}
 use Rattle.values.specs.Bytes.{Bytes}
 use Rattle.values.specs.Marks.{is_met, meet}
 use Rattle.rules.specs.Known.{other}
@@ -11,7 +11,7 @@ use Rattle.entries.specs.Tables.{entry_in}
 use Rattle.ids.specs.Ahead.{hash_noted, quoted_noted, text_near, sort_noted}
 use Rattle.ids.specs.Clashes.{key_seen, id_seen, clash_by}
 use Rattle.ids.specs.declared.scan.Clash.{Clash}
-use Rattle.ids.specs.declared.scan.Clash.TheVariants.{Free, TypedId, Mixed, OtherId}
+use Rattle.ids.specs.declared.scan.Clash.TheVariants.{TypedId, Mixed, OtherId}
 
 -- the ID of a kind that has one
 unfoldable pub meet_id : Bytes → ℕ → Entry → List ℕ → List ℕ
@@ -101,11 +101,11 @@ unfoldable pub twice_found : Bytes → List Entry → List ℕ → Bytes → ℕ
 twice_found h es ms prefix key e = not (ltb 7 e.kind) && id_found h es ms prefix key e
 
 -- by whether the ID was seen, and the key with the other sort
-unfoldable pub clash_of : ℕ → Bool → Bool → Clash
-clash_of kind twice mixed = elim mixed [ true ↦ Mixed | false ↦ elim twice [ true ↦ elim (ltb kind 7) [ true ↦ TypedId | false ↦ OtherId ] | false ↦ Free ] ]
+unfoldable pub clash_of : ℕ → Bool → Bool → Option Clash
+clash_of kind twice mixed = elim mixed [ true ↦ Some Mixed | false ↦ elim twice [ true ↦ elim (ltb kind 7) [ true ↦ Some TypedId | false ↦ Some OtherId ] | false ↦ None ] ]
 
-abbrev pub clash_under : Bytes → List Entry → List ℕ → Bytes → ℕ → Entry → Clash
+abbrev pub clash_under : Bytes → List Entry → List ℕ → Bytes → ℕ → Entry → Option Clash
 clash_under h es ms prefix key e = clash_by e.kind (id_found h es ms prefix key e) (key_found h es ms prefix key text_kind) (key_found h es ms prefix key (map_kind other))
 
-abbrev pub clash_found : Bytes → List Entry → List ℕ → Bytes → Entry → Clash
+abbrev pub clash_found : Bytes → List Entry → List ℕ → Bytes → Entry → Option Clash
 clash_found h es ms prefix e = clash_under h es ms prefix (key_hash h e) e

@@ -24,10 +24,7 @@ pub fn key_hash(h: &[u8], e: Entry) -> u64
 pub fn prefix_hash(prefix: &[u8], kind: u8) -> u64
     ensures { result ≡ prefix_hash prefix.now kind }
 {
-    if kind < kind::OTHER_MAP {
-        return hash::WIDE_BASIS;
-    }
-    if prefix.len() < 3 {
+    if kind < kind::OTHER_MAP || prefix.len() < 3 {
         return hash::WIDE_BASIS;
     }
     let end = prefix.len() - 1;
@@ -52,16 +49,10 @@ pub fn other_sort(kind: u8) -> u8
     ensures { result ≡ other_sort kind }
 {
     if kind == kind::OTHER_MAP {
-        return kind::OTHER_TEXT;
+        kind::OTHER_TEXT
+    } else {
+        kind::OTHER_MAP
     }
-    kind::OTHER_MAP
-}
-
-fn byte_at(h: &[u8], at: usize) -> u8
-    requires { at < length h.now }
-    ensures { result ≡ get_or h.now at 0 }
-{
-    h[at]
 }
 
 // Four bytes as a number: they lie side by side, so that they are read at once.
@@ -70,11 +61,10 @@ fn four(h: &[u8], at: usize) -> u64
     ensures four { result ≡ four_at h.now at }
     ensures small { result < 2 ^ 32 }
 {
-    let a = byte_at(h, at);
-    let b = byte_at(h, at + 1);
-    let c = byte_at(h, at + 2);
-    let d = byte_at(h, at + 3);
-    (a as u64) + (b as u64) * 0x100 + (c as u64) * 0x1_0000 + (d as u64) * 0x100_0000
+    u64::from(h[at])
+        + u64::from(h[at + 1]) * 0x100
+        + u64::from(h[at + 2]) * 0x1_0000
+        + u64::from(h[at + 3]) * 0x100_0000
 }
 
 // A hash of the eight bytes before `end`.

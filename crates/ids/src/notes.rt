@@ -21,10 +21,7 @@ pub fn is_hash_noted(notes: &[u64], hash: u64) -> bool
     ensures { result ≡ hash_noted notes.now hash }
 {
     let once = hash::wide_step(hash, 0);
-    if !marks::is_noted(notes, once) {
-        return false;
-    }
-    marks::is_noted(notes, hash::wide_step(once, 0))
+    marks::is_noted(notes, once) && marks::is_noted(notes, hash::wide_step(once, 0))
 }
 
 // The last bytes of an ID ahead.
@@ -33,12 +30,9 @@ pub fn note_text(notes: &mut [u64], text: &[u8], quoted: bool)
 {
     if quoted {
         marks::note(notes, QUOTED);
-        return;
+    } else if 8 <= text.len() {
+        marks::note(notes, names::tail_hash(text, text.len()));
     }
-    if text.len() < 8 {
-        return;
-    }
-    marks::note(notes, names::tail_hash(text, text.len()));
 }
 
 // Whether an ID ahead stands so.
@@ -52,16 +46,10 @@ pub fn is_quoted_noted(notes: &[u64]) -> bool
 pub fn is_text_near(notes: &[u64], text: &[u8], quoted: bool) -> bool
     ensures { result ≡ text_near notes.now quoted text.now }
 {
-    if quoted {
-        return true;
-    }
-    if text.len() < 8 {
-        return true;
-    }
-    if is_quoted_noted(notes) {
-        return true;
-    }
-    marks::is_noted(notes, names::tail_hash(text, text.len()))
+    quoted
+        || text.len() < 8
+        || is_quoted_noted(notes)
+        || marks::is_noted(notes, names::tail_hash(text, text.len()))
 }
 
 // That a line ahead goes with no record of this kind under its key.

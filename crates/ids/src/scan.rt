@@ -18,7 +18,6 @@ use values::{bytes, marks, string};
 
 #[derive(Clone, Copy)]
 pub enum Clash {
-    Free,
     TypedId,
     Mixed,
     OtherId,
@@ -36,71 +35,41 @@ struct Wanted {
 fn is_under(h: &[u8], e: Entry, prefix: &[u8], kind: u8) -> bool
     ensures { result ≡ is_of_key h.now prefix.now kind (entry_of e) }
 {
-    if kind < kind::OTHER_MAP {
-        return true;
-    }
-    bytes::starts_with(part::line_part(h, e), prefix)
+    kind < kind::OTHER_MAP || bytes::starts_with(part::line_part(h, e), prefix)
 }
 
 fn last_byte(s: &[u8]) -> u8
     ensures { result ≡ last_of s.now }
 {
-    if s.len() == 0 {
-        return 0;
-    }
-    let at = s.len() - 1;
-    s[at]
+    s.last().copied().unwrap_or(0)
 }
 
 // Few pairs pass: two bare IDs are equal only where their lengths and last bytes are.
 fn may_equal(h: &[u8], e: Entry, id: &[u8], wanted: Wanted) -> bool
     ensures { MayEqual h.now (entry_of e) id.now wanted.last wanted.quoted result }
 {
-    let quoted = wanted.quoted;
-    if quoted {
-        return true;
-    }
-    let other_quoted = e.quoted;
-    if other_quoted {
+    if wanted.quoted || e.quoted {
         return true;
     }
     let other = part::id_part(h, e);
-    if other.len() != id.len() {
-        return false;
-    }
-    if other.len() == 0 {
-        return true;
-    }
-    let at = other.len() - 1;
-    other[at] == wanted.last
+    other.len() == id.len() && (other.len() == 0 || other[other.len() - 1] == wanted.last)
 }
 
 // Whether an entry has the kind and the key, and may have the ID: the cheapest test first.
 fn is_candidate(h: &[u8], e: Entry, prefix: &[u8], id: &[u8], wanted: Wanted) -> bool
     ensures { Candidate h.now (entry_of e) prefix.now wanted.kind id.now wanted.last wanted.quoted result }
 {
-    if e.kind != wanted.kind {
-        return false;
-    }
-    if !may_equal(h, e, id, wanted) {
-        return false;
-    }
-    is_under(h, e, prefix, wanted.kind)
+    e.kind == wanted.kind && may_equal(h, e, id, wanted) && is_under(h, e, prefix, wanted.kind)
 }
 
 // Whether an entry of this kind stands under the key that the prefix names.
 fn key_seen(h: &[u8], kept: &[u64], form: Form, prefix: &[u8], kind: u8) -> bool
     ensures { result ≡ key_seen h.now prefix.now kind (entries_in form kept.now) }
 {
-    let mut k = 0;
-    while k < table::count(kept, form) {
+    for k in 0..table::count(kept, form) {
         let e = table::get(kept, form, k);
-        k += 1;
-        if e.kind == kind {
-            let line = part::line_part(h, e);
-            if bytes::starts_with(line, prefix) {
-                return true;
-            }
+        if e.kind == kind && bytes::starts_with(part::line_part(h, e), prefix) {
+            return true;
         }
     }
     false
@@ -120,15 +89,12 @@ fn id_seen(
 {
     let last = last_byte(id);
     let wanted = Wanted { kind, last, quoted };
-    let mut k = 0;
-    while k < table::count(kept, form) {
+    for k in 0..table::count(kept, form) {
         let e = table::get(kept, form, k);
-        k += 1;
-        if is_candidate(h, e, prefix, id, wanted) {
-            let other = part::id_part(h, e);
-            if string::same_meaning(other, e.quoted, id, quoted) {
-                return true;
-            }
+        if is_candidate(h, e, prefix, id, wanted)
+            && string::same_meaning(part::id_part(h, e), e.quoted, id, quoted)
+        {
+            return true;
         }
     }
     false
@@ -146,10 +112,7 @@ fn has_key(
 ) -> bool
     ensures { result ≡ key_found h.now (entries_in form kept.now) marks.now prefix.now key kind }
 {
-    if !marks::is_met(marks, names::under_hash(key, kind)) {
-        return false;
-    }
-    key_seen(h, kept, form, prefix, kind)
+    marks::is_met(marks, names::under_hash(key, kind)) && key_seen(h, kept, form, prefix, kind)
 }
 
 // The new entry's ID is marked by that.
@@ -165,18 +128,9 @@ fn has_id(
     ensures found { result ≡ id_found h.now (entries_in form kept.now) marks.old prefix.now key (entry_of new) }
     ensures marks { marks.new ≡ meet marks.old (id_hash key new.kind (id_meaning h.now (entry_of new))) }
 {
-    if !marks::meet_hash(marks, names::id_hash(h, key, new)) {
-        return false;
-    }
-    id_seen(
-        h,
-        kept,
-        form,
-        prefix,
-        new.kind,
-        part::id_part(h, new),
-        new.quoted,
-    )
+    let id = part::id_part(h, new);
+    marks::meet_hash(marks, names::id_hash(h, key, new))
+        && id_seen(h, kept, form, prefix, new.kind, id, new.quoted)
 }
 
 // Whether a record of the other sort, a text beside a map or a map beside a text, stands under the new one's key.
@@ -191,18 +145,8 @@ fn is_mixed(
 ) -> bool
     ensures { result ≡ mixed_found h.now (entries_in form kept.now) marks.now prefix.now key (entry_of new) }
 {
-    if new.kind < kind::OTHER_MAP {
-        return false;
-    }
-    has_key(
-        h,
-        kept,
-        form,
-        marks,
-        prefix,
-        key,
-        names::other_sort(new.kind),
-    )
+    let rival = names::other_sort(new.kind);
+    kind::OTHER_MAP <= new.kind && has_key(h, kept, form, marks, prefix, key, rival)
 }
 
 // As `has_id`, of a kind that has one.
@@ -218,34 +162,30 @@ fn is_twice(
     ensures found { result ≡ twice_found h.now (entries_in form kept.now) marks.old prefix.now key (entry_of new) }
     ensures marks { marks.new ≡ meet_id h.now key (entry_of new) marks.old }
 {
-    if kind::OTHER_MAP < new.kind {
-        return false;
-    }
-    has_id(h, kept, form, marks, prefix, key, new)
+    new.kind <= kind::OTHER_MAP && has_id(h, kept, form, marks, prefix, key, new)
 }
 
 fn meet_key(marks: &mut [u64], key: u64, kind: u8)
     ensures { marks.new ≡ meet_key key kind marks.old }
 {
-    if kind < kind::OTHER_MAP {
-        return;
+    if kind::OTHER_MAP <= kind {
+        marks::meet_hash(marks, names::under_hash(key, kind));
     }
-    marks::meet_hash(marks, names::under_hash(key, kind));
 }
 
-fn clash_of(kind: u8, twice: bool, mixed: bool) -> Clash
+fn clash_of(kind: u8, twice: bool, mixed: bool) -> Option<Clash>
     ensures { result ≡ clash_of kind twice mixed }
 {
     if mixed {
-        return Clash::Mixed;
+        return Some(Clash::Mixed);
     }
     if !twice {
-        return Clash::Free;
+        return None;
     }
     if kind < kind::OTHER_MAP {
-        return Clash::TypedId;
+        return Some(Clash::TypedId);
     }
-    Clash::OtherId
+    Some(Clash::OtherId)
 }
 
 // What is wrong with a new line beside the entries kept so far, which are marked; it is marked too. `new` is its entry,
@@ -257,7 +197,7 @@ pub fn find_clash(
     marks: &mut [u64],
     prefix: &[u8],
     new: Entry,
-) -> Clash
+) -> Option<Clash>
     ensures clash { result ≡ clash_under h.now (entries_in form kept.now) marks.old prefix.now (prefix_hash prefix.now new.kind) (entry_of new) }
     ensures marks { marks.new ≡ mark_under h.now (prefix_hash prefix.now new.kind) (entry_of new) marks.old }
 {
@@ -311,6 +251,7 @@ fn mark_names(h: &[u8], e: Entry, notes: &[u64], marks: &mut [u64])
 }
 
 // Whether an entry's ID lies in the header.
+// Kept: tried, with one chain of `&&` `mark_noted` is 4 % slower.
 fn lies_inside(h: &[u8], e: Entry) -> bool
     ensures { result ≡ leb (id_end (entry_of e)) (length h.now) }
 {
@@ -328,39 +269,23 @@ fn lies_inside(h: &[u8], e: Entry) -> bool
 fn is_id_near(h: &[u8], e: Entry, notes: &[u64]) -> bool
     ensures { IdSpared h.now notes.now (entry_of e) result }
 {
-    let quoted = e.quoted;
-    if quoted {
-        return true;
-    }
-    if e.id_length < 8 {
-        return true;
-    }
-    if !lies_inside(h, e) {
-        return true;
-    }
-    marks::is_noted(notes, names::tail_hash(h, e.start + e.offset + e.id_length))
+    e.quoted
+        || e.id_length < 8
+        || !lies_inside(h, e)
+        || marks::is_noted(notes, names::tail_hash(h, e.start + e.offset + e.id_length))
 }
 
 fn is_key_near(e: Entry, notes: &[u64]) -> bool
     ensures { KeySpared notes.now (entry_of e) result }
 {
-    if e.kind < kind::OTHER_MAP {
-        return false;
-    }
-    notes::is_sort_noted(notes, e.kind)
+    kind::OTHER_MAP <= e.kind && notes::is_sort_noted(notes, e.kind)
 }
 
 // Whether a name of an entry may have been noted: a cheap test that most entries fail.
 fn is_near(h: &[u8], e: Entry, notes: &[u64]) -> bool
     ensures { Spared h.now notes.now (entry_of e) result }
 {
-    if is_key_near(e, notes) {
-        return true;
-    }
-    if kind::OTHER_MAP < e.kind {
-        return false;
-    }
-    is_id_near(h, e, notes)
+    is_key_near(e, notes) || (e.kind <= kind::OTHER_MAP && is_id_near(h, e, notes))
 }
 
 // The first entry from number `first` on of which that holds, or the end; where an ID ahead is quoted, any entry may have its ID.
@@ -371,14 +296,13 @@ fn next_near(h: &[u8], kept: &[u64], form: Form, notes: &[u64], quoted: bool, fi
     if quoted {
         return first;
     }
-    let mut k = first;
-    while k < table::count(kept, form) {
+    let end = table::count(kept, form);
+    for k in first..end {
         if is_near(h, table::get(kept, form, k), notes) {
             return k;
         }
-        k += 1;
     }
-    k
+    end.max(first)
 }
 
 // Marks the entries whose names were noted, so that a scan of the table may be left out; where there are no notes, all of them.
@@ -387,6 +311,7 @@ pub fn mark_noted(h: &[u8], kept: &[u64], form: Form, notes: &[u64], marks: &mut
 {
     let quoted = notes::is_quoted_noted(notes);
     let mut k: usize = 0;
+    // Kept: tried, one `for` over all entries with the test and the marking in it is 38 % slower.
     loop {
         k = next_near(h, kept, form, notes, quoted, k);
         if table::count(kept, form) <= k {

@@ -6,10 +6,10 @@ use native.Mathlib.Numerals.{add-one}
 use mathlib.Core.Path.{◌≡◌, refl, sym, ap, subst, ◌∙◌}
 use mathlib.Core.Bool.{Bool, true, false, ◌&&◌, and-true, and-false}
 use mathlib.Core.List.{List, [], ◌∷◌, ◌++◌, append-nil, append_assoc}
-use mathlib.Core.Option.{Option, none, some}
+use Rattle.std.specs.Prelude.{Option, None, Some, Ok, Err}
 use lib.Dec.{leb, ltb}
-use lib.ListN.{length, take, drop, get_or, set, replicate, length-append, length-set, replicate-append-replicate, drop_of_length-le}
-use lib.Seq.{take-nil, drop-nil, take_all, take-suc, take-suc-set, set_split}
+use lib.ListN.{length, take, drop, get_or, set, replicate, length-append, length-set, drop_of_length-le}
+use lib.Seq.{take-nil, drop-nil, take_all, take-suc, set_split}
 use borrow.Author.Tests.{eq-eqb, ne_eqb, le-leb, lt-leb, lt-ltb, le-ltb, ltb-true}
 use Rattle.values.specs.Bytes.{Bytes}
 use Rattle.values.specs.Value.{meaning}
@@ -19,44 +19,15 @@ use Rattle.rules.specs.Entry.{Entry as RuleEntry}
 use Rattle.rules.specs.Shown.{id_in}
 use Rattle.entries.specs.declared.entry.Entry.{Entry}
 use Rattle.entries.specs.declared.form.Form.{Form}
-use Rattle.entries.specs.declared.shown.EntryRead.{EntryRead}
-use Rattle.entries.specs.declared.shown.EntryRead.TheVariants as read
 use Rattle.entries.specs.Values.{entry_of}
 use Rattle.entries.specs.Shown.{entry_meant}
 use Rattle.entries.specs.Tables.{room, entry_in, entry_at}
 use Rattle.entries.proofs.Calls.{found_at}
 use Rattle.index.specs.Index.{is_indexed, first_place, in_turn, next_place, fill, placed, entry_placed, all_placed, numbered, indexed_from, indexed_in, all_fit, enough, answer_of, build_answer, built_index, index_by, TallyIs, Tallies, PlacesAll}
 use Rattle.index.specs.declared.build.BuildAnswer.{BuildAnswer}
-use Rattle.index.specs.declared.build.BuildOutcome.TheVariants.{Built, NotWellFormed, TooFewPlaces}
-use Rattle.index.specs.declared.build.Tallied.{Tallied}
-use Rattle.index.specs.declared.build.Tallied.TheVariants as tallied
+use Rattle.index.specs.declared.build.BuildRefusal.TheVariants.{NotWellFormed, TooFewPlaces}
 use Rattle.index.proofs.Places.{Trying, try_first, try_next, turn_length, turn_back, turn_holds, turn_set}
 use Rattle.index.proofs.Finding.{no_places}
-
--- Clearing
-
-pub record Clearing (index₀ index : List ℕ) (i : ℕ) : Type 0 where
-  pub inside : i ≤ length index
-  pub long : length index ≡ length index₀
-  pub clear : take i index ≡ replicate i 0
-
-pub clear_start : (index : List ℕ) → Clearing index index 0
-clear_start index = record { inside = omega arith; long = refl; clear = refl }
-
-module _ {index₀ index : List ℕ} {i : ℕ} (g : Clearing index₀ index i) where
-  pub clear_next : i < length index → Clearing index₀ (set index i 0) (i + 1)
-  clear_next h = record {
-    inside = omega (arith, length-set index i 0);
-    long = length-set index i 0 ∙ g.long;
-    clear = rw (add-one i) (take-suc-set index i 0 h ∙ ap (◌++ 0 ∷ []) g.clear ∙ replicate-append-replicate i 1 0 ∙ ap (λ (n : ℕ). replicate n 0) (add-one i));
-  }
-
-  pub clear_end : length index ≤ i → index ≡ replicate (length index₀) 0
-  clear_end h =
-      let z : i ≡ length index₀ = omega (arith, g.inside, g.long) in
-      sym (take_all i index h) ∙ g.clear ∙ ap (λ (n : ℕ). replicate n 0) z
-
-pub ruleset clears = (clear_start, clear_next, clear_end)
 
 -- Placing one: the places before the k-th are taken
 
@@ -78,9 +49,9 @@ module _ {index₀ index : List ℕ} {p w at k : ℕ} (g : Putting index₀ inde
   unfolding placed
   back v e l = let f = g.trying.from in rw (← g.same) (sym (rw (e, ← l) (turn_back p v (omega arith))))
 
-  pub put_end : length index ≤ k → index ≡ placed p w index₀
+  pub put_end : length index₀ ≤ k → index ≡ placed p w index₀
   unfolding fill
-  put_end h = back index (g.still ∙ rw (drop_of_length-le turned {i = k} (rw (turn_length p index) h), take_all k turned (rw (turn_length p index) h)) (append-nil turned)) refl
+  put_end m = let h : length index ≤ k = omega (arith, m, g.long) in back index (g.still ∙ rw (drop_of_length-le turned {i = k} (rw (turn_length p index) h), take_all k turned (rw (turn_length p index) h)) (append-nil turned)) refl
 
   module _ (h : k < length index) where
     left : drop k turned ≡ get_or index at 0 ∷ drop (k + 1) turned
@@ -129,20 +100,20 @@ pub ruleset put_entries = (entry_nowhere, entry_put)
 
 -- these numbers in front of the rest
 abbrev onto : List ℕ → Option (List ℕ) → Option (List ℕ)
-onto ds none = none
-onto ds (some ns) = some (ds ++ ns)
+onto ds None = None
+onto ds (Some ns) = Some (ds ++ ns)
 
 onto_nothing : (o : Option (List ℕ)) → onto [] o ≡ o
-onto_nothing none = refl
-onto_nothing (some ns) = refl
+onto_nothing None = refl
+onto_nothing (Some ns) = refl
 
-onto_one : (ds : List ℕ) (n : ℕ) (e : RuleEntry) (o : Option (List ℕ)) → is_indexed e.kind ≡ true → onto ds (numbered n (some e) o) ≡ onto (ds ++ n ∷ []) o
-onto_one ds n e none q = refl
-onto_one ds n e (some ns) q = rw q (ap some (sym (append_assoc ds (n ∷ []) ns)))
+onto_one : (ds : List ℕ) (n : ℕ) (e : RuleEntry) (o : Option (List ℕ)) → is_indexed e.kind ≡ true → onto ds (numbered n (Some e) o) ≡ onto (ds ++ n ∷ []) o
+onto_one ds n e None q = refl
+onto_one ds n e (Some ns) q = rw q (ap Some (sym (append_assoc ds (n ∷ []) ns)))
 
-onto_other : (ds : List ℕ) (n : ℕ) (e : RuleEntry) (o : Option (List ℕ)) → is_indexed e.kind ≡ false → onto ds (numbered n (some e) o) ≡ onto ds o
-onto_other ds n e none q = refl
-onto_other ds n e (some ns) q = rw q
+onto_other : (ds : List ℕ) (n : ℕ) (e : RuleEntry) (o : Option (List ℕ)) → is_indexed e.kind ≡ false → onto ds (numbered n (Some e) o) ≡ onto ds o
+onto_other ds n e None q = refl
+onto_other ds n e (Some ns) q = rw q
 
 fit_more : (ds : List ℕ) (n : ℕ) → all_fit (ds ++ n ∷ []) ≡ all_fit ds && ltb (n + 1) (2 ^ 32)
 unfolding all_fit
@@ -175,29 +146,29 @@ tally_start form h t = record {
 }
 
 module _ {form : Form} {h : Bytes} {t : List ℕ} {n count last : ℕ} (g : Tallying form h t n count last) {m : ℕ} (all : m ≡ room form t) where
-  pub tally_end : m ≤ n → Tallies (indexed_in form h t) (tallied.Count count last)
+  pub tally_end : m ≤ n → Tallies (indexed_in form h t) (Some (count, last))
   unfolding indexed_from
   tally_end l =
       let z : room form t - n ≡ 0 = omega (arith, l, all) in
-      record { is = (g.done, g.whole ∙ rw z (ap some (append-nil g.done)), sym g.size, g.fits) }
+      record { is = (g.done, g.whole ∙ rw z (ap Some (append-nil g.done)), sym g.size, g.fits) }
 
   pub tally_less : n < m → m - (n + 1) < m - n
   tally_less l = omega (arith, l)
 
-  module _ (l : n < m) (r : EntryRead) (a : entry_meant r ≡ entry_at form h t n) where
+  module _ (l : n < m) (r : Option Entry) (a : entry_meant r ≡ entry_at form h t n) where
     more : (o : Option RuleEntry) → entry_at form h t n ≡ o → indexed_in form h t ≡ onto g.done (numbered n o (indexed_from form h t (n + 1) (room form t - (n + 1))))
     unfolding indexed_from
     more o e = let z : room form t - n ≡ suc (room form t - (n + 1)) = omega (arith, l, all) in g.whole ∙ rw (z, indexed_from, e)
 
-    pub tally_refused : r ≡ read.Missing → Tallies (indexed_in form h t) tallied.Refused
-    tally_refused e = record { is = more none (sym a ∙ ap entry_meant e) }
+    pub tally_refused : r ≡ None → Tallies (indexed_in form h t) None
+    tally_refused e = record { is = more None (sym a ∙ ap entry_meant e) }
 
-    module _ {e : Entry} (b : r ≡ read.Entry e) {q : Bool} (d : q ≡ is_indexed e.kind) where
+    module _ {e : Entry} (b : r ≡ Some e) {q : Bool} (d : q ≡ is_indexed e.kind) where
       abbrev rest : Option (List ℕ)
       rest = indexed_from form h t (n + 1) (room form t - (n + 1))
 
-      here_is : indexed_in form h t ≡ onto g.done (numbered n (some (entry_of e)) rest)
-      here_is = more (some (entry_of e)) (sym a ∙ ap entry_meant b)
+      here_is : indexed_in form h t ≡ onto g.done (numbered n (Some (entry_of e)) rest)
+      here_is = more (Some (entry_of e)) (sym a ∙ ap entry_meant b)
 
       pub tally_other : q ≡ false → Tallying form h t (n + 1) count last
       tally_other f = record {
@@ -235,25 +206,25 @@ pub ruleset tallies = (tally_start, tally_end, tally_less, tally_refused, tally_
 pub record Numbers (n : ℕ) (o : Option RuleEntry) (os : Option (List ℕ)) (ms : List ℕ) : Type 0 where
   pub entry : RuleEntry
   pub rest : List ℕ
-  pub there : o ≡ some entry
-  pub others : os ≡ some rest
+  pub there : o ≡ Some entry
+  pub others : os ≡ Some rest
   pub numbers : ms ≡ elim (is_indexed entry.kind) [ true ↦ n ∷ rest | false ↦ rest ]
 
-pub numbers_of : (n : ℕ) (o : Option RuleEntry) (os : Option (List ℕ)) {ms : List ℕ} → numbered n o os ≡ some ms → Numbers n o os ms
-numbers_of n none os e = none_not e
-numbers_of n (some x) none e = none_not e
-numbers_of n (some x) (some ns) e = record { entry = x; rest = ns; there = refl; others = refl; numbers = sym (some_is e) }
+pub numbers_of : (n : ℕ) (o : Option RuleEntry) (os : Option (List ℕ)) {ms : List ℕ} → numbered n o os ≡ Some ms → Numbers n o os ms
+numbers_of n None os e = none_not e
+numbers_of n (Some x) None e = none_not e
+numbers_of n (Some x) (Some ns) e = record { entry = x; rest = ns; there = refl; others = refl; numbers = sym (some_is e) }
 
 pub record Left (form : Form) (h : Bytes) (t index₀ index ns : List ℕ) (n : ℕ) : Type 0 where
   pub numbers : List ℕ
-  pub are : indexed_from form h t n (room form t - n) ≡ some numbers
+  pub are : indexed_from form h t n (room form t - n) ≡ Some numbers
   pub fit : all_fit numbers ≡ true
   pub still : all_placed form h t ns index₀ ≡ all_placed form h t numbers index
 
 pub record Placing (form : Form) (h : Bytes) (t index₀ index : List ℕ) (n : ℕ) : Type 0 where
   pub inside : n ≤ room form t
   pub long : length index ≡ length index₀
-  pub left : (ns : List ℕ) → indexed_in form h t ≡ some ns → all_fit ns ≡ true → Left form h t index₀ index ns n
+  pub left : (ns : List ℕ) → indexed_in form h t ≡ Some ns → all_fit ns ≡ true → Left form h t index₀ index ns n
 
 pub place_start : (form : Form) (h : Bytes) (t index : List ℕ) → Placing form h t index index 0
 place_start form h t index = record {
@@ -275,11 +246,11 @@ module _ {form : Form} {h : Bytes} {t index₀ index : List ℕ} {n : ℕ} (g : 
 
   module _ (l : n < m) {e : Entry} (a : entry_of e ≡ entry_in form t n) {q : Bool} (d : q ≡ is_indexed e.kind) where
     -- the numbers that are left, one entry on
-    next : (ms : List ℕ) → indexed_from form h t n (room form t - n) ≡ some ms → Numbers n (entry_at form h t n) (indexed_from form h t (n + 1) (room form t - (n + 1))) ms
+    next : (ms : List ℕ) → indexed_from form h t n (room form t - n) ≡ Some ms → Numbers n (entry_at form h t n) (indexed_from form h t (n + 1) (room form t - (n + 1))) ms
     unfolding indexed_from
     next ms e = let z : room form t - n ≡ suc (room form t - (n + 1)) = omega (arith, l, all) in numbers_of n (entry_at form h t n) (indexed_from form h t (n + 1) (room form t - (n + 1))) (rw z at e)
 
-    kind_is : {x : RuleEntry} → entry_at form h t n ≡ some x → is_indexed x.kind ≡ q
+    kind_is : {x : RuleEntry} → entry_at form h t n ≡ Some x → is_indexed x.kind ≡ q
     kind_is f = ap (λ (y : RuleEntry). is_indexed y.kind) (sym (found_at form h t n f).held ∙ sym a) ∙ sym d
 
     pub place_other : q ≡ false → Placing form h t index₀ index (n + 1)
@@ -317,22 +288,22 @@ pub ruleset places = (place_start, place_end, place_other, place_one)
 
 -- The call
 
-module _ (form : Form) (h : Bytes) (t index : List ℕ) {r : Tallied} (c : Tallies (indexed_in form h t) r) where
-  as_tallied : {x : Tallied} → r ≡ x → TallyIs (indexed_in form h t) x
+module _ (form : Form) (h : Bytes) (t index : List ℕ) {r : Option (ℕ × ℕ)} (c : Tallies (indexed_in form h t) r) where
+  as_tallied : {x : Option (ℕ × ℕ)} → r ≡ x → TallyIs (indexed_in form h t) x
   as_tallied e = subst (TallyIs (indexed_in form h t)) e c.is
 
-  module _ (e : r ≡ tallied.Refused) where
-    pub build_refused : {x : BuildAnswer} → x ≡ answer_of NotWellFormed 0 → x ≡ build_answer (length index) (indexed_in form h t)
+  module _ (e : r ≡ None) where
+    pub build_refused : {x : BuildAnswer} → x ≡ answer_of (Err NotWellFormed) 0 → x ≡ build_answer (length index) (indexed_in form h t)
     build_refused f = f ∙ rw (as_tallied e)
 
     pub kept_refused : index ≡ built_index form h t index
     kept_refused = rw (as_tallied e)
 
-  module _ {count last : ℕ} (e : r ≡ tallied.Count count last) where
+  module _ {count last : ℕ} (e : r ≡ Some (count, last)) where
     abbrev ns : List ℕ
     ns = (as_tallied e).0
 
-    are : indexed_in form h t ≡ some ns
+    are : indexed_in form h t ≡ Some ns
     are = (as_tallied e).1
 
     many : count ≡ length ns
@@ -341,7 +312,7 @@ module _ (form : Form) (h : Bytes) (t index : List ℕ) {r : Tallied} (c : Talli
     fitting : all_fit ns ≡ ltb last (2 ^ 32)
     fitting = (as_tallied e).3
 
-    answer_by_lem : {b : Bool} → enough (length index) ns ≡ b → build_answer (length index) (indexed_in form h t) ≡ elim b [ true ↦ answer_of Built (length ns) | false ↦ answer_of TooFewPlaces 0 ]
+    answer_by_lem : {b : Bool} → enough (length index) ns ≡ b → build_answer (length index) (indexed_in form h t) ≡ elim b [ true ↦ answer_of (Ok tt) (length ns) | false ↦ answer_of (Err TooFewPlaces) 0 ]
     answer_by_lem f = rw (are, build_answer, f)
 
     index_by_lem : {b : Bool} → enough (length index) ns ≡ b → built_index form h t index ≡ elim b [ true ↦ all_placed form h t ns (replicate (length index) 0) | false ↦ index ]
@@ -351,7 +322,7 @@ module _ (form : Form) (h : Bytes) (t index : List ℕ) {r : Tallied} (c : Talli
       few_places : enough (length index) ns ≡ false
       few_places = rw (lt-leb (length ns) (length index) (omega (arith, l, many)))
 
-      pub build_few : {x : BuildAnswer} → x ≡ answer_of TooFewPlaces 0 → x ≡ build_answer (length index) (indexed_in form h t)
+      pub build_few : {x : BuildAnswer} → x ≡ answer_of (Err TooFewPlaces) 0 → x ≡ build_answer (length index) (indexed_in form h t)
       build_few f = f ∙ sym (answer_by_lem few_places)
 
       pub kept_few : index ≡ built_index form h t index
@@ -361,7 +332,7 @@ module _ (form : Form) (h : Bytes) (t index : List ℕ) {r : Tallied} (c : Talli
       too_far : enough (length index) ns ≡ false
       too_far = and_off (leb (length ns) (length index)) (fitting ∙ le-ltb last (2 ^ 32) (omega (arith, l)))
 
-      pub build_far : {x : BuildAnswer} → x ≡ answer_of TooFewPlaces 0 → x ≡ build_answer (length index) (indexed_in form h t)
+      pub build_far : {x : BuildAnswer} → x ≡ answer_of (Err TooFewPlaces) 0 → x ≡ build_answer (length index) (indexed_in form h t)
       build_far f = f ∙ sym (answer_by_lem too_far)
 
       pub kept_far : index ≡ built_index form h t index
@@ -374,8 +345,8 @@ module _ (form : Form) (h : Bytes) (t index : List ℕ) {r : Tallied} (c : Talli
       places_enough : enough (length index) ns ≡ true
       places_enough = rw (le-leb (length ns) (length index) (omega (arith, l, many)), all_fit_lem)
 
-      pub build_whole : answer_of Built count ≡ build_answer (length index) (indexed_in form h t)
-      build_whole = ap (answer_of Built) many ∙ sym (answer_by_lem places_enough)
+      pub build_whole : answer_of (Ok tt) count ≡ build_answer (length index) (indexed_in form h t)
+      build_whole = ap (answer_of (Ok tt)) many ∙ sym (answer_by_lem places_enough)
 
       pub index_whole : {cleared : List ℕ} → cleared ≡ replicate (length index) 0 → {index' : List ℕ} → PlacesAll form h t cleared index' → index' ≡ built_index form h t index
       index_whole z p = p.is ns are all_fit_lem ∙ ap (all_placed form h t ns) z ∙ sym (index_by_lem places_enough)

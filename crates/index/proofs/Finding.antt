@@ -3,7 +3,7 @@ use Prim.Native.Nat.{ℕ, suc, ◌+◌, ◌*◌, ◌-◌, ◌^◌, ◌≤◌, �
 use native.Mathlib.Omega.{arith}
 use mathlib.Core.Path.{◌≡◌, refl, sym, ap, ap₂, subst, ◌∙◌}
 use mathlib.Core.Bool.{Bool, true, false, not, ◌||◌, ◌&&◌, and-true, and-false}
-use mathlib.Core.Option.{none, some}
+use Rattle.std.specs.Prelude.{None, Some}
 use mathlib.Core.List.{List, [], ◌∷◌}
 use lib.Dec.{eqb, leb}
 use lib.ListN.{length, take, drop, get_or, drop_of_length-le}
@@ -24,7 +24,6 @@ use Rattle.entries.specs.Values.{entry_of}
 use Rattle.entries.specs.Tables.{entry_in, words_clear, entry_at}
 use Rattle.entries.proofs.Calls.{begins_inside}
 use Rattle.index.specs.Index.{is_indexed, first_place, in_turn, next_place, has_name, is_named, searched, walk, find_in, is_inside}
-use Rattle.index.specs.declared.find.Found.TheVariants as found
 use Rattle.index.specs.declared.find.Search.{Search}
 use Rattle.index.proofs.Places.{Trying, try_first, try_next, turn_length, turn_holds}
 
@@ -100,13 +99,13 @@ well_covered size e k =
 module _ (form : Form) (h : Bytes) (t : List ℕ) (kind : ℕ) (k : is_indexed kind ≡ true) (id : Bytes) (n : ℕ) {e : Entry} (a : entry_of e ≡ entry_in form t n) where
   -- what it is of an entry that the words hold
   abbrev NamedBy : RuleEntry → Type 0
-  NamedBy x = is_named form h t kind id n ≡ (words_clear form t n && well_formed (length h) x) && has_name h kind id (some x)
+  NamedBy x = is_named form h t kind id n ≡ (words_clear form t n && well_formed (length h) x) && has_name h kind id (Some x)
 
   named_in : NamedBy (entry_in form t n)
   unfolding is_named entry_at
   named_in = by (words_clear form t n && well_formed (length h) (entry_in form t n))
     where
-      by : (b : Bool) → has_name h kind id (elim b [ true ↦ some (entry_in form t n) | false ↦ none ]) ≡ b && has_name h kind id (some (entry_in form t n))
+      by : (b : Bool) → has_name h kind id (elim b [ true ↦ Some (entry_in form t n) | false ↦ None ]) ≡ b && has_name h kind id (Some (entry_in form t n))
       by true = refl
       by false = refl
 
@@ -180,9 +179,9 @@ pub walk_start : (hit : ℕ → Bool) (index : List ℕ) {p : ℕ} → p < lengt
 walk_start hit index {p} h = record { trying = try_first h; still = let z : 0 + (walk hit (in_turn p index)).looked ≡ (walk hit (in_turn p index)).looked = omega arith in ap (searched (walk hit (in_turn p index)).found) (sym z) }
 
 module _ {hit : ℕ → Bool} {index : List ℕ} {p at k : ℕ} (g : Walking hit index p at k) where
-  pub walk_end : length index ≤ k → searched found.Nothing k ≡ walk hit (in_turn p index)
+  pub walk_end : length index ≤ k → k ≤ length index → searched None (length index) ≡ walk hit (in_turn p index)
   unfolding walk
-  walk_end h = sym (g.still ∙ rw (drop_of_length-le (in_turn p index) {i = k} (rw (turn_length p index) h)) (let z : k + 0 ≡ k = omega arith in rw z))
+  walk_end h m = let e : length index ≡ k = omega arith in rw e (sym (g.still ∙ rw (drop_of_length-le (in_turn p index) {i = k} (rw (turn_length p index) h)) (let z : k + 0 ≡ k = omega arith in rw z)))
 
   pub walk_inside : at < length index
   walk_inside = g.trying.inside
@@ -191,12 +190,12 @@ module _ {hit : ℕ → Bool} {index : List ℕ} {p at k : ℕ} (g : Walking hit
     left : drop k (in_turn p index) ≡ w ∷ drop (k + 1) (in_turn p index)
     left = here (in_turn p index) k (rw (turn_length p index) h) ∙ ap (◌∷ drop (k + 1) (in_turn p index)) (turn_holds p index g.trying h ∙ sym v)
 
-    pub walk_open : w ≡ 0 → searched found.Nothing (k + 1) ≡ walk hit (in_turn p index)
+    pub walk_open : w ≡ 0 → searched None (k + 1) ≡ walk hit (in_turn p index)
     unfolding walk
     walk_open e = sym (g.still ∙ rw (left, walk, eq-eqb w 0 e))
 
     module _ (n : w ≡ 0 → ⊥) {q : Bool} (a : q ≡ hit (w - 1)) where
-      pub walk_hit : q ≡ true → searched (found.Entry (w - 1)) (k + 1) ≡ walk hit (in_turn p index)
+      pub walk_hit : q ≡ true → searched (Some (w - 1)) (k + 1) ≡ walk hit (in_turn p index)
       unfolding walk
       walk_hit e = sym (g.still ∙ rw (left, walk, ne_eqb w 0 n, sym a ∙ e))
 
@@ -218,17 +217,17 @@ pub no_places : (ws : List ℕ) → length ws ≡ 0 → ws ≡ []
 no_places [] e = refl
 no_places (w ∷ ws) e = absurd (omega arith)
 
-walk_none : (hit : ℕ → Bool) (p : ℕ) → walk hit (in_turn p []) ≡ searched found.Nothing 0
+walk_none : (hit : ℕ → Bool) (p : ℕ) → walk hit (in_turn p []) ≡ searched None 0
 unfolding in_turn walk
 walk_none hit p = rw (drop-nil {A = ℕ} p, take-nil {A = ℕ} p)
 
 module _ (form : Form) (h : Bytes) (t index : List ℕ) (kind : ℕ) (id : Bytes) {q : Bool} (a : q ≡ is_indexed kind) where
-  pub find_other : not q ≡ true → searched found.Nothing 0 ≡ find_in form h t index kind id
+  pub find_other : not q ≡ true → searched None 0 ≡ find_in form h t index kind id
   unfolding find_in
   find_other e = rw (find_in, sym a ∙ not_true q e)
 
   module _ (on : not q ≡ false) where
-    pub find_none : length index ≡ 0 → searched found.Nothing 0 ≡ find_in form h t index kind id
+    pub find_none : length index ≡ 0 → searched None 0 ≡ find_in form h t index kind id
     unfolding find_in
     find_none e = rw (find_in, sym a ∙ not_false q on, no_places index e) (sym (walk_none (is_named form h t kind id) (first_place 0 kind id)))
 

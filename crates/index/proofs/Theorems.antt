@@ -5,7 +5,7 @@ use native.Mathlib.Omega.{arith}
 use mathlib.Core.Path.{◌≡◌, refl, sym, ap, ap₂, ◌∙◌}
 use mathlib.Core.Bool.{Bool, true, false}
 use mathlib.Core.List.{List, [], ◌∷◌, ◌++◌}
-use mathlib.Core.Option.{Option, none, some}
+use Rattle.std.specs.Prelude.{Option, None, Some, Ok}
 use lib.Dec.{eqb, leb, ltb}
 use lib.ListN.{length, replicate, length-replicate}
 use borrow.Author.Tests.{eq-eqb, ne_eqb, eqb-true, eqb-false, leb-true, ltb-true}
@@ -20,9 +20,6 @@ use Rattle.entries.specs.declared.form.Form.{Form}
 use Rattle.entries.specs.Tables.{room, entry_in, words_clear, entry_at}
 use Rattle.entries.proofs.Calls.{found_at}
 use Rattle.index.specs.Index.{is_indexed, first_place, in_turn, has_name, is_named, searched, past, walk, find_in, fill, placed, entry_placed, all_placed, indexed_from, indexed_in, all_fit, enough, build_answer, index_by, built_index, first_from, first_named}
-use Rattle.index.specs.declared.find.Found.{Found}
-use Rattle.index.specs.declared.find.Found.TheVariants.{Entry as At, Nothing}
-use Rattle.index.specs.declared.build.BuildOutcome.TheVariants.{Built}
 use Rattle.index.proofs.Places.{turn_length}
 use Rattle.index.proofs.Holes.{with, opens, opens_most, opens_all, opens_turned, Filled, filled_turned, filled_one, placed_length, turn_placed, placed_filled}
 use Rattle.index.proofs.Building.{numbers_of}
@@ -51,22 +48,22 @@ looked_most form h t index kind id = elim (test (is_indexed kind)) [
 -- What a walk finds where it stops at no 0
 
 -- the first hit of all places
-unfoldable scan : (ℕ → Bool) → List ℕ → Found
-scan hit [] = Nothing
-scan hit (w ∷ ws) = elim (eqb w 0) [ true ↦ scan hit ws | false ↦ elim (hit (w - 1)) [ true ↦ At (w - 1) | false ↦ scan hit ws ] ]
+unfoldable scan : (ℕ → Bool) → List ℕ → Option ℕ
+scan hit [] = None
+scan hit (w ∷ ws) = elim (eqb w 0) [ true ↦ scan hit ws | false ↦ elim (hit (w - 1)) [ true ↦ Some (w - 1) | false ↦ scan hit ws ] ]
 
-abbrev or_else : Found → Found → Found
-or_else (At n) x = At n
-or_else Nothing x = x
+abbrev or_else : Option ℕ → Option ℕ → Option ℕ
+or_else (Some n) x = Some n
+or_else None x = x
 
 -- One place of a walk, and of filling
 
 module _ (hit : ℕ → Bool) (w : ℕ) (ws : List ℕ) where
-  walk_zero : eqb w 0 ≡ true → walk hit (w ∷ ws) ≡ searched Nothing 1
+  walk_zero : eqb w 0 ≡ true → walk hit (w ∷ ws) ≡ searched None 1
   unfolding walk
   walk_zero e = rw (walk, e)
 
-  walk_here : eqb w 0 ≡ false → hit (w - 1) ≡ true → walk hit (w ∷ ws) ≡ searched (At (w - 1)) 1
+  walk_here : eqb w 0 ≡ false → hit (w - 1) ≡ true → walk hit (w ∷ ws) ≡ searched (Some (w - 1)) 1
   unfolding walk
   walk_here e f = rw (walk, e, f)
 
@@ -83,12 +80,12 @@ unfolding fill
 fill_past w x xs e = rw (fill, e)
 
 -- the walk finds the first hit of all: none stands behind a 0
-record Settled (hit : ℕ → Bool) (ws : List ℕ) (f : Found) : Type 0 where
+record Settled (hit : ℕ → Bool) (ws : List ℕ) (f : Option ℕ) : Type 0 where
   walked : (walk hit ws).found ≡ f
   scanned : scan hit ws ≡ f
 
 module _ (hit : ℕ → Bool) where
-  scan_none : (ws : List ℕ) → scan hit ws ≡ Nothing → (walk hit ws).found ≡ Nothing
+  scan_none : (ws : List ℕ) → scan hit ws ≡ None → (walk hit ws).found ≡ None
   unfolding scan walk
   scan_none [] e = refl
   scan_none (w ∷ ws) e = elim (test (eqb w 0)) [
@@ -100,7 +97,7 @@ module _ (hit : ℕ → Bool) where
   ]
 
   -- where all places are open
-  scan_open : (ws : List ℕ) → opens ws ≡ length ws → scan hit ws ≡ Nothing
+  scan_open : (ws : List ℕ) → opens ws ≡ length ws → scan hit ws ≡ None
   unfolding scan opens
   scan_open [] e = refl
   scan_open (w ∷ ws) e = elim (test (eqb w 0)) [
@@ -133,7 +130,7 @@ module _ (hit : ℕ → Bool) where
       ]
     ]
 
-    settled_miss : {ws ws' : List ℕ} {f : Found} → Settled hit ws f → Filled (n + 1) ws ws' → Settled hit ws' f
+    settled_miss : {ws ws' : List ℕ} {f : Option ℕ} → Settled hit ws f → Filled (n + 1) ws ws' → Settled hit ws' f
     settled_miss {ws} {ws'} {f} s p =
         let a = p.around in
         let w₀ : (walk hit (with a 0)).found ≡ f = rw p.was at s.walked in
@@ -155,45 +152,45 @@ module _ (hit : ℕ → Bool) where
     at_one : hit (n + 1 - 1) ≡ true
     at_one = rw one_less m
 
-    walk_fill : (ws : List ℕ) → 0 < opens ws → (walk hit (fill (n + 1) ws)).found ≡ or_else (walk hit ws).found (At n)
+    walk_fill : (ws : List ℕ) → 0 < opens ws → (walk hit (fill (n + 1) ws)).found ≡ or_else (walk hit ws).found (Some n)
     unfolding opens
     walk_fill [] o = absurd (omega arith)
     walk_fill (x ∷ xs) o = elim (test (eqb x 0)) [
-      | pass e ↦ rw (fill_zero (n + 1) x xs e, walk_zero hit x xs e, walk_here hit (n + 1) xs some_one at_one) (ap At one_less)
+      | pass e ↦ rw (fill_zero (n + 1) x xs e, walk_zero hit x xs e, walk_here hit (n + 1) xs some_one at_one) (ap Some one_less)
       | fail e ↦ elim (test (hit (x - 1))) [
         | pass f ↦ rw (fill_past (n + 1) x xs e, walk_here hit x (fill (n + 1) xs) e f, walk_here hit x xs e f)
         | fail f ↦ rw (fill_past (n + 1) x xs e, walk_past hit x (fill (n + 1) xs) e f, walk_past hit x xs e f) (walk_fill xs (rw (opens, e) at o))
       ]
     ]
 
-    scan_fill : (ws : List ℕ) → 0 < opens ws → scan hit (fill (n + 1) ws) ≡ or_else (walk hit ws).found (At n)
+    scan_fill : (ws : List ℕ) → 0 < opens ws → scan hit (fill (n + 1) ws) ≡ or_else (walk hit ws).found (Some n)
     unfolding opens scan
     scan_fill [] o = absurd (omega arith)
     scan_fill (x ∷ xs) o = elim (test (eqb x 0)) [
-      | pass e ↦ rw (fill_zero (n + 1) x xs e, walk_zero hit x xs e) (rw (scan, some_one, at_one) (ap At one_less))
+      | pass e ↦ rw (fill_zero (n + 1) x xs e, walk_zero hit x xs e) (rw (scan, some_one, at_one) (ap Some one_less))
       | fail e ↦ elim (test (hit (x - 1))) [
         | pass f ↦ rw (fill_past (n + 1) x xs e, walk_here hit x xs e f) (rw (scan, e, f))
         | fail f ↦ rw (fill_past (n + 1) x xs e, walk_past hit x xs e f) (rw (scan, e, f) (scan_fill xs (rw (opens, e) at o)))
       ]
     ]
 
-    settled_hit : {ws : List ℕ} {f : Found} → Settled hit ws f → 0 < opens ws → Settled hit (fill (n + 1) ws) (or_else f (At n))
-    settled_hit {ws} {f} s o = record { walked = walk_fill ws o ∙ ap (λ (x : Found). or_else x (At n)) s.walked; scanned = scan_fill ws o ∙ ap (λ (x : Found). or_else x (At n)) s.walked }
+    settled_hit : {ws : List ℕ} {f : Option ℕ} → Settled hit ws f → 0 < opens ws → Settled hit (fill (n + 1) ws) (or_else f (Some n))
+    settled_hit {ws} {f} s o = record { walked = walk_fill ws o ∙ ap (λ (x : Option ℕ). or_else x (Some n)) s.walked; scanned = scan_fill ws o ∙ ap (λ (x : Option ℕ). or_else x (Some n)) s.walked }
 
 -- Placing all
 
 -- the first hit among these numbers
-unfoldable first_among : (ℕ → Bool) → List ℕ → Found
-first_among hit [] = Nothing
-first_among hit (n ∷ ns) = elim (hit n) [ true ↦ At n | false ↦ first_among hit ns ]
+unfoldable first_among : (ℕ → Bool) → List ℕ → Option ℕ
+first_among hit [] = None
+first_among hit (n ∷ ns) = elim (hit n) [ true ↦ Some n | false ↦ first_among hit ns ]
 
-or_else_twice : (f : Found) (n : ℕ) (x : Found) → or_else (or_else f (At n)) x ≡ or_else f (At n)
-or_else_twice (At m) n x = refl
-or_else_twice Nothing n x = refl
+or_else_twice : (f : Option ℕ) (n : ℕ) (x : Option ℕ) → or_else (or_else f (Some n)) x ≡ or_else f (Some n)
+or_else_twice (Some m) n x = refl
+or_else_twice None n x = refl
 
-or_else_none : (f : Found) → or_else f Nothing ≡ f
-or_else_none (At m) = refl
-or_else_none Nothing = refl
+or_else_none : (f : Option ℕ) → or_else f None ≡ f
+or_else_none (Some m) = refl
+or_else_none None = refl
 
 module _ (form : Form) (h : Bytes) (t : List ℕ) (kind : ℕ) (id : Bytes) where
   abbrev hit : ℕ → Bool
@@ -202,7 +199,7 @@ module _ (form : Form) (h : Bytes) (t : List ℕ) (kind : ℕ) (id : Bytes) wher
   -- an entry that is named so
   pub record Named (n : ℕ) : Type 0 where
     pub entry : Entry
-    pub there : entry_at form h t n ≡ some entry
+    pub there : entry_at form h t n ≡ Some entry
     pub kind_is : entry.kind ≡ kind
     pub id_is : id_meaning h entry ≡ id
 
@@ -211,8 +208,8 @@ module _ (form : Form) (h : Bytes) (t : List ℕ) (kind : ℕ) (id : Bytes) wher
   named n e = go (entry_at form h t n) refl e
     where
       go : (o : Option Entry) → entry_at form h t n ≡ o → has_name h kind id o ≡ true → Named n
-      go none a e = both e refl
-      go (some x) a e = record {
+      go None a e = both e refl
+      go (Some x) a e = record {
         entry = x;
         there = a;
         kind_is = eqb-true x.kind kind (and_l (eqb x.kind kind) (same (id_meaning h x) id) e);
@@ -234,7 +231,7 @@ module _ (form : Form) (h : Bytes) (t : List ℕ) (kind : ℕ) (id : Bytes) wher
   first_inside places kind id l = omega (arith, mod-lt (hash_of kind id) l)
 
   -- one entry more
-  module _ (index : List ℕ) (o : 0 < opens index) {f : Found} (s : Settled hit (in_turn (first_place (length index) kind id) index) f) (n : ℕ) where
+  module _ (index : List ℕ) (o : 0 < opens index) {f : Option ℕ} (s : Settled hit (in_turn (first_place (length index) kind id) index) f) (n : ℕ) where
     abbrev p : ℕ
     p = first_place (length index) kind id
 
@@ -253,12 +250,12 @@ module _ (form : Form) (h : Bytes) (t : List ℕ) (kind : ℕ) (id : Bytes) wher
     one_miss : hit n ≡ false → Settled hit (in_turn p index') f
     one_miss m = settled_miss hit n m s (filled_turned p one_filled)
 
-    one_hit : hit n ≡ true → Settled hit (in_turn p index') (or_else f (At n))
+    one_hit : hit n ≡ true → Settled hit (in_turn p index') (or_else f (Some n))
     one_hit m =
         let i = first_inside (length index) kind id some_places in
         rw (same_place (length index) n m, turn_placed p (n + 1) index i) (settled_hit hit n m s (rw (opens_turned p index) o))
 
-  all_settled : (ns index : List ℕ) {f : Found} → length ns ≤ opens index → Settled hit (in_turn (first_place (length index) kind id) index) f
+  all_settled : (ns index : List ℕ) {f : Option ℕ} → length ns ≤ opens index → Settled hit (in_turn (first_place (length index) kind id) index) f
       → Settled hit (in_turn (first_place (length index) kind id) (all_placed form h t ns index)) (or_else f (first_among hit ns))
   unfolding all_placed first_among entry_placed
   all_settled [] index {f} l s = rw (or_else_none f) s
@@ -269,20 +266,20 @@ module _ (form : Form) (h : Bytes) (t : List ℕ) (kind : ℕ) (id : Bytes) wher
       let e = filled_one (n + 1) (λ e. omega arith) (one_filled index o s n) in
       let p = first_place (length index) kind id in
       let index' = placed q (n + 1) index in
-      let on : (g : Found) → Settled hit (in_turn p index') g → Settled hit (in_turn p (all_placed form h t ns index')) (or_else g (first_among hit ns)) = λ g r. rw z at (all_settled ns index' {f = g} (omega (arith, e)) (rw z r)) in
+      let on : (g : Option ℕ) → Settled hit (in_turn p index') g → Settled hit (in_turn p (all_placed form h t ns index')) (or_else g (first_among hit ns)) = λ g r. rw z at (all_settled ns index' {f = g} (omega (arith, e)) (rw z r)) in
       elim (test (hit n)) [
-        | pass m ↦ rw (first_among, m) (rw (or_else_twice f n (first_among hit ns)) at (on (or_else f (At n)) (one_hit index o s n m)))
+        | pass m ↦ rw (first_among, m) (rw (or_else_twice f n (first_among hit ns)) at (on (or_else f (Some n)) (one_hit index o s n m)))
         | fail m ↦ rw (first_among, m) (on f (one_miss index o s n m))
       ]
 
   -- a cleared index
-  settled_start : (p n : ℕ) → Settled hit (in_turn p (replicate n 0)) Nothing
+  settled_start : (p n : ℕ) → Settled hit (in_turn p (replicate n 0)) None
   settled_start p n =
       let s = scan_open hit (in_turn p (replicate n 0)) (opens_turned p (replicate n 0) ∙ opens_all n ∙ sym (turn_length p (replicate n 0) ∙ length-replicate n 0)) in
       record { walked = scan_none hit (in_turn p (replicate n 0)) s; scanned = s }
 
   module _ (k : is_indexed kind ≡ true) where
-    covered : (n : ℕ) {x : Entry} → entry_at form h t n ≡ some x → is_indexed x.kind ≡ false → hit n ≡ false
+    covered : (n : ℕ) {x : Entry} → entry_at form h t n ≡ Some x → is_indexed x.kind ≡ false → hit n ≡ false
     covered n {x} a e = elim (test (hit n)) [
       | pass f ↦
           let m = named n f in
@@ -292,7 +289,7 @@ module _ (form : Form) (h : Bytes) (t : List ℕ) (kind : ℕ) (id : Bytes) wher
     ]
 
     -- the first hit of the entries to place is the first of all
-    among_from : (n more : ℕ) {ns : List ℕ} → indexed_from form h t n more ≡ some ns → first_among hit ns ≡ first_from hit n more
+    among_from : (n more : ℕ) {ns : List ℕ} → indexed_from form h t n more ≡ Some ns → first_among hit ns ≡ first_from hit n more
     unfolding indexed_from first_among first_from
     among_from n zero e = rw (sym (some_is e))
     among_from n (suc more) {ns} e =
@@ -308,12 +305,12 @@ module _ (form : Form) (h : Bytes) (t : List ℕ) (kind : ℕ) (id : Bytes) wher
         ]
 
     -- an index into which all were placed
-    placed_finds : (places : ℕ) {ns : List ℕ} → indexed_in form h t ≡ some ns → length ns ≤ places
+    placed_finds : (places : ℕ) {ns : List ℕ} → indexed_in form h t ≡ Some ns → length ns ≤ places
         → (walk hit (in_turn (first_place places kind id) (all_placed form h t ns (replicate places 0)))).found ≡ first_named form h t kind id
     placed_finds places {ns} e l =
         let z = length-replicate {A = ℕ} places 0 in
         let s = settled_start (first_place places kind id) places in
-        let w = rw z at (all_settled ns (replicate places 0) {f = Nothing} (rw (opens_all places) l) (rw z s)) in
+        let w = rw z at (all_settled ns (replicate places 0) {f = None} (rw (opens_all places) l) (rw z s)) in
         w.walked ∙ among_from 0 (room form t) e
 
   all_length : (ns index : List ℕ) → length (all_placed form h t ns index) ≡ length index
@@ -329,7 +326,7 @@ past_named : (form : Form) (h : Bytes) (t : List ℕ) (kind : ℕ) (id : Bytes) 
 unfolding is_named entry_at words_clear
 past_named form h t kind id n l = rw (entry_at, l)
 
-first_none : (hit : ℕ → Bool) (n more : ℕ) → first_from hit n more ≡ Nothing → (m : ℕ) → n ≤ m → m < n + more → hit m ≡ false
+first_none : (hit : ℕ → Bool) (n more : ℕ) → first_from hit n more ≡ None → (m : ℕ) → n ≤ m → m < n + more → hit m ≡ false
 unfolding first_from
 first_none hit n zero e m l u = absurd (omega arith)
 first_none hit n (suc more) e m l u = elim (test (hit n)) [
@@ -340,7 +337,7 @@ first_none hit n (suc more) e m l u = elim (test (hit n)) [
   ]
 ]
 
-first_is : (hit : ℕ → Bool) (n more : ℕ) {k : ℕ} → first_from hit n more ≡ At k → (hit k ≡ true) × ((m : ℕ) → n ≤ m → m < k → hit m ≡ false)
+first_is : (hit : ℕ → Bool) (n more : ℕ) {k : ℕ} → first_from hit n more ≡ Some k → (hit k ≡ true) × ((m : ℕ) → n ≤ m → m < k → hit m ≡ false)
 unfolding first_from
 first_is hit n zero e = never cc
 first_is hit n (suc more) {k} e = elim (test (hit n)) [
@@ -358,18 +355,18 @@ first_is hit n (suc more) {k} e = elim (test (hit n)) [
 -- what a build that is not refused was given
 record Given (places : ℕ) (o : Option (List ℕ)) : Type 0 where
   numbers : List ℕ
-  are : o ≡ some numbers
+  are : o ≡ Some numbers
   enough_of : enough places numbers ≡ true
 
-given : (places : ℕ) (o : Option (List ℕ)) → (build_answer places o).outcome ≡ Built → Given places o
-given places none e = never cc
-given places (some ns) e = elim (test (enough places ns)) [
+given : (places : ℕ) (o : Option (List ℕ)) → (build_answer places o).outcome ≡ Ok tt → Given places o
+given places None e = never cc
+given places (Some ns) e = elim (test (enough places ns)) [
   | pass f ↦ record { numbers = ns; are = refl; enough_of = f }
   | fail f ↦ let z = rw (build_answer, f) at e in never cc
 ]
 
 module _ (form : Form) (h : Bytes) (t index : List ℕ) (kind : ℕ) (k : is_indexed kind ≡ true) (id : Bytes) where
-  enough_finds : {ns : List ℕ} → indexed_in form h t ≡ some ns → enough (length index) ns ≡ true → (find_in form h t (built_index form h t index) kind id).found ≡ first_named form h t kind id
+  enough_finds : {ns : List ℕ} → indexed_in form h t ≡ Some ns → enough (length index) ns ≡ true → (find_in form h t (built_index form h t index) kind id).found ≡ first_named form h t kind id
   unfolding find_in
   enough_finds {ns} e f =
       let made = all_placed form h t ns (replicate (length index) 0) in
@@ -378,29 +375,29 @@ module _ (form : Form) (h : Bytes) (t index : List ℕ) (kind : ℕ) (k : is_ind
       let o : length ns ≤ length index = leb-true (length ns) (length index) (and_l (leb (length ns) (length index)) (all_fit ns) f) in
       ap (λ (x : List ℕ). (find_in form h t x kind id).found) i ∙ rw (find_in, k, l) (placed_finds form h t kind id k (length index) e o)
 
-  module _ (b : (build_answer (length index) (indexed_in form h t)).outcome ≡ Built) where
+  module _ (b : (build_answer (length index) (indexed_in form h t)).outcome ≡ Ok tt) where
     -- in an index built from its table: the first entry of the table with that kind and ID
     pub built_finds : (find_in form h t (built_index form h t index) kind id).found ≡ first_named form h t kind id
     built_finds = let g = given (length index) (indexed_in form h t) b in enough_finds g.are g.enough_of
 
     -- where nothing is found, no entry has them
-    pub built_none : (find_in form h t (built_index form h t index) kind id).found ≡ Nothing → (n : ℕ) → is_named form h t kind id n ≡ false
+    pub built_none : (find_in form h t (built_index form h t index) kind id).found ≡ None → (n : ℕ) → is_named form h t kind id n ≡ false
     built_none e n = elim (test (ltb n (room form t))) [
       | pass l ↦ first_none (is_named form h t kind id) 0 (room form t) (sym built_finds ∙ e) n (omega arith) (omega (arith, ltb-true n (room form t) l))
       | fail l ↦ past_named form h t kind id n l
     ]
 
     -- what is found has them, and none before it does
-    pub built_first : {n : ℕ} → (find_in form h t (built_index form h t index) kind id).found ≡ At n
+    pub built_first : {n : ℕ} → (find_in form h t (built_index form h t index) kind id).found ≡ Some n
         → Named form h t kind id n × ((m : ℕ) → m < n → is_named form h t kind id m ≡ false)
     built_first {n} e =
         let r = first_is (is_named form h t kind id) 0 (room form t) (sym built_finds ∙ e) in
         (named form h t kind id n r.0, λ m l. r.1 m (omega arith) l)
 
     -- so an entry that the table holds is found, by its first
-    pub built_found : {n : ℕ} → Named form h t kind id n → (m : ℕ) × ((find_in form h t (built_index form h t index) kind id).found ≡ At m)
+    pub built_found : {n : ℕ} → Named form h t kind id n → (m : ℕ) × ((find_in form h t (built_index form h t index) kind id).found ≡ Some m)
     built_found {n} a = go (find_in form h t (built_index form h t index) kind id).found refl
       where
-        go : (f : Found) → (find_in form h t (built_index form h t index) kind id).found ≡ f → (m : ℕ) × ((find_in form h t (built_index form h t index) kind id).found ≡ At m)
-        go (At m) e = (m, e)
-        go Nothing e = both (is_named_lem form h t kind id a) (built_none e n)
+        go : (f : Option ℕ) → (find_in form h t (built_index form h t index) kind id).found ≡ f → (m : ℕ) × ((find_in form h t (built_index form h t index) kind id).found ≡ Some m)
+        go (Some m) e = (m, e)
+        go None e = both (is_named_lem form h t kind id a) (built_none e n)

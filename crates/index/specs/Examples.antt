@@ -1,5 +1,5 @@
 -- Document 02, §7: indexes that are built and searched, computed by the checker. Assumes nothing.
-use Rattle.std.specs.Prelude.{ℕ, ◌≡◌, refl, List, [], ◌∷◌, ◌++◌, map, length, replicate}
+use Rattle.std.specs.Prelude.{ℕ, ◌≡◌, refl, List, [], ◌∷◌, ◌++◌, map, length, replicate, Some, None}
 use Rattle.values.specs.Bytes.{Bytes, ascii}
 use Rattle.values.specs.Examples as values
 use Rattle.rules.specs.Shown.{says_no_id, counts_in_place, well_formed, id_in}
@@ -7,7 +7,6 @@ use Rattle.entries.specs.declared.form.Form.TheVariants.{First}
 use Rattle.entries.specs.Words.{unpacked, is_clear}
 use Rattle.entries.specs.Tables.{room, words_at, entry_in, words_clear, entry_at}
 use Rattle.index.specs.Index.{first_place, in_turn, is_named, searched, walk, find_in, fill, placed, entry_placed, all_placed, indexed_from, indexed_in, all_fit, build_number, build_answer, built_index, first_from, first_named}
-use Rattle.index.specs.declared.find.Found.TheVariants.{Entry, Nothing}
 use Rattle.index.specs.declared.find.Search.{Search}
 
 -- what the definitions need to compute
@@ -74,15 +73,15 @@ searches : map (look (1 ∷ 3 ∷ 5 ∷ 4 ∷ [])) (
     ∷ (7, ascii "a")
     ∷ (258, ascii "a")
     ∷ []) ≡ (
-    searched (Entry 0) 1
-    ∷ searched (Entry 2) 1
-    ∷ searched (Entry 3) 1
-    ∷ searched (Entry 4) 3
-    ∷ searched Nothing 4
-    ∷ searched Nothing 4
-    ∷ searched Nothing 4
-    ∷ searched Nothing 0
-    ∷ searched Nothing 0
+    searched (Some 0) 1
+    ∷ searched (Some 2) 1
+    ∷ searched (Some 3) 1
+    ∷ searched (Some 4) 3
+    ∷ searched None 4
+    ∷ searched None 4
+    ∷ searched None 4
+    ∷ searched None 0
+    ∷ searched None 0
     ∷ [])
 unfolding opened
 searches = refl
@@ -100,18 +99,18 @@ forged : map (look_for 2 (ascii "a")) (
     ∷ (4294967295 ∷ 0 ∷ [])
     ∷ (4 ∷ 1 ∷ 3 ∷ [])
     ∷ []) ≡ (
-    searched Nothing 0
-    ∷ searched Nothing 3
-    ∷ searched (Entry 0) 1
-    ∷ searched Nothing 4
-    ∷ searched Nothing 1
-    ∷ searched Nothing 2
-    ∷ searched (Entry 0) 3
+    searched None 0
+    ∷ searched None 3
+    ∷ searched (Some 0) 1
+    ∷ searched None 4
+    ∷ searched None 1
+    ∷ searched None 2
+    ∷ searched (Some 0) 3
     ∷ [])
 unfolding opened
 forged = refl
 
 -- the first entry of a table with a kind and an ID
-firsts : map (λ (q : ℕ × Bytes). first_named First header table q.0 q.1) ((2, ascii "d") ∷ (3, ascii "\"") ∷ (3, ascii "d") ∷ []) ≡ (Entry 3 ∷ Entry 4 ∷ Nothing ∷ [])
+firsts : map (λ (q : ℕ × Bytes). first_named First header table q.0 q.1) ((2, ascii "d") ∷ (3, ascii "\"") ∷ (3, ascii "d") ∷ []) ≡ (Some 3 ∷ Some 4 ∷ None ∷ [])
 unfolding opened
 firsts = refl

@@ -6,12 +6,12 @@ ghost use Rattle.index.specs.Index.{indexed_in, build_number, answer_of, placed,
 use crate::place;
 use entries::entry::Entry;
 use entries::form::Form;
-use entries::shown::EntryRead;
 use entries::{part, shown, table};
 
+pub type BuildOutcome = Result<(), BuildRefusal>;
+
 #[derive(Clone, Copy)]
-pub enum BuildOutcome {
-    Built,
+pub enum BuildRefusal {
     NotWellFormed,
     TooFewPlaces,
 }
@@ -23,55 +23,35 @@ pub struct BuildAnswer {
     pub placed: usize,
 }
 
-impl BuildOutcome {
-    // Document 02's number; 0 if the index is built.
-    pub fn number(self) -> u64
-        ensures { result ≡ build_number self }
-    {
-        match self {
-            BuildOutcome::Built => 0,
-            BuildOutcome::NotWellFormed => 29,
-            BuildOutcome::TooFewPlaces => 33,
-        }
+// Document 02's number; 0 if the index is built.
+pub fn number(outcome: BuildOutcome) -> u64
+    ensures { result ≡ build_number outcome }
+{
+    match outcome {
+        Ok(()) => 0,
+        Err(BuildRefusal::NotWellFormed) => 29,
+        Err(BuildRefusal::TooFewPlaces) => 33,
     }
-}
-
-// How many entries are to be placed, and the number plus 1 of the last.
-#[derive(Clone, Copy)]
-enum Tallied {
-    Count(usize, usize),
-    Refused,
 }
 
 // Counts the entries to place; ends at one that is not well formed.
-fn tally(h: &[u8], table: &[u64], form: Form) -> Tallied
+// How many, and the number plus 1 of the last.
+fn tally(h: &[u8], table: &[u64], form: Form) -> Option<(usize, usize)>
     ensures { Tallies (indexed_in form h.now table.now) result }
 {
     let entries = table::count(table, form);
-    let mut n: usize = 0;
     let mut count: usize = 0;
     let mut last: usize = 0;
-    while n < entries {
-        let EntryRead::Entry(e) = shown::entry_at(h, table, form, n) else {
-            return Tallied::Refused;
+    for n in 0..entries {
+        let Some(e) = shown::entry_at(h, table, form, n) else {
+            return None;
         };
-        n += 1;
         if place::is_indexed(e.kind as u64) {
             count += 1;
-            last = n;
+            last = n + 1;
         }
     }
-    Tallied::Count(count, last)
-}
-
-fn clear(index: &mut [u32])
-    ensures { index.new ≡ replicate (length index.old) 0 }
-{
-    let mut i: usize = 0;
-    while i < index.len() {
-        index[i] = 0;
-        i += 1;
-    }
+    Some((count, last))
 }
 
 // Fills the first open place in turn, if there is one.
@@ -80,13 +60,11 @@ fn put(index: &mut [u32], first: usize, word: u32)
     ensures { index.new ≡ placed first word index.old }
 {
     let mut at = first;
-    let mut tried: usize = 0;
-    while tried < index.len() {
+    for _i in 0..index.len() {
         if index[at] == 0 {
             index[at] = word;
             return;
         }
-        tried += 1;
         at = place::next_place(index.len(), at);
     }
 }
@@ -107,12 +85,10 @@ fn place_all(h: &[u8], table: &[u64], form: Form, index: &mut [u32])
     ensures { PlacesAll form h.now table.now index.old index.new }
 {
     let entries = table::count(table, form);
-    let mut n: usize = 0;
-    while n < entries {
+    for n in 0..entries {
         let e = table::get(table, form, n);
-        n += 1;
         if place::is_indexed(e.kind as u64) {
-            put_entry(h, e, index, (n % 0x1_0000_0000) as u32);
+            put_entry(h, e, index, ((n + 1) % 0x1_0000_0000) as u32);
         }
     }
 }
@@ -129,18 +105,15 @@ pub fn build_index(header: &[u8], table: &[u64], form: Form, index: &mut [u32]) 
     ensures index { index.new ≡ built_index form header.now table.now index.old }
 {
     match tally(header, table, form) {
-        Tallied::Refused => refuse(BuildOutcome::NotWellFormed),
-        Tallied::Count(count, last) => {
-            if index.len() < count {
-                return refuse(BuildOutcome::TooFewPlaces);
+        None => refuse(Err(BuildRefusal::NotWellFormed)),
+        Some((count, last)) => {
+            if index.len() < count || 0xFFFF_FFFF < last {
+                return refuse(Err(BuildRefusal::TooFewPlaces));
             }
-            if 0xFFFF_FFFF < last {
-                return refuse(BuildOutcome::TooFewPlaces);
-            }
-            clear(index);
+            index.fill(0);
             place_all(header, table, form, index);
             BuildAnswer {
-                outcome: BuildOutcome::Built,
+                outcome: Ok(()),
                 placed: count,
             }
         }

@@ -9,10 +9,7 @@ use values::hash;
 pub fn is_indexed(kind: u64) -> bool
     ensures { result ≡ is_indexed kind }
 {
-    if kind < 2 {
-        return false;
-    }
-    kind <= 6
+    2 <= kind && kind <= 6
 }
 
 // Of so many places, the one that is tried first.
@@ -30,8 +27,5 @@ pub fn next_place(places: usize, at: usize) -> usize
     ensures place { result ≡ next_place places at }
     ensures inside { result < places }
 {
-    if at + 1 == places {
-        return 0;
-    }
-    at + 1
+    if at + 1 == places { 0 } else { at + 1 }
 }

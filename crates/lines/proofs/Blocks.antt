@@ -31,9 +31,9 @@ module _ {s : Bytes} {start i : ℕ} (g : Scanning (is LF) s start i) where
   pub stops : stop_of (is LF) s i ≡ stop_of (is LF) s start
   stops = sym g.still
 
-  pub skipped : 8 ≤ length s → i ≤ length s - 8 → {q : Bool} → q ≡ any (is LF) (take (i + 8 - i) (drop i s)) → q ≡ false
+  pub skipped : {m : ℕ} → m ≡ length s - i → 8 ≤ m → {q : Bool} → q ≡ any (is LF) (take (i + 8 - i) (drop i s)) → q ≡ false
       → Scanning (is LF) s start (i + 8)
-  skipped w l a e =
+  skipped v w a e =
       let n : i + 8 - i ≡ 8 = omega arith in
       record { still = g.still ∙ past (is LF) s i 8 (omega arith) (rw n at (sym a ∙ e)) }
 

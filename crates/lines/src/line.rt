@@ -13,20 +13,13 @@ pub struct Line {
 }
 
 // Past blocks of eight bytes that have no LF: the first one from there on is the first from `at` on.
+// Kept: a walk by blocks; a `for` over `chunks_exact` would count the place beside it all the same.
 fn skip_blocks(h: &[u8], at: usize) -> usize
     ensures { result + length (before (is LF) (drop result h.now)) ≡ at + length (before (is LF) (drop at h.now)) }
 {
-    if h.len() < 8 {
-        return at;
-    }
-    let last = h.len() - 8;
     let mut i = at;
-    while i <= last {
-        let next = i + 8;
-        if bytes::has(&h[i..next], b'\n') {
-            return i;
-        }
-        i = next;
+    while 8 <= h.len().saturating_sub(i) && !bytes::has(&h[i..i + 8], b'\n') {
+        i += 8;
     }
     i
 }
@@ -39,12 +32,8 @@ pub fn next_line(h: &[u8], at: usize) -> Line
         return Line { end: lf, next: lf };
     }
     let next = lf + 1;
-    if lf == at {
-        return Line { end: lf, next };
-    }
-    let last = lf - 1;
-    if h[last] == b'\r' {
-        return Line { end: last, next };
+    if lf != at && h[lf - 1] == b'\r' {
+        return Line { end: lf - 1, next };
     }
     Line { end: lf, next }
 }
@@ -60,13 +49,10 @@ pub fn last_end(h: &[u8], at: usize) -> usize
     if !bytes::has(&h[at..], b'\n') {
         return at;
     }
-    let mut end = h.len();
-    while at < end {
-        let last = end - 1;
+    for last in (at..h.len()).rev() {
         if h[last] == b'\n' {
-            return end;
+            return last + 1;
         }
-        end = last;
     }
     at
 }

@@ -4,7 +4,7 @@ use native.Mathlib.Omega.{arith}
 use mathlib.Core.Path.{◌≡◌, refl, sym, ap, subst, ◌∙◌}
 use mathlib.Core.Bool.{Bool, false}
 use mathlib.Core.List.{List, [], ◌∷◌, ◌++◌, tail, append_assoc}
-use mathlib.Core.Option.{Option, none, some}
+use Rattle.std.specs.Prelude.{Option, None, Some}
 use lib.ListN.{length, drop, length-append, length-drop, take-append-drop}
 use lib.Seq.{drop-drop}
 use Rattle.values.specs.Bytes.{Bytes, is, begins, any, before, part}
@@ -57,25 +57,25 @@ value_begun m bs = elim (test (begins 34 bs)) [
 ]
   where
     in_quotes_lem : (x : Option (Bytes × Bytes)) → OnSome Begun (in_quotes x)
-    in_quotes_lem none = tt
-    in_quotes_lem (some p) = refl
+    in_quotes_lem None = tt
+    in_quotes_lem (Some p) = refl
 
     unquoted : begins 34 bs ≡ false → (x : Option (Value × Bytes)) → OnSome (ValueIn bs) x → OnSome Begun x
-    unquoted e none h = tt
-    unquoted e (some (quoted t, r)) h = refl
-    unquoted e (some (bare t, r)) h = not_begun t r (sym (ap (begins 34) h) ∙ e)
+    unquoted e None h = tt
+    unquoted e (Some (quoted t, r)) h = refl
+    unquoted e (Some (bare t, r)) h = not_begun t r (sym (ap (begins 34) h) ∙ e)
 
 field_legal : (m : Bool) (bs : Bytes) → OnSome (λ (p : Field × Bytes). Legal p.0) (read_field m bs)
 unfolding read_field
 field_legal m bs = with_key_lem (read_key bs) (key_in bs)
   where
     with_value_lem : (p : Bytes × Bytes) → KeyIn bs p → (a : Option (Value × Bytes)) → OnSome Begun a → OnSome (λ (p : Field × Bytes). Legal p.0) (with_value p.0 a)
-    with_value_lem p k none h = tt
-    with_value_lem p k (some q) h = record { key = k.plain; value = h }
+    with_value_lem p k None h = tt
+    with_value_lem p k (Some q) h = record { key = k.plain; value = h }
 
     with_key_lem : (a : Option (Bytes × Bytes)) → OnSome (KeyIn bs) a → OnSome (λ (p : Field × Bytes). Legal p.0) (with_key m a)
-    with_key_lem none h = tt
-    with_key_lem (some p) h = with_value_lem p h (read_value (may_bracket m p.0) p.1) (value_begun (may_bracket m p.0) p.1)
+    with_key_lem None h = tt
+    with_key_lem (Some p) h = with_value_lem p h (read_value (may_bracket m p.0) p.1) (value_begun (may_bracket m p.0) p.1)
 
 scan_legal : (n : ℕ) (m : Bool) (bs : Bytes) → All Legal (scan n m bs).0
 unfolding scan
@@ -151,16 +151,16 @@ field_told h f g p e =
       text = text_placed h a (length k) v (by_text x.quoted (part h x.start x.end) v t.value);
     })
 
-nth_legal : (fs : List Field) (i : ℕ) → All Legal fs → (f : Field) → nth fs i ≡ some f → Legal f
+nth_legal : (fs : List Field) (i : ℕ) → All Legal fs → (f : Field) → nth fs i ≡ Some f → Legal f
 nth_legal [] i a f e = none_not e
 nth_legal (x ∷ fs) zero a f e = subst Legal (some_is e) a.0
 nth_legal (x ∷ fs) (suc i) a f e = nth_legal fs i a.1 f e
 
-shown_as_lem : (h : Bytes) (x : Option Field) → ((f : Field) → x ≡ some f → Legal f) → (y : Option Part) → PartOf h x y → ShownAs h x (field_apart h y)
-shown_as_lem h none g none b = tt
-shown_as_lem h none g (some p) b = b
-shown_as_lem h (some f) g none b = b
-shown_as_lem h (some f) g (some p) b = field_told h f (g f refl) p b.0
+shown_as_lem : (h : Bytes) (x : Option Field) → ((f : Field) → x ≡ Some f → Legal f) → (y : Option Part) → PartOf h x y → ShownAs h x (field_apart h y)
+shown_as_lem h None g None b = tt
+shown_as_lem h None g (Some p) b = b
+shown_as_lem h (Some f) g None b = b
+shown_as_lem h (Some f) g (Some p) b = field_told h f (g f refl) p b.0
 
 -- field i of a map of an accepted header, as the calls show it under n: its key and its value apart
 pub field_shown : {form : Form} {h : Bytes} {v : Version} {t : List ℕ} {n : ℕ} {k : Bytes} {fs : List Field} → CallsShow form h v t n (fields k fs)

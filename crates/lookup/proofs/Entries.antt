@@ -4,7 +4,7 @@ use native.Mathlib.Omega.{arith}
 use mathlib.Core.Path.{◌≡◌, sym, ap, ◌∙◌}
 use mathlib.Core.Bool.{Bool, true, false, not}
 use mathlib.Core.List.{List, []}
-use mathlib.Core.Option.{some}
+use Rattle.std.specs.Prelude.{Some, Option, None}
 use lib.Dec.{ltb}
 use lib.ListN.{length, take, drop}
 use borrow.Author.Tests.{le-leb, lt-leb}
@@ -19,16 +19,12 @@ use Rattle.rules.specs.Shown.{has_id, line_in, id_in}
 use Rattle.rules.specs.Claims.{key_in}
 use Rattle.entries.specs.declared.entry.Entry.{Entry}
 use Rattle.entries.specs.declared.form.Form.{Form}
-use Rattle.entries.specs.declared.shown.EntryRead.{EntryRead}
-use Rattle.entries.specs.declared.shown.EntryRead.TheVariants as read
 use Rattle.entries.specs.Values.{entry_of}
 use Rattle.entries.specs.Shown.{entry_meant}
 use Rattle.entries.specs.Tables.{room, entry_at}
 use Rattle.entries.proofs.Calls.{found_inside}
 use Rattle.index.specs.Index.{first_from}
-use Rattle.index.specs.declared.find.Found.TheVariants as found
 use Rattle.lookup.specs.Entries.{entry_key, described_in, has_key_and_id, is_under, first_under}
-use Rattle.lookup.specs.declared.entry.Description.TheVariants as description
 
 -- The key
 
@@ -59,16 +55,16 @@ pub ruleset tellings = (is_told, not_told)
 
 -- An entry
 
-module _ (form : Form) (h : Bytes) (t : List ℕ) (n : ℕ) {r : EntryRead} (a : entry_meant r ≡ entry_at form h t n) where
-  pub undescribed : r ≡ read.Missing → description.Refused ≡ described_in h (entry_at form h t n)
+module _ (form : Form) (h : Bytes) (t : List ℕ) (n : ℕ) {r : Option Entry} (a : entry_meant r ≡ entry_at form h t n) where
+  pub undescribed : r ≡ None → None ≡ described_in h (entry_at form h t n)
   undescribed e = ap (described_in h) (sym (ap entry_meant e) ∙ a)
 
-  pub no_entry : (key id : Bytes) → r ≡ read.Missing → false ≡ is_under form h t key id n
+  pub no_entry : (key id : Bytes) → r ≡ None → false ≡ is_under form h t key id n
   unfolding is_under
   no_entry key id e = ap (has_key_and_id h key id) (sym (ap entry_meant e) ∙ a)
 
-  module _ {x : Entry} (b : r ≡ read.Entry x) where
-    is_some : entry_at form h t n ≡ some (entry_of x)
+  module _ {x : Entry} (b : r ≡ Some x) where
+    is_some : entry_at form h t n ≡ Some (entry_of x)
     is_some = sym a ∙ ap entry_meant b
 
     module _ (l : length h * 1 < 2 ^ 63) where
@@ -80,7 +76,7 @@ module _ (form : Form) (h : Bytes) (t : List ℕ) (n : ℕ) {r : EntryRead} (a :
 
     module _ {k : Bytes} (c : k ≡ entry_key h (entry_of x)) {q : Bool} (d : q ≡ has_id x.kind) where
       pub describes : {i j : ℕ} → i ≡ if_counted (ltb 0 (length k)) (x.start + 2) → j ≡ if_counted q (x.start + x.offset)
-          → description.Entry (record {
+          → Some (record {
             kind = x.kind;
             start = x.start;
             length = x.length;
@@ -100,13 +96,13 @@ module _ (form : Form) (h : Bytes) (t : List ℕ) (n : ℕ) {r : EntryRead} (a :
       no_id e = rw (is_some, has_key_and_id, ← d, not_true q e)
 
       module _ (on : not q ≡ false) {k : Bytes} (c : k ≡ entry_key h (entry_of x)) {s : Bool} (f : s ≡ same k key) where
-        pub other_key : not s ≡ true → false ≡ is_under form h t key id n
+        pub other_key : s ≡ false → s ≡ is_under form h t key id n
         unfolding is_under
-        other_key e = rw (is_some, has_key_and_id, ← d, not_false q on, ← c, ← f, not_true s e)
+        other_key e = rw (is_some, has_key_and_id, ← d, not_false q on, ← c, ← f, e)
 
-        pub same_key : not s ≡ false → {p : Bytes} → p ≡ id_in h (entry_of x) → {y : Bool} → y ≡ same (meaning x.quoted p) (meaning false id) → y ≡ is_under form h t key id n
+        pub same_key : s ≡ true → {p : Bytes} → p ≡ id_in h (entry_of x) → {y : Bool} → y ≡ same (meaning x.quoted p) (meaning false id) → y ≡ is_under form h t key id n
         unfolding is_under
-        same_key e g i = rw (is_some, has_key_and_id, ← d, not_false q on, ← c, ← f, not_false s e, ← g) i
+        same_key e g i = rw (is_some, has_key_and_id, ← d, not_false q on, ← c, ← f, e, ← g) i
 
 pub ruleset descriptions = (undescribed, describes, key_place_fits, id_place_fits)
 
@@ -123,7 +119,7 @@ pub seek_start : (form : Form) (h : Bytes) (t : List ℕ) (key id : Bytes) → S
 seek_start form h t key id = record { inside = omega arith; still = let e : room form t - 0 ≡ room form t = omega arith in rw e }
 
 module _ {form : Form} {h : Bytes} {t : List ℕ} {key id : Bytes} {n : ℕ} (g : Seeking form h t key id n) {count : ℕ} (a : count ≡ room form t) where
-  pub seek_end : count ≤ n → found.Nothing ≡ first_under form h t key id
+  pub seek_end : count ≤ n → None ≡ first_under form h t key id
   unfolding first_from
   seek_end l = let e : room form t - n ≡ 0 = omega arith in sym (g.still ∙ rw e)
 
@@ -131,7 +127,7 @@ module _ {form : Form} {h : Bytes} {t : List ℕ} {key id : Bytes} {n : ℕ} (g 
     one_more : room form t - n ≡ suc (room form t - (n + 1))
     one_more = omega arith
 
-    pub seek_found : q ≡ true → found.Entry n ≡ first_under form h t key id
+    pub seek_found : q ≡ true → Some n ≡ first_under form h t key id
     unfolding first_from
     seek_found e = sym (g.still ∙ rw (one_more, first_from, ← b, e))
 

@@ -4,13 +4,13 @@ use native.Mathlib.Omega.{arith}
 use mathlib.Core.Path.{◌≡◌, refl, sym, ap, ap₂, subst, ◌∙◌}
 use mathlib.Core.Bool.{Bool, true, false, not, ◌&&◌}
 use mathlib.Core.List.{List, [], ◌∷◌, tail}
-use mathlib.Core.Option.{Option, none, some}
+use Rattle.std.specs.Prelude.{Option, None, Some}
 use lib.ListN.{length, take, drop, get_or, length-take, length-drop, length-append}
 use lib.Seq.{take_all, drop-drop}
 use borrow.Author.Tests.{eq-eqb, ne_eqb}
 use mir.Syntax.{w64}
 use mir.Val.{Fits}
-use Rattle.values.specs.Bytes.{Bytes, ascii, is, begins, before, from, part, same}
+use Rattle.values.specs.Bytes.{Bytes, ascii, is, begins, before, from, same}
 use Rattle.values.specs.Value.{Value, quoted, bare}
 use Rattle.values.specs.Field.{Field, written_field}
 use Rattle.values.specs.Places.{text_at}
@@ -32,14 +32,8 @@ use Rattle.rules.proofs.Shows.{Both, AnyAt, named_text, line_fields}
 use Rattle.records.specs.Keys.{case_bytes}
 use Rattle.records.specs.Fields.{text_keyed, FindsField}
 use Rattle.records.specs.declared.record.MapRecord.{MapRecord}
-use Rattle.records.specs.declared.field.FieldFound.{FieldFound}
-use Rattle.records.specs.declared.field.FieldFound.TheVariants.{Found, Missing}
 use Rattle.entries.specs.declared.entry.Entry.{Entry}
 use Rattle.entries.specs.declared.form.Form.{Form}
-use Rattle.entries.specs.declared.shown.EntryRead.{EntryRead}
-use Rattle.entries.specs.declared.shown.EntryRead.TheVariants as read
-use Rattle.entries.specs.declared.shown.Shown.{Shown}
-use Rattle.entries.specs.declared.shown.Shown.TheVariants as part
 use Rattle.entries.specs.Values.{entry_of, limits_by}
 use Rattle.entries.specs.Shown.{answered, or_refused, shown_as, entry_meant, Inside}
 use Rattle.entries.specs.Tables.{entry_at}
@@ -48,21 +42,18 @@ use Rattle.alone.specs.Alones.{AloneIs, ReadsEntry}
 use Rattle.alone.specs.declared.read.Alone.{Alone}
 use Rattle.alone.specs.declared.read.Alone.TheVariants as alone
 use Rattle.header.proofs.Fields.{value_fits}
-use Rattle.index.specs.declared.find.Found.{Found as EntryFound}
-use Rattle.index.specs.declared.find.Found.TheVariants as found
 use Rattle.lookup.specs.Fields.{value_of, cut_of, CutInside, parts_at, field_apart, record_text, entry_text, text_under, TextInside, moved_by, TextAt}
 use Rattle.lookup.specs.declared.field.Cut.{Cut}
-use Rattle.lookup.specs.declared.field.FieldShown.TheVariants as shown
 
 -- A field as it is written
 
-abbrev start_of : Shown → ℕ
-start_of (part.Part start end) = start
-start_of part.Refused = 0
+abbrev start_of : Option (ℕ × ℕ) → ℕ
+start_of (Some (start, end)) = start
+start_of None = 0
 
-abbrev end_of : Shown → ℕ
-end_of (part.Part start end) = end
-end_of part.Refused = 0
+abbrev end_of : Option (ℕ × ℕ) → ℕ
+end_of (Some (start, end)) = end
+end_of None = 0
 
 first_byte : (c : ℕ) (v : Bytes) → (length v ≡ 0 → ⊥) → begins c v ≡ is c (get_or v 0 0)
 unfolding begins
@@ -117,25 +108,16 @@ module _ (w : Bytes) {k : ℕ} (a : k ≡ 0 + length (before (is 61) (drop 0 w))
       bare_cut : record { key_length = k; start = length w - length v; length = length v; quoted = false } ≡ cut_of w
       bare_cut = rw (key_is, value_is) (sym (bare_is w (ap (begins 34) (sym value_is) ∙ e)))
 
-    bare_inside : CutInside (length w) (record { key_length = k; start = length w - length v; length = length v; quoted = false })
+    pub bare_inside : CutInside (length w) (record { key_length = k; start = length w - length v; length = length v; quoted = false })
     bare_inside = let s = key_short in let u = value_short in record { key = s; text = omega arith }
 
     module _ (z : length v ≡ 0) where
-      as_none : ◌≡◌ {A = Cut} (record { key_length = k; start = length w - length v; length = 0; quoted = false }) (record { key_length = k; start = length w - length v; length = length v; quoted = false })
-      as_none = ap (λ (n : ℕ). record { key_length = k; start = length w - length v; length = n; quoted = false }) (sym z)
-
-      pub cut_none : record { key_length = k; start = length w - length v; length = 0; quoted = false } ≡ cut_of w
-      cut_none = as_none ∙ bare_cut (no_byte 34 v z)
-
-      pub none_inside : CutInside (length w) (record { key_length = k; start = length w - length v; length = 0; quoted = false })
-      none_inside = let s = key_short in let u = value_short in record { key = s; text = omega arith }
+      pub cut_none : record { key_length = k; start = length w - length v; length = length v; quoted = false } ≡ cut_of w
+      cut_none = bare_cut (no_byte 34 v z)
 
     module _ (some_bytes : length v ≡ 0 → ⊥) where
       pub cut_bare : (get_or v 0 0 ≡ 34 → ⊥) → record { key_length = k; start = length w - length v; length = length v; quoted = false } ≡ cut_of w
       cut_bare n = bare_cut (first_byte 34 v some_bytes ∙ ne_eqb (get_or v 0 0) 34 n)
-
-      pub bare_lies_inside : CutInside (length w) (record { key_length = k; start = length w - length v; length = length v; quoted = false })
-      bare_lies_inside = bare_inside
 
       module _ (q : get_or v 0 0 ≡ 34) {t : Bytes} (d : t ≡ take (length v - 1 - 1) (drop 1 v)) where
         text_length : length t ≡ length v - 2
@@ -149,19 +131,19 @@ module _ (w : Bytes) {k : ℕ} (a : k ≡ 0 + length (before (is 61) (drop 0 w))
         pub quoted_inside : CutInside (length w) (record { key_length = k; start = length w - length v + 1; length = length t; quoted = true })
         quoted_inside = let s = key_short in let u = value_short in let n = text_length in record { key = s; text = omega (arith, some_bytes) }
 
-pub ruleset cuts = (after_fits, value_short, cut_none, none_inside, cut_bare, bare_lies_inside, cut_quoted, quoted_inside)
+pub ruleset cuts = (after_fits, value_short, cut_none, cut_bare, bare_inside, cut_quoted, quoted_inside)
 
 -- A field by its number
 
-module _ (h : Bytes) (o : Option RulePart) {r : Shown} (a : answered r ≡ or_refused o) where
-  pub parts_refused : r ≡ part.Refused → shown.Refused ≡ field_apart h o
+module _ (h : Bytes) (o : Option RulePart) {r : Option (ℕ × ℕ)} (a : answered r ≡ or_refused o) where
+  pub parts_refused : r ≡ None → None ≡ field_apart h o
   parts_refused e = go o (sym e ∙ answer_is r o a)
     where
-      go : (x : Option RulePart) → part.Refused ≡ shown_as x → shown.Refused ≡ field_apart h x
-      go none q = refl
-      go (some p) q = never cc
+      go : (x : Option RulePart) → None ≡ shown_as x → None ≡ field_apart h x
+      go None q = refl
+      go (Some p) q = never cc
 
-  module _ {start end : ℕ} (e : r ≡ part.Part start end) where
+  module _ {start end : ℕ} (e : r ≡ Some (start, end)) where
     pub part_ordered : Inside (length h) r → start ≤ end
     part_ordered i = (subst (Inside (length h)) e i).0
 
@@ -169,16 +151,16 @@ module _ (h : Bytes) (o : Option RulePart) {r : Shown} (a : answered r ≡ or_re
     part_ends i = (subst (Inside (length h)) e i).1
 
     module _ {c : Cut} (b : c ≡ cut_of (take (end - start) (drop start h))) where
-      pub parts_shown : shown.Field (record { key_start = start; key_length = c.key_length; start = start + c.start; length = c.length; quoted = c.quoted }) ≡ field_apart h o
+      pub parts_shown : Some (record { key_start = start; key_length = c.key_length; start = start + c.start; length = c.length; quoted = c.quoted }) ≡ field_apart h o
       parts_shown = go o (sym e ∙ answer_is r o a)
         where
-          go : (x : Option RulePart) → part.Part start end ≡ shown_as x
-              → shown.Field (record { key_start = start; key_length = c.key_length; start = start + c.start; length = c.length; quoted = c.quoted }) ≡ field_apart h x
-          go none q = never cc
-          go (some p) q =
+          go : (x : Option RulePart) → Some (start, end) ≡ shown_as x
+              → Some (record { key_start = start; key_length = c.key_length; start = start + c.start; length = c.length; quoted = c.quoted }) ≡ field_apart h x
+          go None q = never cc
+          go (Some p) q =
               let s : start ≡ p.0 = ap start_of q in
               let f : end ≡ p.1 = ap end_of q in
-              ap (λ (y : Cut). shown.Field (parts_at start y)) b ∙ rw (s, f)
+              ap (λ (y : Cut). Some (parts_at start y)) b ∙ rw (s, f)
 
       pub text_fits : Inside (length h) r → CutInside (length (take (end - start) (drop start h))) c → length h * 1 < 2 ^ 63 → Fits w64 (start + c.start)
       text_fits i j m =
@@ -192,9 +174,9 @@ pub ruleset parts = (parts_refused, part_ordered, part_ends, parts_shown, text_f
 
 -- A value by its field's key
 
-abbrev pub found_by : Option (Bytes × Text) → FieldFound
-found_by none = Missing
-found_by (some p) = Found p.1
+abbrev pub found_by : Option (Bytes × Text) → Option Text
+found_by None = None
+found_by (Some p) = Some p.1
 
 -- under the key `cell` a field's name is its key
 pub keyed_named : (v : Version) (key : Bytes) (at : ℕ) (fs : List Field) → text_keyed key at fs ≡ found_by (text_named v (ascii "cell") key at fs)
@@ -206,40 +188,40 @@ keyed_named v key at (f ∷ fs) = elim (test (same f.key key)) [
 ]
 
 both_inside : (l : Bytes) (x : Option Field) (y : Option (Bytes × Text)) → Both l x y → TextInside (length l) (found_by y)
-both_inside l none none b = tt
-both_inside l none (some p) b = absurd b
-both_inside l (some f) none b = absurd b
-both_inside l (some f) (some p) b = (b.ordered, b.inside)
+both_inside l None None b = tt
+both_inside l None (Some p) b = absurd b
+both_inside l (Some f) None b = absurd b
+both_inside l (Some f) (Some p) b = (b.ordered, b.inside)
 
 keyed_inside : (v : Version) (key l : Bytes) (at : ℕ) (fs : List Field) → AnyAt l at fs → TextInside (length l) (text_keyed key at fs)
 keyed_inside v key l at fs h =
     rw (keyed_named v key at fs) (both_inside l (field_named v (ascii "cell") key fs) (text_named v (ascii "cell") key at fs) (named_text v (ascii "cell") key l at fs h))
 
 -- a record without fields has none to find
-no_fields : (key : Bytes) (start : ℕ) (r : Record) → fields_of r ≡ [] → record_text key start (some r) ≡ Missing
+no_fields : (key : Bytes) (start : ℕ) (r : Record) → fields_of r ≡ [] → record_text key start (Some r) ≡ None
 unfolding text_keyed
 no_fields key start (fileformat v) e = refl
 no_fields key start (fields k fs) e = rw e
 no_fields key start (text k t) e = refl
 
-module _ (counted : Bool) (h : Bytes) (v : Version) (e : RuleEntry) (key : Bytes) {x : Alone} (a : ReadsEntry counted v h e x) where
-  told : {y : Alone} → x ≡ y → AloneIs v (line_in h e) (entry_record counted h v e) y
+module _ (counted : Bool) (h : Bytes) (v : Version) (e : RuleEntry) (key : Bytes) {x : Option Alone} (a : ReadsEntry counted v h e x) where
+  told : {y : Option Alone} → x ≡ y → AloneIs v (line_in h e) (entry_record counted h v e) y
   told q = subst (AloneIs v (line_in h e) (entry_record counted h v e)) q a.is
 
-  pub text_refused : x ≡ alone.Refused → Missing ≡ record_text key 0 (entry_record counted h v e)
+  pub text_refused : x ≡ None → None ≡ record_text key 0 (entry_record counted h v e)
   text_refused q = sym (ap (record_text key 0) (told q))
 
-  pub text_plain : {n : ℕ} → x ≡ alone.Plain n → Missing ≡ record_text key 0 (entry_record counted h v e)
+  pub text_plain : {n : ℕ} → x ≡ Some (alone.Plain n) → None ≡ record_text key 0 (entry_record counted h v e)
   text_plain q = let t = told q in sym (ap (record_text key 0) t.1 ∙ no_fields key 0 t.0 t.2)
 
-  module _ {m : MapRecord} (q : x ≡ alone.Map m) {l : Bytes} (el : l ≡ line_in h e) where
-    here : AloneIs v l (entry_record counted h v e) (alone.Map m)
-    here = subst (λ (y : Bytes). AloneIs v y (entry_record counted h v e) (alone.Map m)) (sym el) (told q)
+  module _ {m : MapRecord} (q : x ≡ Some (alone.Map m)) {l : Bytes} (el : l ≡ line_in h e) where
+    here : AloneIs v l (entry_record counted h v e) (Some (alone.Map m))
+    here = subst (λ (y : Bytes). AloneIs v y (entry_record counted h v e) (Some (alone.Map m))) (sym el) (told q)
 
     pub start_fits : length l * 1 < 2 ^ 63 → Fits w64 (m.value + 1)
     start_fits = value_fits counted h v e 0 a q el
 
-    module _ {b : Bool} (c : b ≡ is_meta v (case_bytes m.key)) {r : FieldFound} (f : FindsField b l (m.value + 1) key r) where
+    module _ {b : Bool} (c : b ≡ is_meta v (case_bytes m.key)) {r : Option Text} (f : FindsField b l (m.value + 1) key r) where
       start_is : m.value + 1 ≡ fields_start (key_in l)
       start_is = let s = here.2.value in omega arith
 
@@ -262,18 +244,18 @@ module _ (counted : Bool) (h : Bytes) (v : Version) (e : RuleEntry) (key : Bytes
           let i : AnyAt l (fields_start (key_in l)) t.0 = subst (λ (y : Bytes). AnyAt y (fields_start (key_in l)) t.0) (sym w) (line_fields (key_in l) t.0) in
           subst (λ (y : Bytes). TextInside (length y) r) el (subst (TextInside (length l)) (sym found_text) (keyed_inside v key l (fields_start (key_in l)) t.0 i))
 
-pub none_inside_line : (size : ℕ) → TextInside size Missing
+pub none_inside_line : (size : ℕ) → TextInside size None
 none_inside_line size = tt
 
 pub ruleset line_texts = (text_refused, text_plain, start_fits, line_text, text_in_line, none_inside_line)
 
 -- The line in the header
 
-module _ (h : Bytes) (e : RuleEntry) (key : Bytes) (o : Option Record) {y : FieldFound} (b : y ≡ record_text key 0 o) where
-  pub text_missing : y ≡ Missing → TextAt h e key o Missing
+module _ (h : Bytes) (e : RuleEntry) (key : Bytes) (o : Option Record) {y : Option Text} (b : y ≡ record_text key 0 o) where
+  pub text_missing : y ≡ None → TextAt h e key o None
   text_missing q = record { found = ap (moved_by e.start) (sym q ∙ b); inside = λ z. tt }
 
-  module _ (t : TextInside (length (line_in h e)) y) {x : Text} (c : y ≡ Found x) where
+  module _ (t : TextInside (length (line_in h e)) y) {x : Text} (c : y ≡ Some x) where
     near : (x.start ≤ x.end) × (x.end ≤ length h - e.start)
     unfolding line_in
     near =
@@ -282,7 +264,7 @@ module _ (h : Bytes) (e : RuleEntry) (key : Bytes) (o : Option Record) {y : Fiel
         let d = length-drop e.start h in
         (p.0, omega (arith, p.1))
 
-    pub text_moved : {a : ℕ} → a ≡ e.start → TextAt h e key o (Found (record { start = a + x.start; end = a + x.end; quoted = x.quoted }))
+    pub text_moved : {a : ℕ} → a ≡ e.start → TextAt h e key o (Some (record { start = a + x.start; end = a + x.end; quoted = x.quoted }))
     text_moved {a} w = rw w (record {
       found = ap (moved_by e.start) (sym c ∙ b);
       inside = λ z. let p = near in (omega (arith, p.0), omega (arith, p.1));
@@ -299,7 +281,7 @@ pub ruleset moved_texts = (text_missing, text_moved, moved_start_fits, moved_end
 
 -- An entry
 
-text_shift : (by at : ℕ) (x : Value) → Found (text_at (by + at) x) ≡ moved_by by (Found (text_at at x))
+text_shift : (by at : ℕ) (x : Value) → Some (text_at (by + at) x) ≡ moved_by by (Some (text_at at x))
 text_shift by at (quoted t) =
     let i : by + at + 1 ≡ by + (at + 1) = omega arith in
     let j : by + (at + 1) + length t ≡ by + (at + 1 + length t) = omega arith in
@@ -317,24 +299,24 @@ shift_keyed by key at (f ∷ fs) = elim (test (same f.key key)) [
 ]
 
 pub texts_moved : (start : ℕ) (key : Bytes) (o : Option Record) → record_text key start o ≡ moved_by start (record_text key 0 o)
-texts_moved start key none = refl
-texts_moved start key (some (fileformat v)) = refl
-texts_moved start key (some (text k t)) = refl
-texts_moved start key (some (fields k fs)) = let e : 0 + fields_start k ≡ fields_start k = omega arith in rw e (shift_keyed start key (fields_start k) fs)
+texts_moved start key None = refl
+texts_moved start key (Some (fileformat v)) = refl
+texts_moved start key (Some (text k t)) = refl
+texts_moved start key (Some (fields k fs)) = let e : 0 + fields_start k ≡ fields_start k = omega arith in rw e (shift_keyed start key (fields_start k) fs)
 
-module _ (form : Form) (h : Bytes) (table : List ℕ) (n : ℕ) (v : Version) (key : Bytes) {r : EntryRead} (a : entry_meant r ≡ entry_at form h table n) where
-  pub value_nowhere : r ≡ read.Missing → Missing ≡ entry_text (limits_by form).counted h v key (entry_at form h table n)
+module _ (form : Form) (h : Bytes) (table : List ℕ) (n : ℕ) (v : Version) (key : Bytes) {r : Option Entry} (a : entry_meant r ≡ entry_at form h table n) where
+  pub value_nowhere : r ≡ None → None ≡ entry_text (limits_by form).counted h v key (entry_at form h table n)
   value_nowhere e = ap (entry_text (limits_by form).counted h v key) (sym (ap entry_meant e) ∙ a)
 
-  module _ {x : Entry} (b : r ≡ read.Entry x) {q : Bool} (d : q ≡ has_id x.kind) where
+  module _ {x : Entry} (b : r ≡ Some x) {q : Bool} (d : q ≡ has_id x.kind) where
     value_by_lem : {p : Bool} → has_id x.kind ≡ p
-        → entry_text (limits_by form).counted h v key (entry_at form h table n) ≡ elim p [ true ↦ record_text key x.start (entry_record (limits_by form).counted h v (entry_of x)) | false ↦ Missing ]
-    value_by_lem e = ap (entry_text (limits_by form).counted h v key) (sym a ∙ ap entry_meant b) ∙ ap (λ (p : Bool). elim p [ true ↦ record_text key x.start (entry_record (limits_by form).counted h v (entry_of x)) | false ↦ Missing ]) e
+        → entry_text (limits_by form).counted h v key (entry_at form h table n) ≡ elim p [ true ↦ record_text key x.start (entry_record (limits_by form).counted h v (entry_of x)) | false ↦ None ]
+    value_by_lem e = ap (entry_text (limits_by form).counted h v key) (sym a ∙ ap entry_meant b) ∙ ap (λ (p : Bool). elim p [ true ↦ record_text key x.start (entry_record (limits_by form).counted h v (entry_of x)) | false ↦ None ]) e
 
-    pub value_not_due : not q ≡ true → Missing ≡ entry_text (limits_by form).counted h v key (entry_at form h table n)
+    pub value_not_due : not q ≡ true → None ≡ entry_text (limits_by form).counted h v key (entry_at form h table n)
     value_not_due e = sym (value_by_lem (sym d ∙ not_true q e))
 
-    module _ {y : FieldFound} (o : TextAt h (entry_of x) key (entry_record (limits_by form).counted h v (entry_of x)) y) where
+    module _ {y : Option Text} (o : TextAt h (entry_of x) key (entry_record (limits_by form).counted h v (entry_of x)) y) where
       pub value_there : not q ≡ false → y ≡ entry_text (limits_by form).counted h v key (entry_at form h table n)
       value_there on = o.found ∙ sym (texts_moved x.start key (entry_record (limits_by form).counted h v (entry_of x))) ∙ sym (value_by_lem (sym d ∙ not_false q on))
 
@@ -345,11 +327,11 @@ pub ruleset values = (value_nowhere, value_not_due, value_there, value_inside, f
 
 -- An entry that was looked for
 
-module _ (form : Form) (h : Bytes) (table : List ℕ) (v : Version) (key : Bytes) {f g : EntryFound} (a : f ≡ g) where
-  pub nothing_under : f ≡ found.Nothing → Missing ≡ text_under form h table v key g
+module _ (form : Form) (h : Bytes) (table : List ℕ) (v : Version) (key : Bytes) {f g : Option ℕ} (a : f ≡ g) where
+  pub nothing_under : f ≡ None → None ≡ text_under form h table v key g
   nothing_under e = ap (text_under form h table v key) (sym e ∙ a)
 
-  pub value_under : {n : ℕ} → f ≡ found.Entry n → {y : FieldFound} → y ≡ entry_text (limits_by form).counted h v key (entry_at form h table n) → y ≡ text_under form h table v key g
+  pub value_under : {n : ℕ} → f ≡ Some n → {y : Option Text} → y ≡ entry_text (limits_by form).counted h v key (entry_at form h table n) → y ≡ text_under form h table v key g
   value_under e b = b ∙ ap (text_under form h table v key) (sym e ∙ a)
 
 pub ruleset found_values = (nothing_under, value_under, none_inside_line)

@@ -1,4 +1,5 @@
 -- A meaning in a lent output: counted first, then written. Assumes nothing.
+use Rattle.std.specs.Prelude.{Some, None}
 use Prim.Native.Nat.{ℕ, ◌*◌, ◌^◌, ◌≤◌, ◌<◌, min}
 use native.Mathlib.Omega.{arith}
 use mathlib.Core.Path.{◌≡◌, sym, ap, ◌∙◌}
@@ -14,7 +15,6 @@ use Rattle.values.specs.Written.{last, onward, Puts, plain, Wrote}
 use Rattle.values.specs.declared.sink.Sink.{Sink}
 use Rattle.values.proofs.Outputs.{only_written}
 use Rattle.lookup.specs.Meanings.{fitting, written_as}
-use Rattle.lookup.specs.declared.meaning.Written.TheVariants as written
 
 -- a bare value is its meaning
 pub puts_bare : {out : Bytes} (s : Bytes) (q : Bool) {next : Sink} {left : Bytes} → Puts [] out (plain 0) (write_value false (meaning q s)) next left → Wrote out 0 (meaning q s) next.at left
@@ -33,7 +33,7 @@ module _ (out t : Bytes) {size : ℕ} (a : size ≡ onward 0 (length t)) (room :
     too_long : leb (length t) (length out) ≡ false
     too_long = let c = counted in lt-leb (length t) (length out) (omega arith)
 
-    pub no_room : written.NoRoom ≡ written_as (length out) t
+    pub no_room : None ≡ written_as (length out) t
     unfolding written_as
     no_room = rw (written_as, too_long)
 
@@ -48,7 +48,7 @@ module _ (out t : Bytes) {size : ℕ} (a : size ≡ onward 0 (length t)) (room :
     fits : (leb (length t) (length out) ≡ true) × (size ≡ length t)
     fits = let c = counted in (le-leb (length t) (length out) (omega arith), omega arith)
 
-    pub all_counted : written.Bytes size ≡ written_as (length out) t
+    pub all_counted : Some size ≡ written_as (length out) t
     unfolding written_as
     all_counted = let f = fits in rw (written_as, f.0, f.1)
 

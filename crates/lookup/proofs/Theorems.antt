@@ -4,11 +4,11 @@ use native.Mathlib.Omega.{arith}
 use mathlib.Core.Path.{◌≡◌, refl, sym, ap, subst, ◌∙◌}
 use mathlib.Core.Bool.{Bool, true, false, ◌&&◌}
 use mathlib.Core.List.{List, [], ◌∷◌}
-use mathlib.Core.Option.{Option, none, some}
+use Rattle.std.specs.Prelude.{Option, None, Some}
 use lib.ListN.{length, take, drop, length-take, length-drop}
 use lib.Dec.{leb}
 use Rattle.values.specs.Bytes.{Bytes, ascii, part, same, starts}
-use Rattle.values.specs.Value.{quoted, is_quoted, text_of}
+use Rattle.values.specs.Value.{is_quoted, text_of}
 use Rattle.values.specs.Field.{Field}
 use Rattle.values.specs.declared.string.Text.{Text}
 use Rattle.values.proofs.Tests.{pass, fail, test}
@@ -49,10 +49,10 @@ by_quotes false t = refl
 
 -- a text of the line, where its line stands
 text_there : (h : Bytes) (start : ℕ) (l : Bytes) → part h start (start + length l) ≡ l → (x : Option Field) (y : Option (Bytes × Text)) → Both l x y → FoundAs h x (moved_by start (found_by y))
-text_there h start l p none none b = tt
-text_there h start l p none (some y) b = b
-text_there h start l p (some f) none b = b
-text_there h start l p (some f) (some y) b =
+text_there h start l p None None b = tt
+text_there h start l p None (Some y) b = b
+text_there h start l p (Some f) None b = b
+text_there h start l p (Some f) (Some y) b =
     let t = y.1 in (
       sym (by_quotes t.quoted (part l t.start t.end)) ∙ ap is_quoted b.value,
       part_part h start l t.start t.end p b.inside ∙ sym (text_by t.quoted (part l t.start t.end)) ∙ ap text_of b.value,
@@ -62,7 +62,7 @@ marked_key : (h : Bytes) (e : Entry) (k l : Bytes) → leb e.kind 8 ≡ true →
 unfolding entry_key
 marked_key h e k l a b c d = rw (entry_key, a, b, c) (ap key_in b ∙ d)
 
-under_by : (h key id k i : Bytes) (e : Entry) → has_id e.kind ≡ true → entry_key h e ≡ k → id_meaning h e ≡ i → has_key_and_id h key id (some e) ≡ same k key && same i id
+under_by : (h key id k i : Bytes) (e : Entry) → has_id e.kind ≡ true → entry_key h e ≡ k → id_meaning h e ≡ i → has_key_and_id h key id (Some e) ≡ same k key && same i id
 under_by h key id k i e a b c = rw (a, b, c)
 
 -- a map of an accepted header, as the calls show it under n
@@ -104,5 +104,5 @@ module _ {form : Form} {h : Bytes} {v : Version} {t : List ℕ} {n : ℕ} {k : B
       let b = named_text v (ascii "cell") key s.line (fields_start k) fs (subst (λ (l : Bytes). AnyAt l (fields_start k) fs) (sym line_is) (line_fields k fs)) in
       let z : 0 + fields_start k ≡ fields_start k = omega arith in
       let m : entry_text (limits_by form).counted h v key (entry_at form h t n) ≡ moved_by e.start (found_by (text_named v (ascii "cell") key (fields_start k) fs)) =
-      rw (s.found, entry_text, has_id_lem, s.tells.again) (texts_moved e.start key (some (fields k fs)) ∙ rw z (ap (moved_by e.start) (keyed_named v key (fields_start k) fs))) in
+      rw (s.found, entry_text, has_id_lem, s.tells.again) (texts_moved e.start key (Some (fields k fs)) ∙ rw z (ap (moved_by e.start) (keyed_named v key (fields_start k) fs))) in
       rw (m, keyed_field v key fs) (text_there h e.start s.line line_there (field_named v (ascii "cell") key fs) (text_named v (ascii "cell") key (fields_start k) fs) b)

@@ -1,6 +1,5 @@
 -- An entry with all that it tells, and the entry under a key and an ID. Assumes nothing.
-use Rattle.std.specs.Prelude.{ℕ, ◌+◌, Bool, true, false, ◌&&◌, List, [], leb, ltb, length}
-use Rattle.std.proofs.Math.Option.{Option, none, some}
+use Rattle.std.specs.Prelude.{ℕ, ◌+◌, Bool, true, false, ◌&&◌, List, [], leb, ltb, length, Option, None, Some}
 use Rattle.values.specs.Bytes.{Bytes, ascii, starts, same}
 use Rattle.rules.specs.Entry.{Entry, if_counted}
 use Rattle.rules.specs.Shown.{has_id, line_in, id_meaning}
@@ -8,10 +7,7 @@ use Rattle.rules.specs.Claims.{key_in}
 use Rattle.entries.specs.declared.form.Form.{Form}
 use Rattle.entries.specs.Tables.{room, entry_at}
 use Rattle.index.specs.Index.{first_from}
-use Rattle.index.specs.declared.find.Found.{Found}
 use Rattle.lookup.specs.declared.entry.Described.{Described}
-use Rattle.lookup.specs.declared.entry.Description.{Description}
-use Rattle.lookup.specs.declared.entry.Description.TheVariants as description
 
 -- the key on an entry's line; the column line and samples have none
 unfoldable pub entry_key : Bytes → Entry → Bytes
@@ -31,18 +27,18 @@ described h e = record {
   quoted = e.quoted;
 }
 
-abbrev pub described_in : Bytes → Option Entry → Description
-described_in h none = description.Refused
-described_in h (some e) = description.Entry (described h e)
+abbrev pub described_in : Bytes → Option Entry → Option Described
+described_in h None = None
+described_in h (Some e) = Some (described h e)
 
 -- it has this key, and an ID that means this
 abbrev pub has_key_and_id : Bytes → Bytes → Bytes → Option Entry → Bool
-has_key_and_id h key id none = false
-has_key_and_id h key id (some e) = has_id e.kind && (same (entry_key h e) key && same (id_meaning h e) id)
+has_key_and_id h key id None = false
+has_key_and_id h key id (Some e) = has_id e.kind && (same (entry_key h e) key && same (id_meaning h e) id)
 
 unfoldable pub is_under : Form → Bytes → List ℕ → Bytes → Bytes → ℕ → Bool
 is_under form h t key id n = has_key_and_id h key id (entry_at form h t n)
 
 -- the first such entry of a table
-abbrev pub first_under : Form → Bytes → List ℕ → Bytes → Bytes → Found
+abbrev pub first_under : Form → Bytes → List ℕ → Bytes → Bytes → Option ℕ
 first_under form h t key id = first_from (is_under form h t key id) 0 (room form t)

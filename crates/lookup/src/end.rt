@@ -18,6 +18,7 @@ pub fn header_end(s: &[u8]) -> usize
     ensures { result ≡ header_end (pieces s.now) }
 {
     let mut at: usize = 0;
+    // Kept: no plainer: each line tells where the next one begins, so no range or iterator goes over them.
     while at < s.len() {
         let here = line::next_line(s, at);
         let l = bytes::part(s, at, here.end);

@@ -7,7 +7,6 @@ ghost use Rattle.lookup.specs.Entries.{entry_key, described_in, is_under};
 
 use entries::entry::Entry;
 use entries::form::Form;
-use entries::shown::EntryRead;
 use entries::{kind, part, shown};
 use values::{bytes, string};
 
@@ -23,13 +22,6 @@ pub struct Described {
     pub id_start: usize,
     pub id_length: usize,
     pub quoted: bool,
-}
-
-// Refused: there is no such entry, or it is not well formed.
-#[derive(Clone, Copy)]
-pub enum Description {
-    Entry(Described),
-    Refused,
 }
 
 // The key on an entry's line; none on a column line, and of a sample.
@@ -49,25 +41,22 @@ fn key_of(h: &[u8], e: Entry) -> &[u8]
 fn if_told(is_told: bool, n: usize) -> usize
     ensures { result ≡ if_counted is_told n }
 {
-    if is_told {
-        return n;
-    }
-    0
+    if is_told { n } else { 0 }
 }
 
 // Entry n, from 0.
-pub fn describe(h: &[u8], table: &[u64], form: Form, n: usize) -> Description
+pub fn describe(h: &[u8], table: &[u64], form: Form, n: usize) -> Option<Described>
     ensures { result ≡ described_in h.now (entry_at form h.now table.now n) }
 {
-    let EntryRead::Entry(e) = shown::entry_at(h, table, form, n) else {
-        return Description::Refused;
+    let Some(e) = shown::entry_at(h, table, form, n) else {
+        return None;
     };
     let key = key_of(h, e);
     let key_length = key.len();
     let key_start = if_told(0 < key_length, e.start + 2);
     let has_id = kind::has_id(e.kind);
     let id_start = if_told(has_id, e.start + e.offset);
-    Description::Entry(Described {
+    Some(Described {
         kind: e.kind,
         start: e.start,
         length: e.length,
@@ -84,14 +73,11 @@ pub fn describe(h: &[u8], table: &[u64], form: Form, n: usize) -> Description
 pub fn is_under(h: &[u8], table: &[u64], form: Form, n: usize, key: &[u8], id: &[u8]) -> bool
     ensures { result ≡ is_under form h.now table.now key.now id.now n }
 {
-    let EntryRead::Entry(e) = shown::entry_at(h, table, form, n) else {
+    let Some(e) = shown::entry_at(h, table, form, n) else {
         return false;
     };
     if !kind::has_id(e.kind) {
         return false;
     }
-    if !bytes::same(key_of(h, e), key) {
-        return false;
-    }
-    string::same_meaning(part::id_part(h, e), e.quoted, id, false)
+    bytes::same(key_of(h, e), key) && string::same_meaning(part::id_part(h, e), e.quoted, id, false)
 }

@@ -10,10 +10,9 @@ use alone::read;
 use alone::read::Alone;
 use entries::entry::Entry;
 use entries::form::Form;
-use entries::shown::{EntryRead, Shown};
+use entries::shown::Shown;
 use entries::{kind, part, shown};
 use records::field;
-use records::field::FieldFound;
 use records::file_format::FileFormat;
 use values::bytes;
 use values::string::Text;
@@ -37,12 +36,6 @@ pub struct FieldParts {
     pub quoted: bool,
 }
 
-#[derive(Clone, Copy)]
-pub enum FieldShown {
-    Field(FieldParts),
-    Refused,
-}
-
 // At its first `=`; what follows is a quoted text if it begins with `"`.
 fn split(w: &[u8]) -> Cut
     ensures cut { result ≡ cut_of w.now }
@@ -51,15 +44,7 @@ fn split(w: &[u8]) -> Cut
     let key_length = bytes::find(w, 0, b'=');
     let value = bytes::part(w, key_length + 1, w.len());
     let start = w.len() - value.len();
-    if value.len() == 0 {
-        return Cut {
-            key_length,
-            start,
-            length: 0,
-            quoted: false,
-        };
-    }
-    if value[0] != b'"' {
+    if value.len() == 0 || value[0] != b'"' {
         return Cut {
             key_length,
             start,
@@ -84,13 +69,13 @@ pub fn field_parts(
     n: usize,
     version: FileFormat,
     i: usize,
-) -> FieldShown
+) -> Option<FieldParts>
     ensures { result ≡ field_apart h.now (shown_field form h.now table.now n (version_of version) i) }
 {
     match header::shown::field(h, table, form, n, version, i) {
-        Shown::Part { start, end } => {
+        Some((start, end)) => {
             let at = split(&h[start..end]);
-            FieldShown::Field(FieldParts {
+            Some(FieldParts {
                 key_start: start,
                 key_length: at.key_length,
                 start: start + at.start,
@@ -98,38 +83,38 @@ pub fn field_parts(
                 quoted: at.quoted,
             })
         }
-        Shown::Refused => FieldShown::Refused,
+        None => None,
     }
 }
 
 // The value of the first field with this key in an entry's line, read alone, as a part of that line.
-fn line_text(h: &[u8], form: Form, e: Entry, version: FileFormat, key: &[u8]) -> FieldFound
+fn line_text(h: &[u8], form: Form, e: Entry, version: FileFormat, key: &[u8]) -> Option<Text>
     ensures found { result ≡ record_text key.now 0 (entry_record (limits_by form).counted h.now (version_of version) (entry_of e)) }
     ensures inside { TextInside (length (line_in h.now (entry_of e))) result }
 {
     match read::read_entry(h, form, e, version) {
-        Alone::Map(map) => {
+        Some(Alone::Map(map)) => {
             let l = part::line_part(h, e);
             let named = map.key;
             field::find_field(l, map.value + 1, named.has_brackets(version), key)
         }
-        Alone::Plain(_) => FieldFound::Missing,
-        Alone::Refused => FieldFound::Missing,
+        Some(Alone::Plain(_)) => None,
+        None => None,
     }
 }
 
 // The same as a part of the header.
-fn text_at(h: &[u8], form: Form, e: Entry, version: FileFormat, key: &[u8]) -> FieldFound
+fn text_at(h: &[u8], form: Form, e: Entry, version: FileFormat, key: &[u8]) -> Option<Text>
     ensures { TextAt h.now (entry_of e) key.now (entry_record (limits_by form).counted h.now (version_of version) (entry_of e)) result }
 {
     let at = e.start;
     match line_text(h, form, e, version, key) {
-        FieldFound::Found(text) => FieldFound::Found(Text {
+        Some(text) => Some(Text {
             start: at + text.start,
             end: at + text.end,
             quoted: text.quoted,
         }),
-        FieldFound::Missing => FieldFound::Missing,
+        None => None,
     }
 }
 
@@ -141,15 +126,15 @@ pub fn value(
     n: usize,
     version: FileFormat,
     key: &[u8],
-) -> FieldFound
+) -> Option<Text>
     ensures found { result ≡ entry_text (limits_by form).counted h.now (version_of version) key.now (entry_at form h.now table.now n) }
     ensures inside { TextInside (length h.now) result }
 {
-    let EntryRead::Entry(e) = shown::entry_at(h, table, form, n) else {
-        return FieldFound::Missing;
+    let Some(e) = shown::entry_at(h, table, form, n) else {
+        return None;
     };
     if !kind::has_id(e.kind) {
-        return FieldFound::Missing;
+        return None;
     }
     text_at(h, form, e, version, key)
 }

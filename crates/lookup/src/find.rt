@@ -7,23 +7,19 @@ ghost use Rattle.lookup.specs.Fields.{TextInside, text_under};
 use crate::{entry, field};
 use entries::form::Form;
 use entries::table;
-use index::find::Found;
-use records::field::FieldFound;
 use records::file_format::FileFormat;
+use values::string::Text;
 
 // In table order; entries that are not well formed are passed over.
-pub fn find_entry(h: &[u8], table: &[u64], form: Form, key: &[u8], id: &[u8]) -> Found
+pub fn find_entry(h: &[u8], table: &[u64], form: Form, key: &[u8], id: &[u8]) -> Option<usize>
     ensures { result ≡ first_under form h.now table.now key.now id.now }
 {
-    let entries = table::count(table, form);
-    let mut n: usize = 0;
-    while n < entries {
+    for n in 0..table::count(table, form) {
         if entry::is_under(h, table, form, n, key, id) {
-            return Found::Entry(n);
+            return Some(n);
         }
-        n += 1;
     }
-    Found::Nothing
+    None
 }
 
 // The value of its first field with this key, whose line is read again, under this version.
@@ -35,13 +31,13 @@ pub fn find_value(
     key: &[u8],
     id: &[u8],
     field: &[u8],
-) -> FieldFound
+) -> Option<Text>
     ensures found { result ≡ text_under form h.now table.now (version_of version) field.now
         (first_under form h.now table.now key.now id.now) }
     ensures inside { TextInside (length h.now) result }
 {
     match find_entry(h, table, form, key, id) {
-        Found::Entry(n) => field::value(h, table, form, n, version, field),
-        Found::Nothing => FieldFound::Missing,
+        Some(n) => field::value(h, table, form, n, version, field),
+        None => None,
     }
 }

@@ -8,13 +8,6 @@ ghost use Rattle.lookup.specs.Meanings.{fitting, written_as};
 use values::sink::Sink;
 use values::string;
 
-// How many bytes were written, or that the output is too small for them.
-#[derive(Clone, Copy)]
-pub enum Written {
-    Bytes(usize),
-    NoRoom,
-}
-
 // As far as there is room; answers how many bytes there are.
 fn put(s: &[u8], quoted: bool, out: &mut [u8]) -> usize
     ensures { Wrote out.old 0 (meaning quoted s.now) result out.new }
@@ -31,14 +24,15 @@ fn count(s: &[u8], quoted: bool) -> usize
 }
 
 // The meaning of a text that stands between quotes or bare. Nothing is written where it does not fit.
-pub fn put_meaning(s: &[u8], quoted: bool, out: &mut [u8]) -> Written
+// How many bytes were written; none where the output is too small for them.
+pub fn put_meaning(s: &[u8], quoted: bool, out: &mut [u8]) -> Option<usize>
     ensures answer { result ≡ written_as (length out.old) (meaning quoted s.now) }
     ensures output { out.new ≡ sets out.old 0 (fitting (length out.old) (meaning quoted s.now)) }
 {
     let size = count(s, quoted);
     if out.len() < size {
-        return Written::NoRoom;
+        return None;
     }
     put(s, quoted, out);
-    Written::Bytes(size)
+    Some(size)
 }

@@ -4,14 +4,12 @@ use native.Mathlib.Omega.{arith}
 use mathlib.Core.Path.{◌≡◌, refl, sym, ap, ap₂, ◌∙◌}
 use mathlib.Core.Bool.{Bool, true, false, not, ◌&&◌, false≢true}
 use mathlib.Core.List.{List, [], ◌∷◌, ◌++◌}
-use mathlib.Core.Option.{Option, none, some}
+use Rattle.std.specs.Prelude.{Option, None, Some}
 use lib.Dec.{eqb, ltb}
 use borrow.Author.Tests.{eqb-true, eq-eqb, ne_eqb, eqb-false, lt-ltb, ltb-true}
 use Rattle.values.specs.Bytes.{Bytes, ascii, begins, any, same}
 use Rattle.values.specs.Integer.{u64_read, unsigned_read, without_sign, number_of}
 use Rattle.values.specs.Value.{meaning}
-use Rattle.values.specs.declared.integer.IntegerRead.{IntegerRead}
-use Rattle.values.specs.declared.integer.IntegerRead.TheVariants as integer
 use Rattle.values.specs.declared.string.Text.{Text}
 use Rattle.values.proofs.Tests.{pass, fail, test, and_l, and_r, not_true, not_false, never}
 use Rattle.values.proofs.Lists.{some_is}
@@ -34,8 +32,6 @@ use Rattle.records.specs.declared.number.Number.{Number}
 use Rattle.records.specs.declared.number.Number.TheVariants.{Count, Letter}
 use Rattle.records.specs.declared.number.Letters.TheVariants.{Common, Phased, Local}
 use Rattle.records.specs.declared.number.ValueType.{ValueType}
-use Rattle.records.specs.declared.definition.Definition.{Definition}
-use Rattle.records.specs.declared.definition.Definition.TheVariants.{Of, Unreserved}
 use Rattle.records.proofs.Keys.{kind_by_case}
 use Rattle.records.proofs.Definitions.{plain_rows, look_raw}
 
@@ -46,8 +42,8 @@ eqb_sym a b = elim (test (eqb b a)) [
 ]
 
 -- a letter among those that the kind has, which is no integer
-module _ (v : Version) (kind : Kind) (l t : Bytes) (no : u64_read l ≡ integer.Refused) (known : is_in l (letters v kind) ≡ true) where
-  integer_not : {m : ℕ} {p : Bool} → u64_read t ≡ integer.Value m p → false ≡ same l t
+module _ (v : Version) (kind : Kind) (l t : Bytes) (no : u64_read l ≡ None) (known : is_in l (letters v kind) ≡ true) where
+  integer_not : {m : ℕ} {p : Bool} → u64_read t ≡ Some (m, p) → false ≡ same l t
   integer_not e = elim (test (same l t)) [
     | pass q ↦ let z = sym (ap u64_read (same_sound l t q) ∙ e) ∙ no in never cc
     | fail q ↦ sym q
@@ -59,13 +55,13 @@ module _ (v : Version) (kind : Kind) (l t : Bytes) (no : u64_read l ≡ integer.
     | fail q ↦ sym q
   ]
 
-  letter_asked : (i : IntegerRead) → u64_read t ≡ i → is_number (letter l) (count_or (letter_in (letters v kind) t) i) ≡ same l t
-  letter_asked (integer.Value m p) e = integer_not e
-  letter_asked integer.Refused e = elim (test (is_in t (letters v kind))) [ pass q ↦ rw (is_number, q) | fail q ↦ rw (is_number, q) (letter_not q) ]
+  letter_asked : (i : Option (ℕ × Bool)) → u64_read t ≡ i → is_number (letter l) (count_or (letter_in (letters v kind) t) i) ≡ same l t
+  letter_asked (Some (m, p)) e = integer_not e
+  letter_asked None e = elim (test (is_in t (letters v kind))) [ pass q ↦ rw (is_number, q) | fail q ↦ rw (is_number, q) (letter_not q) ]
 
-count_asked : (n : ℕ) (ls : List Bytes) (t : Bytes) (i : IntegerRead) → is_number (count n) (count_or (letter_in ls t) i) ≡ is_integer n i
-count_asked n ls t (integer.Value m p) = eqb_sym n m
-count_asked n ls t integer.Refused = elim (test (is_in t ls)) [ pass q ↦ rw (is_number, q) | fail q ↦ rw (is_number, q) ]
+count_asked : (n : ℕ) (ls : List Bytes) (t : Bytes) (i : Option (ℕ × Bool)) → is_number (count n) (count_or (letter_in ls t) i) ≡ is_integer n i
+count_asked n ls t (Some (m, p)) = eqb_sym n m
+count_asked n ls t None = elim (test (is_in t ls)) [ pass q ↦ rw (is_number, q) | fail q ↦ rw (is_number, q) ]
 
 -- a count, or a letter that is no integer and is one of those that the version and the kind have
 abbrev readable : Version → Kind → Asked → Bool
@@ -73,16 +69,16 @@ readable v kind (count n) = true
 readable v kind (letter l) = not (is_value (u64_read l)) && is_in l (letters v kind)
 
 abbrev readable_row : Version → Kind → Option ReservedRow → Bool
-readable_row v kind none = true
-readable_row v kind (some r) = readable v kind r.number
+readable_row v kind None = true
+readable_row v kind (Some r) = readable v kind r.number
 
 abbrev readable_rows : Version → Kind → List ReservedRow → Bool
 readable_rows v kind [] = true
 readable_rows v kind (r ∷ rs) = readable v kind r.number && readable_rows v kind rs
 
-no_value : (i : IntegerRead) → not (is_value i) ≡ true → i ≡ integer.Refused
-no_value (integer.Value m p) e = absurd (false≢true e)
-no_value integer.Refused e = refl
+no_value : (i : Option (ℕ × Bool)) → not (is_value i) ≡ true → i ≡ None
+no_value (Some (m, p)) e = absurd (false≢true e)
+no_value None e = refl
 
 module _ (v : Version) (kind : Kind) (t raw : Bytes) (q : Bool) (m : t ≡ meaning q raw) (i : u64_read t ≡ u64_read raw) where
   number_asked : (x : Number) → readable v kind (asked x) ≡ true → is_number (asked x) (read_number v kind t) ≡ is_number_of x raw q
@@ -93,15 +89,15 @@ module _ (v : Version) (kind : Kind) (t raw : Bytes) (q : Bool) (m : t ≡ meani
       letter_asked v kind l t (no_value (u64_read l) (and_l (not (is_value (u64_read l))) (is_in l (letters v kind)) h)) (and_r (not (is_value (u64_read l))) (is_in l (letters v kind)) h) (u64_read t) refl
       ∙ ap (same l) m
 
-  declares_as : (ty : Bytes) (p : Bool) {y : Bytes} → y ≡ meaning p ty → (d : Definition) (r : Option ReservedRow) → readable_row v kind r ≡ true → definition_means d ≡ outline r
+  declares_as : (ty : Bytes) (p : Bool) {y : Bytes} → y ≡ meaning p ty → (d : Option (Number × ValueType)) (r : Option ReservedRow) → readable_row v kind r ≡ true → definition_means d ≡ outline r
       → declares r (read_number v kind t) y ≡ fits d raw q ty p
-  declares_as ty p w Unreserved none h e = refl
-  declares_as ty p w Unreserved (some r) h e = never cc
-  declares_as ty p w (Of x z) none h e = never cc
-  declares_as ty p w (Of x z) (some r) h e =
+  declares_as ty p w None None h e = refl
+  declares_as ty p w None (Some r) h e = never cc
+  declares_as ty p w (Some (x, z)) None h e = never cc
+  declares_as ty p w (Some (x, z)) (Some r) h e =
       rw (sym (pair e).0, sym (pair e).1, w) (ap (λ (b : Bool). b && same (type_name z) (meaning p ty)) (number_asked x (rw (pair e).0 h)))
     where
-      pair : {a b : Asked} {c d : Bytes} → ◌≡◌ {A = Option (Asked × Bytes)} (some (a, c)) (some (b, d)) → (a ≡ b) × (c ≡ d)
+      pair : {a b : Asked} {c d : Bytes} → ◌≡◌ {A = Option (Asked × Bytes)} (Some (a, c)) (Some (b, d)) → (a ≡ b) × (c ≡ d)
       pair {a} {b} {c} {d} e = let p : ◌≡◌ {A = Asked × Bytes} (a, c) (b, d) = some_is e in (ap (λ (x : Asked × Bytes). x.0) p, ap (λ (x : Asked × Bytes). x.1) p)
 
 -- The pages of a version and a kind
@@ -227,7 +223,7 @@ module _ (v : Version) (kind : Kind) (q : Bool) (id : Bytes) where
   abbrev Row : Option (Asked × Bytes) → Type 0
   Row o = o ≡ outline (reserved v kind (meaning q id))
 
-  none_of : reserved_rows v kind ≡ [] → Row none
+  none_of : reserved_rows v kind ≡ [] → Row None
   unfolding reserved look_row
   none_of e = rw (reserved, e)
 
@@ -236,7 +232,7 @@ module _ (v : Version) (kind : Kind) (q : Bool) (id : Bytes) where
   row_of rs t e f = f ∙ ap outline (sym (look_raw rs t q id) ∙ ap (look_row (meaning q id)) (sym e))
 
   module _ {a : Bool} (isa : a ≡ earlier v v4_3) where
-    pub row_before : a ≡ true → Row none
+    pub row_before : a ≡ true → Row None
     row_before e = none_of (rows_before v kind (sym isa ∙ e))
 
     module _ (na : a ≡ false) {i : Bool} (isi : i ≡ is_info kind) {b : Bool} (isb : b ≡ earlier v v4_4) where
@@ -266,7 +262,7 @@ module _ (v : Version) (kind : Kind) (q : Bool) (id : Bytes) where
           unfolding any
           row_format_4_5 e f = row_of (format_rows ++ format_rows4_4 ++ format_rows4_5) refl (format_rows_lem ∙ format_page_4_5 v (sym isc ∙ e)) f
 
-  pub row_unlisted : {i : Bool} → i ≡ is_info kind → i ≡ false → {g : Bool} → g ≡ is_format kind → not g ≡ true → Row none
+  pub row_unlisted : {i : Bool} → i ≡ is_info kind → i ≡ false → {g : Bool} → g ≡ is_format kind → not g ≡ true → Row None
   row_unlisted a b {g} c d = none_of (rows_of v kind (sym a ∙ b) (sym c ∙ not_true g d))
 
 pub ruleset rows = (row_before, row_info_4_3, row_info_4_4, row_format_4_3, row_format_4_4, row_format_4_5, row_unlisted)
@@ -280,7 +276,7 @@ look_readable v kind id (r ∷ rs) t = elim (test (same r.id id)) [
 ]
 
 pub reserved_asked : (v : Version) (key : MapKey) (s : Bytes) (id number kind : Text) {n x y : Bytes} → n ≡ text_in s id → x ≡ text_in s number → y ≡ text_in s kind
-    → (d : Definition) → definition_means d ≡ outline (reserved v (kind_by key) (meaning id.quoted n)) → {r : Bool} → r ≡ fits d x number.quoted y kind.quoted
+    → (d : Option (Number × ValueType)) → definition_means d ≡ outline (reserved v (kind_by key) (meaning id.quoted n)) → {r : Bool} → r ≡ fits d x number.quoted y kind.quoted
     → Declared v key s id number kind r
 unfolding misdeclared reserved
 reserved_asked v key s id number kind {n} {x} {y} i j l d m {r} z = record {
@@ -294,14 +290,14 @@ reserved_asked v key s id number kind {n} {x} {y} i j l d m {r} z = record {
       ∙ sym z));
 }
 
-pub no_definition : (d : Definition) (n : Bytes) (nq : Bool) (t : Bytes) (tq : Bool) → d ≡ Unreserved → true ≡ fits d n nq t tq
+pub no_definition : (d : Option (Number × ValueType)) (n : Bytes) (nq : Bool) (t : Bytes) (tq : Bool) → d ≡ None → true ≡ fits d n nq t tq
 no_definition d n nq t tq e = rw e
 
-module _ (d : Definition) (n : Bytes) (nq : Bool) (t : Bytes) (tq : Bool) {x : Number} where
-  pub other_number : {y : ValueType} → d ≡ Of x y → {q : Bool} → q ≡ is_number_of x n nq → not q ≡ true → false ≡ fits d n nq t tq
+module _ (d : Option (Number × ValueType)) (n : Bytes) (nq : Bool) (t : Bytes) (tq : Bool) {x : Number} where
+  pub other_number : {y : ValueType} → d ≡ Some (x, y) → {q : Bool} → q ≡ is_number_of x n nq → not q ≡ true → false ≡ fits d n nq t tq
   other_number e {q} a b = rw (e, sym a ∙ not_true q b)
 
-  pub its_number : {y : ValueType} → d ≡ Of x y → {q : Bool} → q ≡ is_number_of x n nq → not q ≡ false → {r : Bool} → r ≡ same (type_name y) (meaning tq t) → r ≡ fits d n nq t tq
+  pub its_number : {y : ValueType} → d ≡ Some (x, y) → {q : Bool} → q ≡ is_number_of x n nq → not q ≡ false → {r : Bool} → r ≡ same (type_name y) (meaning tq t) → r ≡ fits d n nq t tq
   its_number e {q} a b c = rw (e, sym a ∙ not_false q b) c
 
 pub ruleset defined = (no_definition, other_number, its_number)

@@ -1,13 +1,14 @@
 -- Reserved IDs: rows of one length are looked through one after the other, and are those of the rules' table. Assumes nothing.
 use Prim.Native.Nat.{ℕ, zero, suc, ◌+◌, ◌-◌, ◌≤◌, ◌<◌}
 use native.Mathlib.Omega.{arith}
-use mathlib.Core.Path.{◌≡◌, refl, sym, ap, ◌∙◌}
+use mathlib.Core.Path.{◌≡◌, refl, sym, ap, ap₂, ◌∙◌}
 use mathlib.Core.Bool.{Bool, true, false, not, ◌||◌, ◌&&◌, false≢true}
-use mathlib.Core.List.{List, [], ◌∷◌}
-use mathlib.Core.Option.{Option, none, some}
+use mathlib.Core.List.{List, [], ◌∷◌, ◌++◌}
+use Rattle.std.specs.Prelude.{Option, None, Some}
 use lib.Dec.{eqb}
-use lib.ListN.{length, get_or, drop, take, length-drop}
-use lib.Seq.{get_or-drop, drop-drop}
+use lib.ListN.{length, get_or, drop, take, length-append, get_or-append}
+use lib.Seq.{drop-append_seam}
+use Rattle.std.proofs.lemmas.List.{take-append-le}
 use borrow.Author.Tests.{eq-eqb, ne_eqb, lt-ltb, le-ltb}
 use Rattle.values.specs.Bytes.{Bytes, any, same}
 use Rattle.values.specs.Value.{is_escapable, meaning}
@@ -52,17 +53,17 @@ module _ (t : ℕ) where
 pub ruleset typed = (type_i, type_float, type_flag, type_other)
 
 -- the rows before `at` are others
-pub record Looking (rows id : Bytes) (at : ℕ) : Type 0 where
-  pub inside : at ≤ length rows
+pub record Looking (rows id : Bytes) (size : ℕ) (rest : Bytes) : Type 0 where
+  pub sized : size ≡ length id + 3
   pub most : ℕ
-  pub enough : length rows - at ≤ most
-  pub still : look_row id (rows_in (length rows) (length id) rows) ≡ look_row id (rows_in most (length id) (drop at rows))
+  pub enough : length rest ≤ most
+  pub still : look_row id (rows_in (length rows) (length id) rows) ≡ look_row id (rows_in most (length id) rest)
 
 abbrev pub Found : Bytes → Bytes → Option (Asked × Bytes) → Type 0
 Found rows id o = o ≡ outline (look_row id (rows_in (length rows) (length id) rows))
 
-pub look_start : (rows id : Bytes) → Looking rows id 0
-look_start rows id = record { inside = omega arith; most = length rows; enough = omega arith; still = refl }
+pub look_start : {rows id rest : Bytes} {size : ℕ} → rest ≡ rows → size ≡ length id + 3 → Looking rows id size rest
+look_start {rows} {id} e n = record { sized = n; most = length rows; enough = rw e (omega arith); still = rw e refl }
 
 -- too little for a row
 rows_none : (most n : ℕ) (bs : Bytes) → length bs < n + 3 → rows_in most n bs ≡ []
@@ -75,52 +76,50 @@ unfolding rows_in
 rows_some zero n bs h e = absurd (omega (arith, h, e))
 rows_some (suc most) n bs h e = (most, omega (arith, e), rw (rows_in, le-ltb (length bs) (n + 3) h))
 
-module _ {rows id : Bytes} {at : ℕ} (g : Looking rows id at) where
-  pub look_ended : length rows ≤ at → Found rows id none
+row_front : (n : ℕ) (row more : Bytes) → n + 3 ≡ length row → row_coded n (row ++ more) ≡ row_coded n row
+row_front n row more w =
+    rw (take-append-le n row more (omega (arith, w)), get_or-append row more 0 n (omega (arith, w)), get_or-append row more 0 (n + 1) (omega (arith, w)), get_or-append row more 0 (n + 2) (omega (arith, w)))
+
+module _ {rows id rest : Bytes} {size : ℕ} (g : Looking rows id size rest) where
+  pub look_sized : size ≡ length id + 3
+  look_sized = g.sized
+
+  pub look_ended : length rest < size → Found rows id None
   unfolding look_row
-  look_ended h = sym (ap outline (g.still ∙ ap (look_row id) (rows_none g.most (length id) (drop at rows) (rw (length-drop at rows) (omega (arith, h))))))
+  look_ended h = sym (ap outline (g.still ∙ ap (look_row id) (rows_none g.most (length id) rest (omega (arith, h, g.sized)))))
 
-  short : length rows - at < length id + 3 → Found rows id none
-  unfolding look_row
-  short h = sym (ap outline (g.still ∙ ap (look_row id) (rows_none g.most (length id) (drop at rows) (rw (length-drop at rows) h))))
+  module _ (row more : Bytes) (a : rest ≡ row ++ more) (l : length row ≡ size) where
+    long : length rest ≡ length id + 3 + length more
+    long = ap length a ∙ length-append row more ∙ ap (◌+ length more) (l ∙ g.sized)
 
-  pub look_short : length rows - at ≤ length id → Found rows id none
-  look_short h = short (omega (arith, h))
+    step : (less : ℕ) × (length rest ≤ less + 1) × (look_row id (rows_in (length rows) (length id) rows) ≡ look_row id (row_coded (length id) row ∷ rows_in less (length id) more))
+    step =
+        let s = rows_some g.most (length id) rest (omega (arith, long)) g.enough in
+        let w : length id + 3 ≡ length row = sym (l ∙ g.sized) in (
+          s.0,
+          s.1,
+          g.still ∙ ap (look_row id) (s.2 ∙ ap₂ (λ (r : ReservedRow) (rs : List ReservedRow). r ∷ rs) (ap (row_coded (length id)) a ∙ row_front (length id) row more w)
+              (ap (rows_in s.0 (length id)) (ap₂ (λ (k : ℕ) (bs : Bytes). drop k bs) w a ∙ drop-append_seam row more))),
+        )
 
-  module _ (room : length id < length rows - at) where
-    pub look_cut : length rows - (at + length id) < 3 → Found rows id none
-    look_cut h = short (omega (arith, h, room))
+    module _ {p : Bytes} (b : p ≡ take (length id) row) {q : Bool} (c : q ≡ same p id) where
+      name_is : q ≡ same (take (length id) row) id
+      name_is = c ∙ ap (λ (x : Bytes). same x id) b
 
-    module _ (whole : 3 ≤ length rows - (at + length id)) where
-      step : (less : ℕ) × (length rows - at ≤ less + 1) × (look_row id (rows_in (length rows) (length id) rows) ≡ look_row id (row_coded (length id) (drop at rows) ∷ rows_in less (length id) (drop (length id + 3) (drop at rows))))
-      step =
-          let s = rows_some g.most (length id) (drop at rows) (rw (length-drop at rows) (omega (arith, room, whole))) (rw (length-drop at rows) g.enough) in
-          (s.0, rw (length-drop at rows) at s.1, g.still ∙ ap (look_row id) s.2)
+      pub look_hit : q ≡ true → {x : Number} → x ≡ number_coded (get_or row (length id) 0) (get_or row (length id + 1) 0) → {y : ValueType}
+          → y ≡ type_coded (get_or row (length id + 2) 0) → Found rows id (Some (asked x, type_name y))
+      unfolding look_row
+      look_hit e {x} f {y} h =
+          let found : look_row id (row_coded (length id) row ∷ rows_in step.0 (length id) more) ≡ Some (row_coded (length id) row) = rw (look_row, sym name_is ∙ e) in
+          sym (ap outline (step.2 ∙ found) ∙ rw (f, h))
 
-      module _ {p : Bytes} (a : p ≡ take (at + length id - at) (drop at rows)) {q : Bool} (b : q ≡ same p id) where
-        name_is : q ≡ same (take (length id) (drop at rows)) id
-        name_is = let e : at + length id - at ≡ length id = omega arith in b ∙ rw (a, e)
+      pub look_next : q ≡ false → Looking rows id size more
+      unfolding look_row
+      look_next e =
+          let s = step in
+          record { sized = g.sized; most = s.0; enough = omega (arith, s.1, long); still = s.2 ∙ rw (look_row, sym name_is ∙ e) }
 
-        pub look_hit : q ≡ true → {x : Number} → x ≡ number_coded (get_or rows (at + length id) 0) (get_or rows (at + length id + 1) 0) → {y : ValueType}
-            → y ≡ type_coded (get_or rows (at + length id + 2) 0) → Found rows id (some (asked x, type_name y))
-        unfolding look_row
-        look_hit e {x} f {y} h =
-            let found : look_row id (row_coded (length id) (drop at rows) ∷ rows_in step.0 (length id) (drop (length id + 3) (drop at rows))) ≡ some (row_coded (length id) (drop at rows)) = rw (look_row, sym name_is ∙ e) in
-            let one : at + (length id + 1) ≡ at + length id + 1 = omega arith in
-            let two : at + (length id + 2) ≡ at + length id + 2 = omega arith in
-            sym (ap outline (step.2 ∙ found) ∙ rw (get_or-drop at rows (length id) 0, get_or-drop at rows (length id + 1) 0, get_or-drop at rows (length id + 2) 0, one, two, f, h))
-
-        pub look_next : q ≡ false → Looking rows id (at + length id + 3)
-        unfolding look_row
-        look_next e =
-            let s = step in
-            let sum : at + (length id + 3) ≡ at + length id + 3 = omega arith in
-            record { inside = omega (arith, whole); most = s.0; enough = omega (arith, s.1); still = s.2 ∙ rw (look_row, sym name_is ∙ e, drop-drop (length id + 3) at rows, sum) }
-
-    pub look_less : length rows - (at + length id + 3) < length rows - at
-    look_less = omega (arith, room)
-
-pub ruleset looking = (look_start, look_ended, look_short, look_cut, look_hit, look_next, look_less)
+pub ruleset looking = (look_start, look_sized, look_ended, look_hit, look_next)
 
 -- The rows of one length
 
@@ -133,7 +132,7 @@ look_length : (id : Bytes) (rs : List ReservedRow) → look_row id rs ≡ look_r
 unfolding look_row
 look_length id [] = refl
 look_length id (r ∷ rs) = elim (test (eqb (length r.id) (length id))) [
-  | pass e ↦ rw (e, of_length, look_row) (ap (λ (o : Option ReservedRow). elim (same r.id id) [ true ↦ some r | false ↦ o ]) (look_length id rs))
+  | pass e ↦ rw (e, of_length, look_row) (ap (λ (o : Option ReservedRow). elim (same r.id id) [ true ↦ Some r | false ↦ o ]) (look_length id rs))
   | fail e ↦ elim (test (same r.id id)) [
     | pass f ↦ absurd (false≢true (sym e ∙ eq-eqb (length r.id) (length id) (ap length (same_sound r.id id f))))
     | fail f ↦ rw (look_row, of_length, e, f) (look_length id rs)
@@ -162,7 +161,7 @@ abbrev pub lengths_in : List ℕ → List ReservedRow → Bool
 lengths_in ms [] = true
 lengths_in ms (r ∷ rs) = is_among (length r.id) ms && lengths_in ms rs
 
-pub length_none : (rs : List ReservedRow) (ms : List ℕ) → lengths_in ms rs ≡ true → (id : Bytes) → Without (length id) ms → none ≡ outline (look_row id rs)
+pub length_none : (rs : List ReservedRow) (ms : List ℕ) → lengths_in ms rs ≡ true → (id : Bytes) → Without (length id) ms → None ≡ outline (look_row id rs)
 unfolding look_row
 length_none [] ms t id w = refl
 length_none (r ∷ rs) ms t id w = elim (test (same r.id id)) [

@@ -3,10 +3,11 @@ use Prim.Native.Nat.{ℕ}
 use mathlib.Core.Path.{◌≡◌, refl, sym, ap, ap₂, ◌∙◌}
 use mathlib.Core.Bool.{Bool, true, false}
 use mathlib.Core.List.{List, [], ◌∷◌}
-use mathlib.Core.Option.{Option}
+use Rattle.std.specs.Prelude.{Option, Some, Result, Ok, Err}
 use Rattle.values.specs.Bytes.{Bytes, ascii, same}
 use Rattle.values.specs.Field.{Field}
 use Rattle.values.specs.declared.string.Text.{Text}
+use Rattle.values.proofs.Lists.{some_pair}
 use Rattle.values.proofs.Tests.{never}
 use Rattle.rules.specs.Version.{Version}
 use Rattle.rules.specs.Known.{Kind, INFO, FILTER, FORMAT, ALT, contig, other, KnownField, kind_of}
@@ -22,10 +23,10 @@ use Rattle.records.specs.declared.key.MapKey.{MapKey}
 use Rattle.records.specs.declared.key.MapKey.TheVariants as key
 use Rattle.records.specs.declared.tag.Tag.{Tag}
 use Rattle.records.specs.declared.tag.Tag.TheVariants.{Id, Number, ValueType, Description, Length, Md5, Url, Idx, Other}
-use Rattle.records.specs.declared.map.Slot.TheVariants as slot
-use Rattle.records.specs.declared.record.RecordRead.{RecordRead}
-use Rattle.records.specs.declared.record.RecordRead.TheVariants as read
+use Rattle.records.specs.declared.record.Record.{Record}
+use Rattle.records.specs.declared.record.Record.TheVariants as read
 use Rattle.records.proofs.Refusals.{number_injective}
+use Rattle.records.specs.declared.refusal.Refusal.{Refusal}
 
 -- the case of a key, by what the rules ask of it: its kind, and whether it is META or PEDIGREE
 abbrev key_by : Kind → Bool → Bool → MapKey
@@ -55,19 +56,19 @@ key_of j n = rw (n.kind, n.meta, n.pedigree) (key_back j)
 pub named_one : {k : Bytes} (i j : MapKey) → Named k i → Named k j → i ≡ j
 named_one i j a b = sym (key_of i a) ∙ key_of j b
 
-pub filled_one : {s t : Text} {m n : ℕ} → slot.Filled s m ≡ slot.Filled t n → (s ≡ t) × (m ≡ n)
-filled_one e = (cc, cc)
+pub filled_one : {s t : Text} {m n : ℕ} → ◌≡◌ {A = Option (Text × ℕ)} (Some (s, m)) (Some (t, n)) → (s ≡ t) × (m ≡ n)
+filled_one e = some_pair e
 
-abbrev map_with : MapKey → ℕ → Tally → Text → ℕ → RecordRead
-map_with key value tally id tag = read.Map (record { key = key; value = value; id = id; tag = tag; tally = tally })
+abbrev map_with : MapKey → ℕ → Tally → Text → ℕ → Result Record Refusal
+map_with key value tally id tag = Ok (read.Map (record { key = key; value = value; id = id; tag = tag; tally = tally }))
 
-record_one : (v : Version) (s : Bytes) (a b : RecordRead) → RecordIs v s a → RecordIs v s b → a ≡ b
-record_one v s (read.FileFormat w) (read.FileFormat x) p q = let z : version_of w ≡ version_of x = cc in ap (λ (y : Version). read.FileFormat (format_of y)) z
-record_one v s (read.FileFormat w) (read.Map m) p q = never cc
-record_one v s (read.FileFormat w) (read.Text i) p q = never cc
-record_one v s (read.FileFormat w) (read.Refused x) p q = never cc
-record_one v s (read.Map m) (read.FileFormat w) p q = never cc
-record_one v s (read.Map m) (read.Map m') p q =
+record_one : (v : Version) (s : Bytes) (a b : Result Record Refusal) → RecordIs v s a → RecordIs v s b → a ≡ b
+record_one v s (Ok (read.FileFormat w)) (Ok (read.FileFormat x)) p q = let z : version_of w ≡ version_of x = cc in ap (λ (y : Version). Ok (read.FileFormat (format_of y))) z
+record_one v s (Ok (read.FileFormat w)) (Ok (read.Map m)) p q = never cc
+record_one v s (Ok (read.FileFormat w)) (Ok (read.Text i)) p q = never cc
+record_one v s (Ok (read.FileFormat w)) (Err x) p q = never cc
+record_one v s (Ok (read.Map m)) (Ok (read.FileFormat w)) p q = never cc
+record_one v s (Ok (read.Map m)) (Ok (read.Map m')) p q =
     let k = named_one m.key m'.key p.1 q.1 in
     let fs : p.0 ≡ q.0 = cc in
     let x = filled_one (sym p.4 ∙ ap (λ (gs : List Field). slotted (text_named v (key_in s) (ascii "ID") (fields_start (key_in s)) gs)) fs ∙ q.4) in
@@ -75,19 +76,19 @@ record_one v s (read.Map m) (read.Map m') p q =
     ∙ ap (λ (i : ℕ). map_with m'.key i m.tally m.id m.tag) (p.2 ∙ sym q.2)
     ∙ ap (λ (t : Tally). map_with m'.key m'.value t m.id m.tag) (p.5 ∙ ap (tally_of v (key_in s)) fs ∙ sym q.5)
     ∙ ap₂ (map_with m'.key m'.value m'.tally) x.0 x.1
-record_one v s (read.Map m) (read.Text i') p q = never cc
-record_one v s (read.Map m) (read.Refused x) p q = never cc
-record_one v s (read.Text i) (read.FileFormat w) p q = never cc
-record_one v s (read.Text i) (read.Map m) p q = never cc
-record_one v s (read.Text i) (read.Text i') p q = cc
-record_one v s (read.Text i) (read.Refused x) p q = never cc
-record_one v s (read.Refused x) (read.FileFormat w) p q = never cc
-record_one v s (read.Refused x) (read.Map m) p q = never cc
-record_one v s (read.Refused x) (read.Text i) p q = never cc
-record_one v s (read.Refused x) (read.Refused y) p q = ap read.Refused (number_injective x y (cc))
+record_one v s (Ok (read.Map m)) (Ok (read.Text i')) p q = never cc
+record_one v s (Ok (read.Map m)) (Err x) p q = never cc
+record_one v s (Ok (read.Text i)) (Ok (read.FileFormat w)) p q = never cc
+record_one v s (Ok (read.Text i)) (Ok (read.Map m)) p q = never cc
+record_one v s (Ok (read.Text i)) (Ok (read.Text i')) p q = cc
+record_one v s (Ok (read.Text i)) (Err x) p q = never cc
+record_one v s (Err x) (Ok (read.FileFormat w)) p q = never cc
+record_one v s (Err x) (Ok (read.Map m)) p q = never cc
+record_one v s (Err x) (Ok (read.Text i)) p q = never cc
+record_one v s (Err x) (Err y) p q = ap Err (number_injective x y (cc))
 
 -- two answers that meet the promise of `parse_record` are equal
-pub record_determined : {v : Version} {s : Bytes} {a b : RecordRead} → ParsesRecord v s a → ParsesRecord v s b → a ≡ b
+pub record_determined : {v : Version} {s : Bytes} {a b : Result Record Refusal} → ParsesRecord v s a → ParsesRecord v s b → a ≡ b
 record_determined {v} {s} {a} {b} p q = record_one v s a b p.is q.is
 
 -- Tags

@@ -1,11 +1,11 @@
 -- Fields whose names are known to differ. Assumes nothing.
 use Prim.Native.Nat.{ℕ, ◌+◌, ◌-◌, ◌%◌, ◌^◌, ◌≤◌, ◌<◌}
 use native.Mathlib.Omega.{arith}
-use native.Mathlib.Nat.{mod-lt}
+use native.Mathlib.Nat.{max-eq_left, max-eq_right, min-le_left, min-le_right, mod-lt}
+use Rattle.std.specs.Prelude.{max, min, Option, None, Some}
 use mathlib.Core.Path.{◌≡◌, refl, sym, ap, ap₂, subst, ◌∙◌}
 use mathlib.Core.Bool.{Bool, true, false, not, ◌&&◌}
 use mathlib.Core.List.{List, [], ◌∷◌, ◌++◌, tail}
-use mathlib.Core.Option.{Option, none, some}
 use lib.Dec.{leb, ltb}
 use lib.ListN.{length, drop, take}
 use lib.Seq.{drop-drop}
@@ -17,12 +17,9 @@ use Rattle.values.specs.Marks.{is_met, meet}
 use Rattle.values.specs.Places.{field_at, separator_at}
 use Rattle.values.specs.declared.cursor.Cursor.{Cursor}
 use Rattle.values.specs.declared.string.Text.{Text}
-use Rattle.values.specs.declared.field.FieldRead.{FieldRead}
-use Rattle.values.specs.declared.field.FieldRead.TheVariants as read
-use Rattle.values.specs.declared.field.Separator.{Separator}
-use Rattle.values.specs.declared.field.Separator.TheVariants as separator
 use Rattle.values.proofs.Tests.{pass, fail, test, not_true, not_false, both, and_l, and_r}
 use Rattle.values.proofs.Sames.{differ}
+use Rattle.values.proofs.Scans.{stop_of, Scanning, started, hit, miss, ended}
 use Rattle.values.proofs.Places.{FieldHere, field_here}
 use Rattle.values.proofs.Fields.{placed_comma, tail_is}
 use Rattle.values.proofs.Markings.{meet_length, meet_own, meet_kept, none_met}
@@ -112,11 +109,11 @@ module _ (n k : ℕ) (ms ds : List ℕ) (name : Bytes) {h : ℕ} (eh : h ≡ nam
       met_is : is_met ms (name_hash name) ≡ q
       met_is = ap (is_met ms) (sym eh) ∙ sym eq
 
-      pub own_doubts : not q ≡ false → {es : List ℕ} → es ≡ meet ds h → es ≡ mark_if (is_of n k name && is_met ms (name_hash name)) ds (name_hash name)
-      own_doubts t i = i ∙ rw (of_class, met_is ∙ not_false q t, eh)
+      pub own_doubts : q ≡ true → {es : List ℕ} → es ≡ meet ds h → es ≡ mark_if (is_of n k name && is_met ms (name_hash name)) ds (name_hash name)
+      own_doubts t i = i ∙ rw (of_class, met_is ∙ t, eh)
 
-      pub no_doubts : not q ≡ true → ds ≡ mark_if (is_of n k name && is_met ms (name_hash name)) ds (name_hash name)
-      no_doubts f = rw (of_class, met_is ∙ not_true q f)
+      pub no_doubts : q ≡ false → ds ≡ mark_if (is_of n k name && is_met ms (name_hash name)) ds (name_hash name)
+      no_doubts f = rw (of_class, met_is ∙ f)
 
 pub ruleset doubted = (other_marks, other_doubts, own_marks, own_doubts, no_doubts, meet_length)
 
@@ -126,15 +123,15 @@ none_distinct x s = record { apart = λ before at w f rest r l. absurd (omega ar
 -- One walk over the fields
 
 abbrev field_or : Field → Option (Field × Bytes) → Field
-field_or f none = f
-field_or f (some p) = p.0
+field_or f None = f
+field_or f (Some p) = p.0
 
-same_field : {f g : Field} {r t : Bytes} → ◌≡◌ {A = Option (Field × Bytes)} (some (f, r)) (some (g, t)) → f ≡ g
+same_field : {f g : Field} {r t : Bytes} → ◌≡◌ {A = Option (Field × Bytes)} (Some (f, r)) (Some (g, t)) → f ≡ g
 same_field {f} e = ap (field_or f) e
 
 -- of two walks from one place on, the one ends where the field f stands, the other there or within it
 same_walk : (m : Bool) (s : Bytes) (start : ℕ) (xs ys : List Field) (at i : ℕ) → FieldsFrom m s start xs at → FieldsFrom m s start ys i
-    → (f : Field) (rest : Bytes) → read_field m (drop at s) ≡ some (f, rest) → at ≤ i → i < at + length (written_field f) + 1 → xs ≡ ys
+    → (f : Field) (rest : Bytes) → read_field m (drop at s) ≡ Some (f, rest) → at ≤ i → i < at + length (written_field f) + 1 → xs ≡ ys
 same_walk m s start [] [] at i w u f rest r l h = refl
 same_walk m s start [] (g ∷ gs) at i w u f rest r l h =
     let e : g ≡ f = same_field (sym u.0 ∙ ap (λ (j : ℕ). read_field m (drop j s)) w ∙ r) in
@@ -167,7 +164,7 @@ naming_start such sure hash x s ms = record {
 
 -- a field more, which is new if it is to be sure then
 module _ {such sure sure' : Bytes → Bool} {hash : Bytes → ℕ} {x : MapContext} {s : Bytes} {ms : List ℕ} {at : ℕ} (g : Naming such sure hash x s ms at)
-    {r : FieldRead} (a : r ≡ field_at x.brackets s at) {e : ℕ} {t : Text} {n : Cursor} (b : r ≡ read.Field e t n) {p : Bytes} (c : p ≡ take (e - at) (drop at s))
+    {r : Option (ℕ × Text × Cursor)} (a : r ≡ field_at x.brackets s at) {e : ℕ} {t : Text} {n : Cursor} (b : r ≡ Some (e, t, n)) {p : Bytes} (c : p ≡ take (e - at) (drop at s))
     (less : (y : Bytes) → sure' y ≡ true → sure y ≡ true)
     (new : (fs : List Field) → FieldsFrom x.brackets s x.start fs at → NamesMarked such hash ms fs → sure' p ≡ true → is_in p (keys_of fs) ≡ false) where
   told : FieldHere x.brackets s at e t n
@@ -190,7 +187,7 @@ module _ {such sure sure' : Bytes → Bool} {hash : Bytes → ℕ} {x : MapConte
     ];
   }
     where
-      here : (before : List Field) (i : ℕ) → FieldsFrom x.brackets s x.start before i → (h : Field) (rest : Bytes) → read_field x.brackets (drop i s) ≡ some (h, rest)
+      here : (before : List Field) (i : ℕ) → FieldsFrom x.brackets s x.start before i → (h : Field) (rest : Bytes) → read_field x.brackets (drop i s) ≡ Some (h, rest)
           → i < at + length (written_field f) + 1 → sure' h.key ≡ true → at ≤ i → is_in h.key (keys_of before) ≡ false
       here before i w h rest rd l q o =
           let y = same_walk x.brackets s x.start g.before before at i g.fields w f (drop n.at s) told.read o l in
@@ -203,7 +200,7 @@ module _ {such sure sure' : Bytes → Bool} {hash : Bytes → ℕ} {x : MapConte
   naming_last : DistinctOf sure' x s n.at
   naming_last = let z = told.next in record { apart = λ before i w h rest rd l. past.apart before i w h rest rd (omega (arith, z)) }
 
-  module _ {y : Separator} (j : y ≡ separator_at s n.at) {d : Cursor} (o : y ≡ separator.Comma d) where
+  module _ {y : Option Cursor} (j : y ≡ separator_at s n.at) {d : Cursor} (o : y ≡ Some d) where
     comma : (drop n.at s ≡ 44 ∷ drop (n.at + 1) s) × (d.at ≡ n.at + 1)
     unfolding separator_at
     comma =
@@ -218,7 +215,7 @@ module _ {such sure sure' : Bytes → Bool} {hash : Bytes → ℕ} {x : MapConte
     naming_next {ns} m = record {
       before = g.before ++ f ∷ [];
       fields = subst (FieldsFrom x.brackets s x.start (g.before ++ f ∷ [])) (sym place)
-          (fields_snoc x.brackets s x.start g.before at f g.fields (told.read ∙ ap (λ (z : Bytes). some (f, z)) (comma.0 ∙ ap (λ (i : ℕ). 44 ∷ drop (i + 1) s) told.next)));
+          (fields_snoc x.brackets s x.start g.before at f g.fields (told.read ∙ ap (λ (z : Bytes). Some (f, z)) (comma.0 ∙ ap (λ (i : ℕ). 44 ∷ drop (i + 1) s) told.next)));
       marked = subst (λ (z : List ℕ). NamesMarked such hash z (g.before ++ f ∷ [])) (sym m)
           (all_append (λ (h : Field). such h.key ≡ true → is_met (mark_if (such p) ms (hash p)) (hash h.key) ≡ true) g.before (f ∷ []) (names_stay such hash ms (such p) (hash p) g.before g.marked) (own, tt));
       apart = subst (DistinctOf sure' x s) (sym place) past;
@@ -250,7 +247,7 @@ seeking_long g = g.long
 pub seeking_ends : {x : MapContext} {s : Bytes} {ds ms₀ ms : List ℕ} {at : ℕ} → Seeking x s ds ms₀ ms at → DistinctOf (is_doubted ds) x s at
 seeking_ends g = g.naming.apart
 
-module _ {x : MapContext} {s : Bytes} {ds ms₀ ms : List ℕ} {at : ℕ} (g : Seeking x s ds ms₀ ms at) {r : FieldRead} (a : r ≡ field_at x.brackets s at) {e : ℕ} {t : Text} {n : Cursor} (b : r ≡ read.Field e t n)
+module _ {x : MapContext} {s : Bytes} {ds ms₀ ms : List ℕ} {at : ℕ} (g : Seeking x s ds ms₀ ms at) {r : Option (ℕ × Text × Cursor)} (a : r ≡ field_at x.brackets s at) {e : ℕ} {t : Text} {n : Cursor} (b : r ≡ Some (e, t, n))
     {p : Bytes} (c : p ≡ take (e - at) (drop at s)) {q : Bool} (k : NameSought x s ds ms at p q) (new : q ≡ false) where
   absent : (fs : List Field) → FieldsFrom x.brackets s x.start fs at → NamesMarked (is_doubted ds) again ms fs → is_doubted ds p ≡ true → is_in p (keys_of fs) ≡ false
   absent fs w m o = sym (k.among fs w m o) ∙ new
@@ -258,7 +255,7 @@ module _ {x : MapContext} {s : Bytes} {ds ms₀ ms : List ℕ} {at : ℕ} (g : S
   pub seeking_last : DistinctOf (is_doubted ds) x s n.at
   seeking_last = naming_last g.naming a b c (λ y o. o) absent
 
-  module _ {y : Separator} (j : y ≡ separator_at s n.at) {d : Cursor} (o : y ≡ separator.Comma d) where
+  module _ {y : Option Cursor} (j : y ≡ separator_at s n.at) {d : Cursor} (o : y ≡ Some d) where
     pub seeking_next : {ns : List ℕ} → ns ≡ mark_if (is_doubted ds p) ms (again p) → Seeking x s ds ms₀ ns d.at
     seeking_next m = record {
       long = ap length m ∙ mark_length (is_doubted ds p) ms (again p) ∙ g.long;
@@ -297,7 +294,7 @@ sure_less n k ds ds' up y o = elim (test (is_met ds (name_hash y))) [
   | fail e ↦ rw (and_l (is_of n k y) (not (is_met ds' (name_hash y))) o, e)
 ]
 
-module _ {n k : ℕ} {x : MapContext} {s : Bytes} {ds₀ ds ms₀ ms : List ℕ} {at : ℕ} (g : Doubting n k x s ds₀ ds ms₀ ms at) {r : FieldRead} (a : r ≡ field_at x.brackets s at) {e : ℕ} {t : Text} {m : Cursor} (b : r ≡ read.Field e t m)
+module _ {n k : ℕ} {x : MapContext} {s : Bytes} {ds₀ ds ms₀ ms : List ℕ} {at : ℕ} (g : Doubting n k x s ds₀ ds ms₀ ms at) {r : Option (ℕ × Text × Cursor)} (a : r ≡ field_at x.brackets s at) {e : ℕ} {t : Text} {m : Cursor} (b : r ≡ Some (e, t, m))
     {p : Bytes} (c : p ≡ take (e - at) (drop at s)) {ns : List ℕ} (en : ns ≡ mark_if (is_of n k p) ms (name_hash p))
     {es : List ℕ} (ee : es ≡ mark_if (is_of n k p && is_met ms (name_hash p)) ds (name_hash p)) where
   stays : (hash : ℕ) → is_met ds hash ≡ true → is_met es hash ≡ true
@@ -325,7 +322,7 @@ module _ {n k : ℕ} {x : MapContext} {s : Bytes} {ds₀ ds ms₀ ms : List ℕ}
   doubting_lengths : (length ns ≡ length ms₀) × (length es ≡ length ds₀)
   doubting_lengths = (ap length en ∙ mark_length (is_of n k p) ms (name_hash p) ∙ g.marks_long, ap length ee ∙ mark_length (is_of n k p && is_met ms (name_hash p)) ds (name_hash p) ∙ g.doubts_long)
 
-  module _ {y : Separator} (j : y ≡ separator_at s m.at) {d : Cursor} (o : y ≡ separator.Comma d) where
+  module _ {y : Option Cursor} (j : y ≡ separator_at s m.at) {d : Cursor} (o : y ≡ Some d) where
     pub doubting_next : Doubting n k x s ds₀ es ms₀ ns d.at
     doubting_next = record {
       marks_long = doubting_lengths.0;
@@ -338,6 +335,15 @@ module _ {n k : ℕ} {x : MapContext} {s : Bytes} {ds₀ ds ms₀ ms : List ℕ}
     doubting_less = naming_less g.naming a b c (sure_less n k ds es stays) lost j o
 
 pub ruleset doubtings = (doubting_start, doubting_marks, doubting_long, doubting_ends, doubting_last, doubting_next, doubting_less)
+
+-- where no byte ends a name
+pub name_ended : {t : ℕ → Bool} {s : Bytes} {start i : ℕ} → Scanning t s start i → length s ≤ i → (start ≤ length s → i ≤ length s) → {m : ℕ} → m ≡ max start (length s) → m ≡ stop_of t s start
+name_ended {t} {s} {start} g h u w = elim (test (leb start (length s))) [
+  | pass e ↦ let l = leb-true start (length s) e in w ∙ max-eq_right l ∙ omega (arith, h, u l) ∙ ended g h
+  | fail e ↦ let l = leb-false start (length s) e in w ∙ max-eq_left (omega (arith, l)) ∙ ended (started t s start) (omega (arith, l))
+]
+
+pub ruleset name_ends = (started, hit, miss, name_ended)
 
 -- what answers the needs of `doubt_classes`
 pub record Classing (n k : ℕ) (x : MapContext) (s : Bytes) (ds₀ ds : List ℕ) (r : ℕ) : Type 0 where
@@ -355,8 +361,8 @@ module _ {n k : ℕ} {x : MapContext} {s : Bytes} {ds₀ ds : List ℕ} {r : ℕ
   pub class_long : length ds ≡ length ds₀
   class_long = g.long
 
-  pub class_next : {es : List ℕ} {e : ℕ} → Doubts n k x s ds es e → length es ≡ length ds → {m : ℕ} → m ≤ r → m ≤ e → Classing n (k + 1) x s ds₀ es m
-  class_next {es} {e} d el {m} lr le = record {
+  pub class_next : {es : List ℕ} {e : ℕ} → Doubts n k x s ds es e → length es ≡ length ds → {m : ℕ} → m ≡ min r e → Classing n (k + 1) x s ds₀ es m
+  class_next {es} {e} d el {m} w = let lr : m ≤ r = rw w (min-le_left r e) in let le : m ≤ e = rw w (min-le_right r e) in record {
     some_classes = g.some_classes;
     long = el ∙ g.long;
     fresh = λ j l. elim (test (ltb j k)) [
@@ -388,8 +394,11 @@ clear_and_doubted x s ds c d la lb = record {
   ];
 }
 
+pub clear_and_sought : (x : MapContext) (s : Bytes) (ds : List ℕ) {a b r : ℕ} → DistinctOf (is_clear ds) x s a → DistinctOf (is_doubted ds) x s b → r ≡ min a b → Distinct x s r
+clear_and_sought x s ds {a} {b} c d w = clear_and_doubted x s ds c d (rw w (min-le_left a b)) (rw w (min-le_right a b))
+
 pub all_doubted : (x : MapContext) (s : Bytes) (ds : List ℕ) {r : ℕ} → length ds ≡ 0 → DistinctOf (is_doubted ds) x s r → Distinct x s r
 unfolding is_doubted
 all_doubted x s ds e d = record { apart = λ before at w f rest rd l. d.apart before at w f rest rd l (sym (none_met ds (name_hash f.key) e)) }
 
-pub ruleset founds = (clear_and_doubted, all_doubted)
+pub ruleset founds = (clear_and_sought, all_doubted)

@@ -4,7 +4,7 @@ use native.Mathlib.Omega.{arith}
 use mathlib.Core.Path.{◌≡◌, refl, sym, ap, subst, ◌∙◌}
 use mathlib.Core.Bool.{Bool, true, false}
 use mathlib.Core.List.{List, [], ◌∷◌, ◌++◌}
-use mathlib.Core.Option.{Option, none, some}
+use Rattle.std.specs.Prelude.{Option, None, Some}
 use lib.Dec.{ltb}
 use lib.ListN.{length, drop, take, length-append}
 use borrow.Author.Tests.{lt-ltb, le-ltb}
@@ -15,10 +15,6 @@ use Rattle.values.specs.Field.{Field, written_field}
 use Rattle.values.specs.Places.{text_at, field_at, separator_at}
 use Rattle.values.specs.declared.cursor.Cursor.{Cursor}
 use Rattle.values.specs.declared.string.Text.{Text}
-use Rattle.values.specs.declared.field.FieldRead.{FieldRead}
-use Rattle.values.specs.declared.field.FieldRead.TheVariants as read
-use Rattle.values.specs.declared.field.Separator.{Separator}
-use Rattle.values.specs.declared.field.Separator.TheVariants as separator
 use Rattle.values.proofs.Tests.{pass, fail, test}
 use Rattle.values.proofs.Lists.{on_some}
 use Rattle.values.proofs.Places.{text_by, FieldHere}
@@ -29,12 +25,10 @@ use Rattle.rules.proofs.Scans.{Left, left_all, left_unread, left_told, left_firs
 use Rattle.rules.proofs.Shows.{value_means}
 use Rattle.records.specs.Fields.{text_keyed, FoundIs, FindsField}
 use Rattle.records.specs.Maps.{FieldsFrom, keys_of, HasKey}
-use Rattle.records.specs.declared.field.FieldFound.{FieldFound}
-use Rattle.records.specs.declared.field.FieldFound.TheVariants.{Found, Missing}
 use Rattle.records.proofs.Walks.{walk_scan}
 
 module _ (key : Bytes) (at : ℕ) (f : Field) (fs : List Field) where
-  keyed_here : same f.key key ≡ true → (field_keyed key (f ∷ fs) ≡ some f) × (text_keyed key at (f ∷ fs) ≡ Found (text_at (at + length f.key + 1) f.value))
+  keyed_here : same f.key key ≡ true → (field_keyed key (f ∷ fs) ≡ Some f) × (text_keyed key at (f ∷ fs) ≡ Some (text_at (at + length f.key + 1) f.value))
   unfolding field_keyed text_keyed
   keyed_here e = (rw (field_keyed, e), rw (text_keyed, e))
 
@@ -52,49 +46,49 @@ pub record Seeking (m : Bool) (s : Bytes) (start : ℕ) (key : Bytes) (i : ℕ) 
 pub seek_all : (m : Bool) (s : Bytes) (start : ℕ) (key : Bytes) → Seeking m s start key start
 seek_all m s start key = record { fs = fields_at m s start; left = left_all m s start; still = refl; there = refl }
 
-missed : {m : Bool} {s : Bytes} {start : ℕ} {key : Bytes} {i : ℕ} (g : Seeking m s start key i) → g.fs ≡ [] → FindsField m s start key Missing
+missed : {m : Bool} {s : Bytes} {start : ℕ} {key : Bytes} {i : ℕ} (g : Seeking m s start key i) → g.fs ≡ [] → FindsField m s start key None
 unfolding field_keyed text_keyed
 missed {i = i} g e = let k = g.still in let t = g.there in record { place = sym (rw e at t); value = rw (rw e at k) tt }
 
 -- a field that the code was told of has its value there
-field_found : {m : Bool} {s : Bytes} {i e : ℕ} {t : Text} {n : Cursor} (h : FieldHere m s i e t n) → FoundIs s (some h.field) (Found t)
+field_found : {m : Bool} {s : Bytes} {i e : ℕ} {t : Text} {n : Cursor} (h : FieldHere m s i e t n) → FoundIs s (Some h.field) (Some t)
 field_found {m} {s} {i} {e} {t} h = (
   value_means s t h.field.value h.value,
   on_some (λ (p : Field × Bytes). Raw true (2 ^ 64 - 1) p.0.value) (field_raw true (2 ^ 64 - 1) m (drop i s)) h.read
       ∙ ap u64_read (ap text_of (sym h.value) ∙ text_by t.quoted (part s t.start t.end)),
 )
 
-module _ {m : Bool} {s : Bytes} {start : ℕ} {key : Bytes} {i : ℕ} (g : Seeking m s start key i) {r : FieldRead} (a : r ≡ field_at m s i) where
-  pub seek_unread : r ≡ read.Refused → FindsField m s start key Missing
+module _ {m : Bool} {s : Bytes} {start : ℕ} {key : Bytes} {i : ℕ} (g : Seeking m s start key i) {r : Option (ℕ × Text × Cursor)} (a : r ≡ field_at m s i) where
+  pub seek_unread : r ≡ None → FindsField m s start key None
   seek_unread e = missed g (left_unread g.left a e)
 
-  module _ {e : ℕ} {t : Text} {n : Cursor} (b : r ≡ read.Field e t n) {p : Bytes} (c : p ≡ take (e - i) (drop i s)) {q : Bool} (d : q ≡ same p key) where
+  module _ {e : ℕ} {t : Text} {n : Cursor} (b : r ≡ Some (e, t, n)) {p : Bytes} (c : p ≡ take (e - i) (drop i s)) {q : Bool} (d : q ≡ same p key) where
     abbrev here : FieldHere m s i e t n
     here = left_told g.left a b
 
     tested : {x : Bool} → q ≡ x → same here.field.key key ≡ x
     tested f = ap (λ (x : Bytes). same x key) (sym here.key ∙ sym c) ∙ sym d ∙ f
 
-    pub seek_found : q ≡ true → FindsField m s start key (Found t)
+    pub seek_found : q ≡ true → FindsField m s start key (Some t)
     seek_found f =
         let l = left_first g.left a b in
         let k = keyed_here key i here.field l.0 (tested f) in
-        let w : field_keyed key (fields_at m s start) ≡ some here.field = g.still ∙ ap (field_keyed key) l.1 ∙ k.0 in
+        let w : field_keyed key (fields_at m s start) ≡ Some here.field = g.still ∙ ap (field_keyed key) l.1 ∙ k.0 in
         record {
-          place = sym (g.there ∙ ap (text_keyed key i) l.1 ∙ k.1 ∙ ap Found (sym here.text));
-          value = subst (λ (x : Option Field). FoundIs s x (Found t)) (sym w) (field_found here);
+          place = sym (g.there ∙ ap (text_keyed key i) l.1 ∙ k.1 ∙ ap Some (sym here.text));
+          value = subst (λ (x : Option Field). FoundIs s x (Some t)) (sym w) (field_found here);
         }
 
-    module _ (f : q ≡ false) {x : Separator} (j : x ≡ separator_at s n.at) where
-      pub seek_last : x ≡ separator.Other → FindsField m s start key Missing
+    module _ (f : q ≡ false) {x : Option Cursor} (j : x ≡ separator_at s n.at) where
+      pub seek_last : x ≡ None → FindsField m s start key None
       unfolding field_keyed text_keyed
       seek_last o =
           let l = left_last g.left a b j o in
           let k = keyed_later key i here.field [] (tested f) in
-          let w : field_keyed key (fields_at m s start) ≡ none = g.still ∙ ap (field_keyed key) l ∙ k.0 in
+          let w : field_keyed key (fields_at m s start) ≡ None = g.still ∙ ap (field_keyed key) l ∙ k.0 in
           record { place = sym (g.there ∙ ap (text_keyed key i) l ∙ k.1); value = rw w tt }
 
-      module _ {y : Cursor} (o : x ≡ separator.Comma y) where
+      module _ {y : Cursor} (o : x ≡ Some y) where
         pub seek_next : Seeking m s start key y.at
         seek_next =
             let l = left_next g.left a b j o in
@@ -114,9 +108,9 @@ pub ruleset seeks = (seek_all, seek_unread, seek_found, seek_last, seek_next, se
 -- Whether a field stands before a place
 
 -- a text that was found, and whether it begins before a place
-abbrev found_before : ℕ → FieldFound → Bool
-found_before upto Missing = false
-found_before upto (Found t) = ltb t.start upto
+abbrev found_before : ℕ → Option Text → Bool
+found_before upto None = false
+found_before upto (Some t) = ltb t.start upto
 
 text_start : (at : ℕ) (x : Value) → (at ≤ (text_at at x).start) × ((text_at at x).start ≤ at + length (written x))
 unfolding written
@@ -149,8 +143,8 @@ found_before_lem m s key at (f ∷ fs) rest upto w = elim (test (same f.key key)
   | fail e ↦ rw (text_keyed, e) (found_before_lem m s key (at + length (written_field f) + 1) fs rest upto w.1)
 ]
 
-module _ {m : Bool} {s : Bytes} {start : ℕ} {key : Bytes} {r : FieldFound} (a : FindsField m s start key r) (upto : ℕ) where
-  found_key : {x : FieldFound} → r ≡ x → HasKey m s start upto key (found_before upto x)
+module _ {m : Bool} {s : Bytes} {start : ℕ} {key : Bytes} {r : Option Text} (a : FindsField m s start key r) (upto : ℕ) where
+  found_key : {x : Option Text} → r ≡ x → HasKey m s start upto key (found_before upto x)
   found_key {x} e = record {
     among = λ fs w.
         let l = walk_scan m s start fs upto (length (drop start s)) w (omega arith) in
@@ -158,10 +152,10 @@ module _ {m : Bool} {s : Bytes} {start : ℕ} {key : Bytes} {r : FieldFound} (a 
         ∙ found_before_lem m s key start fs (scan l.0 m (drop upto s)).0 upto w;
   }
 
-  pub key_missing : r ≡ Missing → HasKey m s start upto key false
+  pub key_missing : r ≡ None → HasKey m s start upto key false
   key_missing e = found_key e
 
-  pub key_placed_lem : {t : Text} → r ≡ Found t → HasKey m s start upto key (ltb t.start upto)
+  pub key_placed_lem : {t : Text} → r ≡ Some t → HasKey m s start upto key (ltb t.start upto)
   key_placed_lem e = found_key e
 
 pub ruleset key_places = (key_missing, key_placed_lem)

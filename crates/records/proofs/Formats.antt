@@ -1,4 +1,5 @@
 -- Versions: compared and read. Assumes nothing.
+use Rattle.std.specs.Prelude.{Option, Some, None}
 use Prim.Native.Nat.{ℕ, ◌+◌, ◌-◌, ◌^◌, ◌≤◌, ◌<◌}
 use native.Mathlib.Omega.{arith}
 use mathlib.Core.Path.{◌≡◌, sym, ap, ap₂, ◌∙◌}
@@ -9,8 +10,6 @@ use lib.ListN.{length, drop, take, drop_of_length-le}
 use borrow.Author.Tests.{lt-ltb, le-ltb, eq-eqb, ne_eqb}
 use Rattle.values.specs.Bytes.{Bytes, ascii, is, begins, before, from, starts}
 use Rattle.values.specs.Integer.{u32_read}
-use Rattle.values.specs.declared.integer.IntegerRead.{IntegerRead}
-use Rattle.values.specs.declared.integer.IntegerRead.TheVariants as integer
 use Rattle.values.proofs.Tests.{not_true, not_false}
 use Rattle.values.proofs.Lists.{here, rest, from_at, from_begins}
 use Rattle.values.proofs.Fields.{before_part}
@@ -19,7 +18,6 @@ use Rattle.rules.specs.Version.{version, earlier, version_from, read_parts, read
 use Rattle.records.specs.Formats.{format_of, format_read}
 use Rattle.records.specs.Formats.{version_of as version_in}
 use Rattle.records.specs.declared.file_format.FileFormat.{FileFormat}
-use Rattle.records.specs.declared.file_format.FileFormatRead.TheVariants as read
 
 pub earlier_major : (a b : FileFormat) → a.major < b.major → true ≡ earlier (version_in a) (version_in b)
 unfolding earlier
@@ -37,7 +35,7 @@ pub ruleset compares = (earlier_major, later_major, same_major)
 
 -- Reading
 
-pub no_prefix : (s : Bytes) {q : Bool} → q ≡ starts (ascii "VCFv") s → not q ≡ true → read.Refused ≡ format_read (read_version s)
+pub no_prefix : (s : Bytes) {q : Bool} → q ≡ starts (ascii "VCFv") s → not q ≡ true → None ≡ format_read (read_version s)
 unfolding read_version
 no_prefix s {q} a e = rw (read_version, sym a ∙ not_true q e)
 
@@ -49,7 +47,7 @@ module _ (s : Bytes) {q : Bool} (a : q ≡ starts (ascii "VCFv") s) (e : not q �
   point : from (is 46) (drop 4 s) ≡ drop p s
   point = from_at (is 46) s 4 ∙ ap (λ (i : ℕ). drop i s) (sym f)
 
-  pub no_point : length s ≤ p → read.Refused ≡ format_read (read_version s)
+  pub no_point : length s ≤ p → None ≡ format_read (read_version s)
   unfolding read_parts begins
   no_point h = rw (parts, read_parts, point, drop_of_length-le s h)
 
@@ -62,22 +60,22 @@ module _ (s : Bytes) {q : Bool} (a : q ≡ starts (ascii "VCFv") s) (e : not q �
         let k : x ≡ take (p - 4) (drop 4 s) = sym (before_part (is 46) s 4 f) in
         rw (read_parts, from_begins 46 (drop 4 s) d) (ap₂ (λ (a b : Bytes). version_from (u32_read a) (u32_read b)) k (ap tail d ∙ sym (rest s (p + 1))))
 
-    pub bad_major : {m : IntegerRead} → m ≡ u32_read (take (p - 4) (drop 4 s)) → m ≡ integer.Refused → read.Refused ≡ format_read (read_version s)
+    pub bad_major : {m : Option (ℕ × Bool)} → m ≡ u32_read (take (p - 4) (drop 4 s)) → m ≡ None → None ≡ format_read (read_version s)
     bad_major i r = rw (parts, both_parts, sym i ∙ r)
 
-    module _ {m : IntegerRead} (i : m ≡ u32_read (take (p - 4) (drop 4 s))) {major : ℕ} {plain : Bool} (r : m ≡ integer.Value major plain) where
+    module _ {m : Option (ℕ × Bool)} (i : m ≡ u32_read (take (p - 4) (drop 4 s))) {major : ℕ} {plain : Bool} (r : m ≡ Some (major, plain)) where
       pub major_small : major < 2 ^ 32
       major_small = let b = read_bound false (2 ^ 32 - 1) (take (p - 4) (drop 4 s)) (sym i ∙ r) in omega arith
 
-      module _ {n : IntegerRead} (j : n ≡ u32_read (take (length s - (p + 1)) (drop (p + 1) s))) where
-        pub bad_minor : n ≡ integer.Refused → read.Refused ≡ format_read (read_version s)
+      module _ {n : Option (ℕ × Bool)} (j : n ≡ u32_read (take (length s - (p + 1)) (drop (p + 1) s))) where
+        pub bad_minor : n ≡ None → None ≡ format_read (read_version s)
         bad_minor w = rw (parts, both_parts, sym i ∙ r, sym j ∙ w)
 
-        module _ {minor : ℕ} {plain' : Bool} (w : n ≡ integer.Value minor plain') where
+        module _ {minor : ℕ} {plain' : Bool} (w : n ≡ Some (minor, plain')) where
           pub minor_small : minor < 2 ^ 32
           minor_small = let b = read_bound false (2 ^ 32 - 1) (take (length s - (p + 1)) (drop (p + 1) s)) (sym j ∙ w) in omega arith
 
-          pub good_version : {x : FileFormat} → x ≡ format_of (version major minor) → read.Version x ≡ format_read (read_version s)
+          pub good_version : {x : FileFormat} → x ≡ format_of (version major minor) → Some x ≡ format_read (read_version s)
           good_version g = rw (parts, both_parts, sym i ∙ r, sym j ∙ w, g)
 
 pub ruleset reads = (no_prefix, no_point, bad_major, major_small, bad_minor, minor_small, good_version)

@@ -3,7 +3,7 @@ use Prim.Native.Nat.{ℕ, ◌+◌}
 use mathlib.Core.Path.{◌≡◌, refl, sym, ap, ap₂, ◌∙◌}
 use mathlib.Core.Bool.{Bool, true, false, not, ◌||◌, ◌&&◌}
 use mathlib.Core.List.{List, [], ◌∷◌, map, tail}
-use mathlib.Core.Option.{Option, some}
+use Rattle.std.specs.Prelude.{Option, Some}
 use lib.Dec.{eqb}
 use lib.ListN.{length}
 use Rattle.values.specs.Bytes.{Bytes, ascii, begins, same}
@@ -75,18 +75,18 @@ module _ (key : MapKey) {q : Bool} (a : q ≡ is_meta_key key) where
   unfolding always_map
   pedigree_always e b = rw (is_meta_lem e) (b ∙ pedigree_case key)
 
-  pub no_brackets : (v : Version) → not q ≡ true → false ≡ is_meta v (case_bytes key)
-  no_brackets v e = rw (is_meta_lem (not_true q e))
+  pub no_brackets : (v : Version) → q ≡ false → false ≡ is_meta v (case_bytes key)
+  no_brackets v e = rw (is_meta_lem e)
 
-  pub meta_brackets : (v : Version) → not q ≡ false → {e : Bool} → e ≡ earlier v v4_3 → not e ≡ is_meta v (case_bytes key)
-  meta_brackets v e b = rw (is_meta_lem (not_false q e), b)
+  pub meta_brackets : (v : Version) → q ≡ true → {e : Bool} → e ≡ earlier v v4_3 → not e ≡ is_meta v (case_bytes key)
+  meta_brackets v e b = rw (is_meta_lem e, b)
 
 module _ (key : MapKey) (v : Version) {q : Bool} (a : q ≡ is_pedigree_key key) where
-  pub not_pedigree : not q ≡ true → false ≡ (same (case_bytes key) (ascii "PEDIGREE") && earlier v v4_3)
-  not_pedigree e = rw (← pedigree_case key, ← a, not_true q e)
+  pub not_pedigree : q ≡ false → false ≡ (same (case_bytes key) (ascii "PEDIGREE") && earlier v v4_3)
+  not_pedigree e = rw (← pedigree_case key, ← a, e)
 
-  pub pedigree_lineage : not q ≡ false → {e : Bool} → e ≡ earlier v v4_3 → e ≡ (same (case_bytes key) (ascii "PEDIGREE") && earlier v v4_3)
-  pedigree_lineage e b = rw (← pedigree_case key, ← a, not_false q e) b
+  pub pedigree_lineage : q ≡ true → {e : Bool} → e ≡ earlier v v4_3 → e ≡ (same (case_bytes key) (ascii "PEDIGREE") && earlier v v4_3)
+  pedigree_lineage e b = rw (← pedigree_case key, ← a, e) b
 
 pub context_of_lem : (key : MapKey) (version : FileFormat) (start : ℕ) {b : Bool} → b ≡ is_meta (version_of version) (case_bytes key)
     → ◌≡◌ {A = MapContext} (record { key = key; version = version; brackets = b; start = start }) (context_of key version start)
@@ -241,13 +241,13 @@ module _ (v : Version) (k : Bytes) (key : MapKey) (n : Named k key) where
   unfolding field_named
   field_by_case name [] = refl
   field_by_case name (f ∷ fs) =
-      ap₂ (λ (b : Bool) (o : Option Field). elim b [ true ↦ some f | false ↦ o ]) (ap (λ (x : Bytes). same x name) (name_by_case f.key)) (field_by_case name fs)
+      ap₂ (λ (b : Bool) (o : Option Field). elim b [ true ↦ Some f | false ↦ o ]) (ap (λ (x : Bytes). same x name) (name_by_case f.key)) (field_by_case name fs)
 
   pub text_by_case : (name : Bytes) (at : ℕ) (fs : List Field) → text_named v k name at fs ≡ text_named v (case_bytes key) name at fs
   unfolding text_named
   text_by_case name at [] = refl
   text_by_case name at (f ∷ fs) =
-      ap₂ (λ (b : Bool) (o : Option (Bytes × Text)). elim b [ true ↦ some (f.key, text_at (at + length f.key + 1) f.value) | false ↦ o ])
+      ap₂ (λ (b : Bool) (o : Option (Bytes × Text)). elim b [ true ↦ Some (f.key, text_at (at + length f.key + 1) f.value) | false ↦ o ])
       (ap (λ (x : Bytes). same x name) (name_by_case f.key)) (text_by_case name (at + length (written_field f) + 1) fs)
 
   pub odd_by_case : (fs : List Field) → has_odd v k fs ≡ has_odd v (case_bytes key) fs

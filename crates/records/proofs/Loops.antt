@@ -1,4 +1,5 @@
 -- The fields of a map, one after the other. Assumes nothing.
+use Rattle.std.specs.Prelude.{Option, None, Result, Ok, Err}
 use Prim.Native.Nat.{ℕ, ◌+◌, ◌*◌, ◌-◌, ◌^◌, ◌≤◌, ◌<◌}
 use native.Mathlib.Omega.{arith}
 use mathlib.Core.Path.{◌≡◌, refl, sym, ap, ap₂, subst, ◌∙◌}
@@ -30,17 +31,15 @@ use Rattle.records.specs.declared.refusal.Refusal.{Refusal}
 use Rattle.records.specs.declared.refusal.Refusal.TheVariants.{InvalidMap}
 use Rattle.records.specs.declared.tag.Tag.{Tag}
 use Rattle.records.specs.declared.tag.Tag.TheVariants.{Id, Number, ValueType, Description, Length, Md5, Url, Idx, Other}
-use Rattle.records.specs.declared.map.Slot.{Slot}
-use Rattle.records.specs.declared.map.Slot.TheVariants as slot
 use Rattle.records.specs.declared.map.Slots.{Slots}
 use Rattle.records.specs.declared.map.FieldStep.{FieldStep}
 use Rattle.records.specs.declared.map.FieldStep.TheVariants as step
-use Rattle.records.specs.declared.map.FieldsRead.{FieldsRead}
-use Rattle.records.specs.declared.map.FieldsRead.TheVariants as fields
 use Rattle.records.proofs.Walks.{walk_scan, few_fields}
 use Rattle.records.proofs.Distincts.{none_distinct}
+use Rattle.values.specs.declared.string.Text.{Text}
+use Rattle.records.specs.declared.map.Tally.{Tally}
 
-no_slot : (t : Tag) → get t no_slots ≡ slot.Empty
+no_slot : (t : Tag) → get t no_slots ≡ None
 no_slot Id = refl
 no_slot Number = refl
 no_slot ValueType = refl
@@ -66,18 +65,18 @@ pub walk_start : (x : MapContext) (s : Bytes) → Walking x s x.start no_slots 1
 unfolding check_fields
 walk_start x s = record { known = none_distinct x s; before = []; walk = record { fields = refl; fine = refl; held = none_held (version_in x) (key_bytes x) x.start }; count = refl }
 
-module _ {x : MapContext} {s : Bytes} {at : ℕ} {id number kind description : Slot} {plain odd : Bool} {n d : ℕ} (g : Walking x s at (slots_of id number kind description plain odd) n d)
-    {slots : Slots} (w : slots ≡ slots_of id number kind description plain odd) {r : FieldStep} (a : ReadsField x s at slots r) where
-  stepped : {y : FieldStep} → r ≡ y → StepIs x s g.before at slots y
+module _ {x : MapContext} {s : Bytes} {at : ℕ} {id number kind description : Option (Text × ℕ)} {plain odd : Bool} {n d : ℕ} (g : Walking x s at (slots_of id number kind description plain odd) n d)
+    {slots : Slots} (w : slots ≡ slots_of id number kind description plain odd) {r : Result FieldStep Refusal} (a : ReadsField x s at slots r) where
+  stepped : {y : Result FieldStep Refusal} → r ≡ y → StepIs x s g.before at slots y
   stepped e = subst (StepIs x s g.before at slots) e (a.is g.before (rw w g.walk))
 
   scanned : (j : ℕ) × (length (drop at s) ≤ j) × (scan (length (drop x.start s)) x.brackets (drop x.start s) ≡ scanned_from x.brackets s g.before at j)
   scanned = walk_scan x.brackets s x.start g.before at (length (drop x.start s)) g.walk.fields (omega arith)
 
-  pub walk_refused : {y : Refusal} → r ≡ step.Refused y → WalksFields x s (fields.Refused y)
+  pub walk_refused : {y : Refusal} → r ≡ Err y → WalksFields x s (Err y)
   walk_refused e = record { is = let z = scanned in rw z.2 (stepped e z.0 z.1) }
 
-  pub walk_last : {kept : Slots} → r ≡ step.Last kept → {y : FieldsRead} → y ≡ fields_of kept n → WalksFields x s y
+  pub walk_last : {kept : Slots} → r ≡ Ok (step.Last kept) → {y : Result (Slots × Tally) Refusal} → y ≡ fields_of kept n → WalksFields x s y
   unfolding first
   walk_last e i = rw i (record {
     is =
@@ -89,7 +88,7 @@ module _ {x : MapContext} {s : Bytes} {at : ℕ} {id number kind description : S
   })
 
   -- one field more, of tag t
-  module _ {c : Cursor} {t : Tag} {b e : ℕ} {q : Bool} {m : ℕ} {o : Bool} (u : r ≡ step.Next c t b e q m o) where
+  module _ {c : Cursor} {t : Tag} {b e : ℕ} {q : Bool} {m : ℕ} {o : Bool} (u : r ≡ Ok (step.Next c t b e q m o)) where
     pub walk_counts : length s * 1 < 2 ^ 63 → Fits w64 (n + 1)
     walk_counts few =
         let y = subst (StepMoves s at) u a.moves in
@@ -105,7 +104,7 @@ module _ {x : MapContext} {s : Bytes} {at : ℕ} {id number kind description : S
           let y = stepped u in
           record { known = k; before = g.before ++ y.0 ∷ []; walk = rw (← f, ← w) y.1; count = ap (◌+ 1) (g.count ∙ sym (length-append g.before (y.0 ∷ []))) }
 
-      module _ {z : Slot} (v : z ≡ filled_as b e q m) where
+      module _ {z : Option (Text × ℕ)} (v : z ≡ filled_as b e q m) where
         pub walk_id : t ≡ Id → Walking x s c.at (slots_of z number kind description plain o) (n + 1) i
         walk_id f = rw v (walk_on Id f)
 
@@ -118,20 +117,19 @@ module _ {x : MapContext} {s : Bytes} {at : ℕ} {id number kind description : S
         pub walk_description : t ≡ Description → Walking x s c.at (slots_of id number kind z plain o) (n + 1) i
         walk_description f = rw v (walk_on Description f)
 
-      pub walk_length : t ≡ Length → Walking x s c.at (slots_of id number kind description false o) (n + 1) i
-      walk_length f = walk_on Length f
-
-      pub walk_md5 : t ≡ Md5 → Walking x s c.at (slots_of id number kind description false o) (n + 1) i
-      walk_md5 f = walk_on Md5 f
-
-      pub walk_url : t ≡ Url → Walking x s c.at (slots_of id number kind description false o) (n + 1) i
-      walk_url f = walk_on Url f
-
-      pub walk_idx : t ≡ Idx → Walking x s c.at (slots_of id number kind description false o) (n + 1) i
-      walk_idx f = walk_on Idx f
-
-      pub walk_other : t ≡ Other → Walking x s c.at (slots_of id number kind description false o) (n + 1) i
-      walk_other f = walk_on Other f
+      pub walk_unkept : (t ≡ Id → ⊥) → (t ≡ Number → ⊥) → (t ≡ ValueType → ⊥) → (t ≡ Description → ⊥) → Walking x s c.at (slots_of id number kind description false o) (n + 1) i
+      walk_unkept no_id no_number no_type no_description = go t refl
+        where
+          go : (u : Tag) → t ≡ u → Walking x s c.at (slots_of id number kind description false o) (n + 1) i
+          go Id f = absurd (no_id f)
+          go Number f = absurd (no_number f)
+          go ValueType f = absurd (no_type f)
+          go Description f = absurd (no_description f)
+          go Length f = walk_on Length f
+          go Md5 f = walk_on Md5 f
+          go Url f = walk_on Url f
+          go Idx f = walk_on Idx f
+          go Other f = walk_on Other f
 
 pub walk_known : {x : MapContext} {s : Bytes} {at : ℕ} {slots : Slots} {n d : ℕ} → Walking x s at slots n d → Distinct x s d
 walk_known g = g.known
@@ -166,7 +164,7 @@ closed_after (b ∷ x) e = rw (eqb-true b 62 e) (go (empty x))
     go false = refl
 
 module _ (version : FileFormat) (key : MapKey) (s : Bytes) (c : Cursor) {q : Bool} (a : q ≡ bare_at s c.at (always_map (case_bytes key))) where
-  pub fields_read : not q ≡ true → {x : MapContext} → x ≡ context_of key version c.at → {r : FieldsRead} → WalksFields x s r → ReadsFields (version_of version) key s c.at r
+  pub fields_read : not q ≡ true → {x : MapContext} → x ≡ context_of key version c.at → {r : Result (Slots × Tally) Refusal} → WalksFields x s r → ReadsFields (version_of version) key s c.at r
   unfolding read_fields
   fields_read e f {r} h = record {
     is =
@@ -182,11 +180,11 @@ module _ (version : FileFormat) (key : MapKey) (s : Bytes) (c : Cursor) {q : Boo
         let b = sym a ∙ not_false q e in
         rw (read_fields, b) (ap no_field (closed_after (drop c.at s) (and_r (not (always_map (case_bytes key))) _ b)))
 
-    pub fields_none : {x : Bool} → x ≡ closes_at s c.at → x ≡ true → {slots : Slots} → slots ≡ no_slots → ReadsFields (version_of version) key s c.at (fields.Fields slots (tallied false 0))
+    pub fields_none : {x : Bool} → x ≡ closes_at s c.at → x ≡ true → {slots : Slots} → slots ≡ no_slots → ReadsFields (version_of version) key s c.at (Ok (slots, tallied false 0))
     unfolding first check_fields has_odd
     fields_none f g h = record { is = rw (bare, sym f ∙ g) (refl, rw h (none_held (version_of version) (case_bytes key) c.at), refl) }
 
-    pub fields_unclosed : {x : Bool} → x ≡ closes_at s c.at → x ≡ false → ReadsFields (version_of version) key s c.at (fields.Refused InvalidMap)
+    pub fields_unclosed : {x : Bool} → x ≡ closes_at s c.at → x ≡ false → ReadsFields (version_of version) key s c.at (Err InvalidMap)
     unfolding first check_fields
     fields_unclosed f g = record { is = rw (bare, sym f ∙ g) }
 

@@ -1,4 +1,5 @@
 -- Maps: the code's tests of what stands around the fields. Assumes nothing.
+use Rattle.std.specs.Prelude.{Option, Some, None, Result, Ok, Err}
 use Prim.Native.Nat.{ℕ, ◌+◌, ◌-◌, ◌≤◌, ◌<◌}
 use native.Mathlib.Omega.{arith}
 use mathlib.Core.Path.{◌≡◌, refl, sym, ap, subst, ◌∙◌}
@@ -9,8 +10,6 @@ use lib.ListN.{length, drop, take, get_or, drop_of_length-le}
 use borrow.Author.Tests.{eq-eqb, ne_eqb}
 use Rattle.values.specs.Bytes.{Bytes, ascii, is, empty, begins, starts}
 use Rattle.values.specs.Places.{cursor_at, separator_at}
-use Rattle.values.specs.declared.field.Separator.{Separator}
-use Rattle.values.specs.declared.field.Separator.TheVariants as separator
 use Rattle.values.specs.declared.cursor.Cursor.{Cursor}
 use Rattle.values.proofs.Lists.{here, rest, Stands, there, past, stands}
 use Rattle.values.proofs.Fields.{placed_comma, placed_other}
@@ -20,8 +19,6 @@ use Rattle.rules.specs.Record.{looks_map}
 use Rattle.records.specs.Maps.{opens_at, closes_as_map, closes_at, after_placed, after_at, Checked, raw_refusal, put_slot}
 use Rattle.values.specs.Value.{meaning}
 use Rattle.values.specs.Integer.{u64_read}
-use Rattle.values.specs.declared.integer.IntegerRead.{IntegerRead}
-use Rattle.values.specs.declared.integer.IntegerRead.TheVariants as integer
 use Rattle.rules.specs.Spelling.{is_odd, odd_value}
 use Rattle.rules.specs.Answer.{unless}
 use Rattle.rules.specs.Known.{Kind, is_info, is_in, letters, types}
@@ -33,12 +30,9 @@ use Rattle.records.specs.declared.refusal.Refusal.{Refusal}
 use Rattle.records.specs.declared.refusal.Refusal.TheVariants.{InvalidNumber, InvalidType, InvalidInteger}
 use Rattle.records.specs.declared.tag.Tag.{Tag}
 use Rattle.records.specs.declared.tag.Tag.TheVariants.{Id, Number, ValueType, Description, Length, Md5, Url, Idx, Other}
-use Rattle.records.specs.declared.map.Slot.{Slot}
 use Rattle.records.specs.declared.map.Slots.{Slots}
-use Rattle.records.specs.declared.map.Check.{Check}
-use Rattle.records.specs.declared.map.Check.TheVariants as check
-use Rattle.records.specs.declared.map.Prefix.TheVariants as prefix
 use Rattle.records.specs.declared.map.After.TheVariants as afters
+use Rattle.values.specs.declared.string.Text.{Text}
 
 begins_starts : (x : Bytes) → starts (ascii "<") x ≡ begins 60 x
 unfolding starts begins
@@ -61,15 +55,15 @@ module _ (s : Bytes) (at : ℕ) (v : Version) {p : Bytes} (a : p ≡ take (lengt
 pub ruleset looks = (older_map, newer_map)
 
 module _ (s : Bytes) (at : ℕ) where
-  pub open_past : length s ≤ at → prefix.Missing ≡ opens_at s at
+  pub open_past : length s ≤ at → None ≡ opens_at s at
   unfolding begins
   open_past h = rw (drop_of_length-le s h)
 
-  pub open_here : at < length s → get_or s at 0 ≡ 60 → prefix.Consumed (cursor_at (at + 1)) ≡ opens_at s at
+  pub open_here : at < length s → get_or s at 0 ≡ 60 → Some (cursor_at (at + 1)) ≡ opens_at s at
   unfolding begins
   open_here h e = rw (here s at h, begins, eq-eqb (get_or s at 0) 60 e)
 
-  pub open_other : at < length s → (get_or s at 0 ≡ 60 → ⊥) → prefix.Missing ≡ opens_at s at
+  pub open_other : at < length s → (get_or s at 0 ≡ 60 → ⊥) → None ≡ opens_at s at
   unfolding begins
   open_other h n = rw (here s at h, begins, ne_eqb (get_or s at 0) 60 n)
 
@@ -104,14 +98,14 @@ no_comma at (b ∷ x) e = rw (after, e) (go (is 62 b && empty x))
     go true = refl
     go false = refl
 
-module _ (s : Bytes) (c : Cursor) {r : Separator} (a : r ≡ separator_at s c.at) where
-  pub after_comma : {d : Cursor} → r ≡ separator.Comma d → afters.More d ≡ after_at s c.at
+module _ (s : Bytes) (c : Cursor) {r : Option Cursor} (a : r ≡ separator_at s c.at) where
+  pub after_comma : {d : Cursor} → r ≡ Some d → afters.More d ≡ after_at s c.at
   unfolding separator_at
   after_comma e =
       let p = placed_comma c.at (begins 44 (drop c.at s)) (sym a ∙ e) in
       rw (← p.1) (comma_after c.at (drop c.at s) p.0)
 
-  module _ (e : r ≡ separator.Other) {q : Bool} (b : q ≡ closes_at s c.at) where
+  module _ (e : r ≡ None) {q : Bool} (b : q ≡ closes_at s c.at) where
     uncomma : after_at s c.at ≡ elim (closes_as_map (drop c.at s)) [ true ↦ afters.Closed | false ↦ afters.Other ]
     unfolding separator_at
     uncomma = no_comma c.at (drop c.at s) (placed_other c.at (begins 44 (drop c.at s)) (sym a ∙ e))
@@ -126,30 +120,30 @@ pub ruleset afters_field = (after_comma, after_closed, after_other)
 
 -- Checks and slots
 
-pub check_passed : (x : Refusal) (b : Bool) → b ≡ true → Checked (check.Passed false) (unless b (number x)) false
+pub check_passed : (x : Refusal) (b : Bool) → b ≡ true → Checked (Ok false) (unless b (number x)) false
 check_passed x b e = record { refusal = rw e; spelled = refl }
 
-pub check_refused : (x : Refusal) (b : Bool) → b ≡ false → Checked (check.Refused x) (unless b (number x)) false
+pub check_refused : (x : Refusal) (b : Bool) → b ≡ false → Checked (Err x) (unless b (number x)) false
 check_refused x b e = record { refusal = rw e; spelled = tt }
 
 pub ruleset checks = (check_passed, check_refused)
 
-module _ (s : Bytes) {i : IntegerRead} (a : i ≡ u64_read s) where
-  module _ {n : ℕ} {p : Bool} (e : i ≡ integer.Value n p) where
+module _ (s : Bytes) {i : Option (ℕ × Bool)} (a : i ≡ u64_read s) where
+  module _ {n : ℕ} {p : Bool} (e : i ≡ Some (n, p)) where
     spelled_so : not p ≡ is_odd (u64_read s)
     spelled_so = rw (sym a ∙ e)
 
-    pub integer_passed : Checked (check.Passed (not p)) (unless (is_count s) 13) (is_odd (u64_read s))
+    pub integer_passed : Checked (Ok (not p)) (unless (is_count s) 13) (is_odd (u64_read s))
     integer_passed = record { refusal = rw (sym a ∙ e); spelled = spelled_so }
 
-    pub count_passed : (ls : List Bytes) (q : Bool) → Checked (check.Passed (not p)) (unless (is_count s || is_in (meaning q s) ls) 11) (is_odd (u64_read s))
+    pub count_passed : (ls : List Bytes) (q : Bool) → Checked (Ok (not p)) (unless (is_count s || is_in (meaning q s) ls) 11) (is_odd (u64_read s))
     count_passed ls q = record { refusal = rw (sym a ∙ e); spelled = spelled_so }
 
-  module _ (e : i ≡ integer.Refused) where
-    pub integer_refused : Checked (check.Refused InvalidInteger) (unless (is_count s) 13) (is_odd (u64_read s))
+  module _ (e : i ≡ None) where
+    pub integer_refused : Checked (Err InvalidInteger) (unless (is_count s) 13) (is_odd (u64_read s))
     integer_refused = record { refusal = rw (sym a ∙ e); spelled = tt }
 
-    pub letter_checked : (ls : List Bytes) (q : Bool) {b : Bool} → b ≡ is_in (meaning q s) ls → {r : Check} → Checked r (unless b (number InvalidNumber)) false
+    pub letter_checked : (ls : List Bytes) (q : Bool) {b : Bool} → b ≡ is_in (meaning q s) ls → {r : Result Bool Refusal} → Checked r (unless b (number InvalidNumber)) false
         → Checked r (unless (is_count s || is_in (meaning q s) ls) 11) (is_odd (u64_read s))
     letter_checked ls q f {r} c = rw (sym a ∙ e, ← f) c
 
@@ -158,23 +152,23 @@ pub ruleset integers = (integer_passed, integer_refused)
 pub ruleset counts = (count_passed, letter_checked)
 
 module _ (v : Version) (kind : Kind) (t : Tag) (s : Bytes) (q : Bool) where
-  pub number_checked : t ≡ Number → (l : Letters) → letters_of l ≡ letters v kind → {r : Check} → Checked r (unless (is_count s || is_in (meaning q s) (letters_of l)) 11) (is_odd (u64_read s))
+  pub number_checked : t ≡ Number → (l : Letters) → letters_of l ≡ letters v kind → {r : Result Bool Refusal} → Checked r (unless (is_count s || is_in (meaning q s) (letters_of l)) 11) (is_odd (u64_read s))
       → Checked r (raw_refusal v kind s q (tag_row t)) (odd_value s (tag_row t))
   number_checked e l f {r} h = rw e (subst (λ (ls : List Bytes). Checked r (unless (is_count s || is_in (meaning q s) ls) 11) (is_odd (u64_read s))) f h)
 
-  pub type_checked : t ≡ ValueType → {f : Bool} → f ≡ is_info kind → {b : Bool} → b ≡ is_in (meaning q s) (types_of f) → {r : Check}
+  pub type_checked : t ≡ ValueType → {f : Bool} → f ≡ is_info kind → {b : Bool} → b ≡ is_in (meaning q s) (types_of f) → {r : Result Bool Refusal}
       → Checked r (unless b (number InvalidType)) false → Checked r (raw_refusal v kind s q (tag_row t)) (odd_value s (tag_row t))
   unfolding types
   type_checked e f g {r} h = rw e (subst (λ (b : Bool). Checked r (unless b 12) false) (g ∙ ap (λ (l : Bool). is_in (meaning q s) (types_of l)) f) h)
 
-  pub idx_checked : t ≡ Idx → {r : Check} → Checked r (unless (is_count s) 13) (is_odd (u64_read s)) → Checked r (raw_refusal v kind s q (tag_row t)) (odd_value s (tag_row t))
+  pub idx_checked : t ≡ Idx → {r : Result Bool Refusal} → Checked r (unless (is_count s) 13) (is_odd (u64_read s)) → Checked r (raw_refusal v kind s q (tag_row t)) (odd_value s (tag_row t))
   idx_checked e h = rw e h
 
-  pub length_checked : t ≡ Length → {r : Check} → Checked r (unless (is_count s) 13) (is_odd (u64_read s)) → Checked r (raw_refusal v kind s q (tag_row t)) (odd_value s (tag_row t))
+  pub length_checked : t ≡ Length → {r : Result Bool Refusal} → Checked r (unless (is_count s) 13) (is_odd (u64_read s)) → Checked r (raw_refusal v kind s q (tag_row t)) (odd_value s (tag_row t))
   length_checked e h = rw e h
 
   abbrev Unread : Type 0
-  Unread = Checked (check.Passed false) (raw_refusal v kind s q (tag_row t)) (odd_value s (tag_row t))
+  Unread = Checked (Ok false) (raw_refusal v kind s q (tag_row t)) (odd_value s (tag_row t))
 
   pub id_unread : t ≡ Id → Unread
   id_unread e = rw e (record { refusal = refl; spelled = refl })
@@ -193,5 +187,5 @@ module _ (v : Version) (kind : Kind) (t : Tag) (s : Bytes) (q : Bool) where
 
 pub ruleset values = (number_checked, type_checked, idx_checked, length_checked, id_unread, description_unread, md5_unread, url_unread, other_unread)
 
-pub put_told : (t : Tag) (z : Slot) (o : Bool) (x : Slots) {y : Tag} → t ≡ y → {w : Slots} → w ≡ put_slot y z o x → w ≡ put_slot t z o x
+pub put_told : (t : Tag) (z : Option (Text × ℕ)) (o : Bool) (x : Slots) {y : Tag} → t ≡ y → {w : Slots} → w ≡ put_slot y z o x → w ≡ put_slot t z o x
 put_told t z o x e f = rw e f

@@ -1,4 +1,5 @@
 -- Number and Type: the code's tests. Assumes nothing.
+use Rattle.std.specs.Prelude.{Option, Some, None}
 use Prim.Native.Nat.{ℕ}
 use mathlib.Core.Path.{◌≡◌, refl, sym, ap, ◌∙◌}
 use mathlib.Core.Bool.{Bool, true, false}
@@ -8,8 +9,6 @@ use borrow.Author.Tests.{eq-eqb, ne_eqb}
 use Rattle.values.specs.Bytes.{Bytes, ascii, same}
 use Rattle.values.specs.Integer.{u64_read}
 use Rattle.values.specs.Value.{meaning}
-use Rattle.values.specs.declared.integer.IntegerRead.{IntegerRead}
-use Rattle.values.specs.declared.integer.IntegerRead.TheVariants as integer
 use Rattle.rules.specs.Known.{is_in}
 use Rattle.records.specs.Lists.{listed_row}
 use Rattle.records.specs.Numbers.{letters_of, types_of, lettered, is_number_of, type_name}
@@ -36,11 +35,11 @@ module _ (s : Bytes) (quoted : Bool) (ls : Letters) where
   unfolding listed_row
   letter_local l d = lettered_by (ascii "A,R,G,.,P,LA,LR,LG,M") refl l d
 
-module _ (s : Bytes) (quoted : Bool) {r : IntegerRead} (a : r ≡ u64_read s) where
-  pub same_count : {x : Number} {n : ℕ} → x ≡ Count n → {m : ℕ} {p : Bool} → r ≡ integer.Value m p → eqb m n ≡ is_number_of x s quoted
+module _ (s : Bytes) (quoted : Bool) {r : Option (ℕ × Bool)} (a : r ≡ u64_read s) where
+  pub same_count : {x : Number} {n : ℕ} → x ≡ Count n → {m : ℕ} {p : Bool} → r ≡ Some (m, p) → eqb m n ≡ is_number_of x s quoted
   same_count e f = rw (e, sym a ∙ f)
 
-  pub no_count : {x : Number} {n : ℕ} → x ≡ Count n → r ≡ integer.Refused → false ≡ is_number_of x s quoted
+  pub no_count : {x : Number} {n : ℕ} → x ≡ Count n → r ≡ None → false ≡ is_number_of x s quoted
   no_count e f = rw (e, sym a ∙ f)
 
 module _ (s : Bytes) (quoted : Bool) where

@@ -1,4 +1,5 @@
 -- Records of one or two bare fields: what the quick reader saw is what the rules read. Assumes nothing.
+use Rattle.std.specs.Prelude.{Option, Some, None, Ok}
 use Prim.Native.Nat.{ℕ, ◌+◌, ◌*◌, ◌-◌, ◌^◌, ◌≤◌, ◌<◌}
 use mir.Syntax.{w64}
 use mir.Val.{Fits}
@@ -15,11 +16,6 @@ use Rattle.values.specs.Value.{is_stop}
 use Rattle.values.specs.Field.{read_key}
 use Rattle.values.specs.Places.{cursor_at, key_placed, key_at, field_at}
 use Rattle.values.specs.declared.cursor.Cursor.{Cursor}
-use Rattle.values.specs.declared.integer.IntegerRead.{IntegerRead}
-use Rattle.values.specs.declared.integer.IntegerRead.TheVariants as integer
-use Rattle.values.specs.declared.field.KeyRead.{KeyRead}
-use Rattle.values.specs.declared.field.KeyRead.TheVariants as keys
-use Rattle.values.specs.declared.field.FieldRead.TheVariants as field
 use Rattle.values.proofs.Tests.{pass, fail, test, and_l, not_true, not_false}
 use Rattle.values.proofs.Sames.{same_self}
 use Rattle.values.proofs.Lists.{here, rest}
@@ -46,24 +42,10 @@ use Rattle.records.specs.declared.key.MapKey.TheVariants as case
 use Rattle.records.specs.declared.key.MapContext.{MapContext}
 use Rattle.records.specs.declared.tag.Tag.{Tag}
 use Rattle.records.specs.declared.tag.Tag.TheVariants.{Id, Number, ValueType, Description, Length, Md5, Url, Idx, Other}
-use Rattle.records.specs.declared.map.Check.TheVariants as check
 use Rattle.records.specs.declared.map.After.TheVariants as afters
-use Rattle.records.specs.declared.map.Prefix.TheVariants as prefix
-use Rattle.records.specs.declared.map.Slot.{Slot}
-use Rattle.records.specs.declared.map.Slot.TheVariants as slot
 use Rattle.records.specs.declared.map.Slots.{Slots}
-use Rattle.records.specs.declared.map.FieldTaken.TheVariants as taken
-use Rattle.records.specs.declared.record.KeyParsed.TheVariants as key
-use Rattle.records.specs.declared.record.RecordRead.TheVariants as read
-use Rattle.records.specs.declared.value.ValueParsed.TheVariants as value
-use Rattle.records.specs.declared.quick.PlainField.{PlainField}
-use Rattle.records.specs.declared.quick.PlainField.TheVariants as plain
-use Rattle.records.specs.declared.quick.QuickKey.{QuickKey}
-use Rattle.records.specs.declared.quick.QuickKey.TheVariants as quick-key
-use Rattle.records.specs.declared.quick.QuickMap.{QuickMap}
-use Rattle.records.specs.declared.quick.QuickMap.TheVariants as quick-map
-use Rattle.records.specs.declared.quick.QuickRead.{QuickRead}
-use Rattle.records.specs.declared.quick.QuickRead.TheVariants as quick
+use Rattle.records.specs.declared.record.RecordKey.TheVariants as key
+use Rattle.records.specs.declared.record.Record.TheVariants as read
 use Rattle.records.proofs.Tags.{row_none, id_itself, no_lineage, tag_named_id, tag_after_id}
 use Rattle.records.proofs.Maps.{integer_passed, idx_checked, length_checked, id_unread, md5_unread, url_unread, other_unread}
 use Rattle.records.proofs.Distincts.{none_distinct}
@@ -73,6 +55,7 @@ use Rattle.records.proofs.Required.{map_opened, id_given}
 use Rattle.records.proofs.Needed.{identified_contig, identified_other}
 use Rattle.records.proofs.Records.{map_given, record_map}
 use Rattle.records.proofs.Records as records
+use Rattle.values.specs.declared.string.Text.{Text}
 
 -- The key
 
@@ -105,19 +88,19 @@ not_always false = refl
 
 -- A field behind the ID
 
-pub plainly_value : (s : Bytes) {i : IntegerRead} → i ≡ u64_read s → {n : ℕ} {p : Bool} → i ≡ integer.Value n p → p ≡ is_plainly (u64_read s)
+pub plainly_value : (s : Bytes) {i : Option (ℕ × Bool)} → i ≡ u64_read s → {n : ℕ} {p : Bool} → i ≡ Some (n, p) → p ≡ is_plainly (u64_read s)
 plainly_value s a e = rw (sym a ∙ e)
 
-pub plainly_refused : (s : Bytes) {i : IntegerRead} → i ≡ u64_read s → i ≡ integer.Refused → false ≡ is_plainly (u64_read s)
+pub plainly_refused : (s : Bytes) {i : Option (ℕ × Bool)} → i ≡ u64_read s → i ≡ None → false ≡ is_plainly (u64_read s)
 plainly_refused s a e = rw (sym a ∙ e)
 
 pub ruleset plainness = (plainly_value, plainly_refused)
 
-pub plain_unusual : (s : Bytes) (i : ℕ) → ReadsPlain s i plain.Unusual
+pub plain_unusual : (s : Bytes) (i : ℕ) → ReadsPlain s i None
 plain_unusual s i = record { is = tt }
 
-pub plain_found : (s : Bytes) (i : ℕ) {r : KeyRead} → r ≡ key_at s i → {e : ℕ} {c : Cursor} → r ≡ keys.Key e c → c.at < length s → (get_or s c.at 0 ≡ 34 → ⊥)
-    → {n : ℕ} → n ≡ stop_of is_stop s c.at → ReadsPlain s i (plain.Field e n)
+pub plain_found : (s : Bytes) (i : ℕ) {r : Option (ℕ × Cursor)} → r ≡ key_at s i → {e : ℕ} {c : Cursor} → r ≡ Some (e, c) → c.at < length s → (get_or s c.at 0 ≡ 34 → ⊥)
+    → {n : ℕ} → n ≡ stop_of is_stop s c.at → ReadsPlain s i (Some (e, n))
 plain_found s i a b h ne f = record { is = bare_field s i a b h ne f }
 
 pub ruleset plains = (plain_unusual, plain_found)
@@ -128,17 +111,17 @@ module _ (name text : Bytes) (t : Tag) (a : tag_row t ≡ row_named name (after_
   contig_not = record { is = λ e. absurd (false≢true e) }
 
   abbrev Passes : Tag → Type 0
-  Passes g = (v : Version) → Checked (check.Passed false) (raw_refusal v contig text false (tag_row g)) (odd_value text (tag_row g))
+  Passes g = (v : Version) → Checked (Ok false) (raw_refusal v contig text false (tag_row g)) (odd_value text (tag_row g))
 
   contig_fits : (g : Tag) → t ≡ g → is_kept g ≡ false → {q : Bool} → (q ≡ true → Passes g) → FitsContig name text q
   contig_fits g e k p = record { is = λ q. record { tag = g; named = ap tag_row (sym e) ∙ a; unkept = k; passes = p q } }
 
-  numbered : (q : Bool) → q ≡ is_plainly (u64_read text) → q ≡ true → Checked (check.Passed false) (unless (is_count text) 13) (is_odd (u64_read text))
+  numbered : (q : Bool) → q ≡ is_plainly (u64_read text) → q ≡ true → Checked (Ok false) (unless (is_count text) 13) (is_odd (u64_read text))
   numbered q b e = go (u64_read text) refl (sym b ∙ e)
     where
-      go : (i : IntegerRead) → i ≡ u64_read text → is_plainly i ≡ true → Checked (check.Passed false) (unless (is_count text) 13) (is_odd (u64_read text))
-      go (integer.Value n p) c d = subst (λ (x : Bool). Checked (check.Passed (not x)) (unless (is_count text) 13) (is_odd (u64_read text))) d (integer_passed text c refl)
-      go integer.Refused c d = absurd (false≢true d)
+      go : (i : Option (ℕ × Bool)) → i ≡ u64_read text → is_plainly i ≡ true → Checked (Ok false) (unless (is_count text) 13) (is_odd (u64_read text))
+      go (Some (n, p)) c d = subst (λ (x : Bool). Checked (Ok (not x)) (unless (is_count text) 13) (is_odd (u64_read text))) d (integer_passed text c refl)
+      go None c d = absurd (false≢true d)
 
   pub contig_length : t ≡ Length → {q : Bool} → q ≡ is_plainly (u64_read text) → FitsContig name text q
   contig_length e {q} b = contig_fits Length e refl (λ f v. length_checked v contig Length text false refl (numbered q b f))
@@ -162,7 +145,7 @@ other_follows name text = record { tag = Other; named = row_none name; unkept = 
 
 -- The last field
 
-unkept_id : (g : Tag) (z : Slot) (o : Bool) (x : Slots) → is_kept g ≡ false → (put_slot g z o x).id ≡ x.id
+unkept_id : (g : Tag) (z : Option (Text × ℕ)) (o : Bool) (x : Slots) → is_kept g ≡ false → (put_slot g z o x).id ≡ x.id
 unkept_id Id z o x e = absurd (false≢true (sym e))
 unkept_id Number z o x e = absurd (false≢true (sym e))
 unkept_id ValueType z o x e = absurd (false≢true (sym e))
@@ -173,7 +156,7 @@ unkept_id Url z o x e = refl
 unkept_id Idx z o x e = refl
 unkept_id Other z o x e = refl
 
-put_odd : (g : Tag) (z : Slot) (o : Bool) (x : Slots) → (put_slot g z o x).odd ≡ o
+put_odd : (g : Tag) (z : Option (Text × ℕ)) (o : Bool) (x : Slots) → (put_slot g z o x).odd ≡ o
 put_odd Id z o x = refl
 put_odd Number z o x = refl
 put_odd ValueType z o x = refl
@@ -194,8 +177,8 @@ closed_after at (b ∷ y) e =
 either_none : (o : Bool) → o ≡ false → false ≡ (o || false)
 either_none o e = rw e
 
-module _ (b : Bool) (s : Bytes) (at : ℕ) {r : PlainField} (a : ReadsPlain s at r) {e n : ℕ} (c : r ≡ plain.Field e n) where
-  told : PlainIs s at (plain.Field e n)
+module _ (b : Bool) (s : Bytes) (at : ℕ) {r : Option (ℕ × ℕ)} (a : ReadsPlain s at r) {e n : ℕ} (c : r ≡ Some (e, n)) where
+  told : PlainIs s at (Some (e, n))
   told = subst (PlainIs s at) c a.is
 
   last_read : closes_at s n ≡ true → {name : Bytes} → name ≡ part s at e → same (ascii "ID") name ≡ false → {text : Bytes} → text ≡ part s (e + 1) n → Follows b name text
@@ -204,16 +187,16 @@ module _ (b : Bool) (s : Bytes) (at : ℕ) {r : PlainField} (a : ReadsPlain s at
       let x = quick_context b f start in
       let v = version_of f in
       let g = w.tag in
-      let there : field.Field e (record { start = e + 1; end = n; quoted = false }) (cursor_at n) ≡ field_at x.brackets s at
+      let there : Some (e, record { start = e + 1; end = n; quoted = false }, cursor_at n) ≡ field_at x.brackets s at
       = sym told.0 ∙ ap (λ (m : Bool). field_at m s at) (sym (no_brackets b v)) in
       let lineage = no_lineage v (case_bytes (quick_key b)) name refl id refl (rw (no_pedigree b)) in
       let tagged = tag_after_id v (quick_key b) name lineage refl w.named in
-      let t = field_taken x s at slots there refl en g tagged et (check.Passed false) (w.passes v) refl (all_kept_lem x s at name g slots (sym w.unkept) refl plain) refl {tag = tag_of name} refl {o = false} (either_none slots.odd odd) in
+      let t = field_taken x s at slots there refl en g tagged et (Ok false) (w.passes v) refl (all_kept_lem x s at name g slots (sym w.unkept) refl plain) refl {tag = tag_of name} refl {o = false} (either_none slots.odd odd) in
       record {
         kept = put_slot g (filled_as (e + 1) n false (tag_of name)) false slots;
         id = unkept_id g (filled_as (e + 1) n false (tag_of name)) false slots w.unkept;
         odd = put_odd g (filled_as (e + 1) n false (tag_of name)) false slots;
-        read = step_last x s at slots (taken.Field g (e + 1) n false (tag_of name) false (cursor_at n)) t refl (closed_after n (drop n s) closed) refl refl refl;
+        read = step_last x s at slots (Ok (g, e + 1, n, false, tag_of name, false, cursor_at n)) t refl (closed_after n (drop n s) closed) refl refl refl;
       }
 
   module _ {q : Bool} (d : q ≡ closes_at s n) where
@@ -257,7 +240,7 @@ unfolding is_typed is_in same
 is_map_lem true v y e = refl
 is_map_lem false v y e = rw (not_always false, e)
 
-key_read : (i : ℕ) (r : Bytes) → key_placed i (read_key (73 ∷ 68 ∷ 61 ∷ r)) ≡ keys.Key (i + 2) (cursor_at (i + 2 + 1))
+key_read : (i : ℕ) (r : Bytes) → key_placed i (read_key (73 ∷ 68 ∷ 61 ∷ r)) ≡ Some (i + 2, cursor_at (i + 2 + 1))
 unfolding read_key before from begins any
 key_read i r = refl
 
@@ -284,7 +267,7 @@ module _ (b : Bool) (s : Bytes) (at : ℕ) {p : Bytes} (ep : p ≡ take (length 
   pub map_fits : length s * 1 < 2 ^ 63 → Fits w64 (at + 4)
   map_fits few = let n = long in omega arith
 
-  id_key : key_at s (at + 1) ≡ keys.Key (at + 3) (cursor_at (at + 4))
+  id_key : key_at s (at + 1) ≡ Some (at + 3, cursor_at (at + 4))
   unfolding key_at
   id_key =
       let m : at + 1 + 2 ≡ at + 3 = omega arith in
@@ -298,106 +281,106 @@ module _ (b : Bool) (s : Bytes) (at : ℕ) {p : Bytes} (ep : p ≡ take (length 
     abbrev x : MapContext
     x = quick_context b f (at + 1)
 
-    abbrev kept : Slot
+    abbrev kept : Option (Text × ℕ)
     kept = filled_as (at + 4) end false 0
 
-    id_there : field.Field (at + 3) (id_from at end) (cursor_at end) ≡ field_at x.brackets s (at + 1)
+    id_there : Some (at + 3, id_from at end, cursor_at end) ≡ field_at x.brackets s (at + 1)
     id_there =
         let n : at + 3 + 1 ≡ at + 4 = omega arith in
         let w = (bare_field s (at + 1) (sym id_key) refl l ne ee).0 in
         sym (rw n at w) ∙ ap (λ (m : Bool). field_at m s (at + 1)) (sym (no_brackets b (version_of f)))
 
-    id_taken : TakesField x s (at + 1) no_slots (taken.Field Id (at + 4) end false 0 false (cursor_at end))
+    id_taken : TakesField x s (at + 1) no_slots (Ok (Id, at + 4, end, false, 0, false, cursor_at end))
     id_taken =
         let v = version_of f in
         let named = id_itself v (case_bytes (quick_key b)) (ascii "ID") (sym (same_self (ascii "ID"))) refl in
         let tagged = tag_named_id v (quick_key b) (ascii "ID") named refl in
-        field_taken x s (at + 1) no_slots id_there refl id_name Id tagged refl (check.Passed false) (id_unread v (kind_by (quick_key b)) Id (part s (at + 4) end) false refl) refl
+        field_taken x s (at + 1) no_slots id_there refl id_name Id tagged refl (Ok false) (id_unread v (kind_by (quick_key b)) Id (part s (at + 4) end) false refl) refl
         (kept_empty x s (at + 1) (ascii "ID") Id no_slots refl refl refl refl) refl id_itself_is refl
 
-    walked_one : closes_at s end ≡ true → WalksFields x s (fields_of (slots_of kept slot.Empty slot.Empty slot.Empty true false) 1)
+    walked_one : closes_at s end ≡ true → WalksFields x s (fields_of (slots_of kept None None None true false) 1)
     walked_one e =
-        walk_last (walk_start x s) refl (step_last x s (at + 1) no_slots (taken.Field Id (at + 4) end false 0 false (cursor_at end)) id_taken refl (closed_after end (drop end s) e) refl refl refl) refl refl
+        walk_last (walk_start x s) refl (step_last x s (at + 1) no_slots (Ok (Id, at + 4, end, false, 0, false, cursor_at end)) id_taken refl (closed_after end (drop end s) e) refl refl refl) refl refl
 
-    walking_two : end < length s → get_or s end 0 ≡ 44 → Walking x s (end + 1) (slots_of kept slot.Empty slot.Empty slot.Empty true false) 2 0
+    walking_two : end < length s → get_or s end 0 ≡ 44 → Walking x s (end + 1) (slots_of kept None None None true false) 2 0
     walking_two m e =
         let w : afters.More (cursor_at (end + 1)) ≡ after_at s end = comma_after end (drop (end + 1) s) ∙ ap (λ (y : Bytes). after_placed end (after y)) (sym (here s end m ∙ rw e)) in
-        walk_id (walk_start x s) refl (step_next x s (at + 1) no_slots (taken.Field Id (at + 4) end false 0 false (cursor_at end)) id_taken refl w refl) refl (none_distinct x s) refl refl
+        walk_id (walk_start x s) refl (step_next x s (at + 1) no_slots (Ok (Id, at + 4, end, false, 0, false, cursor_at end)) id_taken refl w refl) refl (none_distinct x s) refl refl
 
-    parsed : (slots : Slots) → slots.id ≡ kept → slots.odd ≡ false → (n : ℕ) → WalksFields x s (fields_of slots n) → ParsesValue (version_of f) (quick_key b) s at (value.Map (id_from at end) 0 (tallied false n))
+    parsed : (slots : Slots) → slots.id ≡ kept → slots.odd ≡ false → (n : ℕ) → WalksFields x s (fields_of slots n) → ParsesValue (version_of f) (quick_key b) s at (Ok (Some (id_from at end, 0, tallied false n)))
     unfolding begins
     parsed slots i o n w =
         let v = version_of f in
         let bare : false ≡ bare_at s (at + 1) (always_map (case_bytes (quick_key b))) = rw (not_always b, first_field) in
-        let opens : prefix.Consumed (cursor_at (at + 1)) ≡ opens_at s at = rw begun in
+        let opens : Some (cursor_at (at + 1)) ≡ opens_at s at = rw begun in
         let read = fields_read f (quick_key b) s (cursor_at (at + 1)) bare refl refl w in
         let opened = map_opened v (quick_key b) s (cursor_at at) opens refl (fields_of slots n) read in
         let map = id_given v (quick_key b) s (cursor_at at) opened refl i (quick_identified b) in
         let y = map_given v (quick_key b) s (cursor_at at) (is_map_lem b v (drop at s) (rw begun (looks_map_lem v (drop (at + 4) s)))) refl map refl in
-        subst (λ (z : Bool). ParsesValue v (quick_key b) s at (value.Map (id_from at end) 0 (tallied z n))) o y
+        subst (λ (z : Bool). ParsesValue v (quick_key b) s at (Ok (Some (id_from at end, 0, tallied z n)))) o y
 
   -- the code's answers
   module _ (l : at + 4 < length s) (ne : get_or s (at + 4) 0 ≡ 34 → ⊥) {end : ℕ} (ee : end ≡ stop_of is_stop s (at + 4)) {c : Bool} (ec : c ≡ closes_at s end) where
-    pub map_one : c ≡ true → ReadsQuickMap b s at (quick-map.Map end 1)
+    pub map_one : c ≡ true → ReadsQuickMap b s at (Some (end, 1))
     map_one e = record {
-      is = (long, λ f. parsed l ne ee f (slots_of (filled_as (at + 4) end false 0) slot.Empty slot.Empty slot.Empty true false) refl refl 1 (walked_one l ne ee f (sym ec ∙ e)));
+      is = (long, λ f. parsed l ne ee f (slots_of (filled_as (at + 4) end false 0) None None None true false) refl refl 1 (walked_one l ne ee f (sym ec ∙ e)));
     }
 
-    pub map_two : {y : Bool} → IsFollowed b s end y → y ≡ true → ReadsQuickMap b s at (quick-map.Map end 2)
+    pub map_two : {y : Bool} → IsFollowed b s end y → y ≡ true → ReadsQuickMap b s at (Some (end, 2))
     map_two {y} a t = record {
       is = (
         long,
         λ f.
-            let kept = slots_of (filled_as (at + 4) end false 0) slot.Empty slot.Empty slot.Empty true false in
+            let kept = slots_of (filled_as (at + 4) end false 0) None None None true false in
             let w = a.is t in
             let r = w.last f (at + 1) kept refl refl in
             parsed l ne ee f r.kept r.id r.odd 2 (walk_last (walking_two l ne ee f w.inside w.comma) refl r.read refl refl),
       );
     }
 
-pub map_usual : (b : Bool) (s : Bytes) (at : ℕ) → ReadsQuickMap b s at quick-map.Unusual
+pub map_usual : (b : Bool) (s : Bytes) (at : ℕ) → ReadsQuickMap b s at None
 map_usual b s at = record { is = tt }
 
 pub ruleset maps_quickly = (map_usual, map_fits, map_one, map_two)
 
 -- The record
 
-pub key_usual : (s : Bytes) → ReadsQuickKey s quick-key.Unusual
+pub key_usual : (s : Bytes) → ReadsQuickKey s None
 key_usual s = record { is = λ h. tt }
 
 module _ (s : Bytes) {end : ℕ} (f : end ≡ 2 + length (key_in s)) (ne : end ≡ 2 → ⊥) (l : end < length s) {p : Bytes} (b : p ≡ take (end - 2) (drop 2 s)) {q : Bool} (t : q ≡ same p (ascii "fileformat")) (e : q ≡ false)
     {j : MapKey} (i : j ≡ key_named p) where
-  key_so : (c : Bool) → j ≡ quick_key c → ReadsQuickKey s (quick-key.Key c (end + 1))
-  key_so c w = record { is = λ h. subst (λ (y : MapKey). KeyedIs s (key.Map y (cursor_at (end + 1)))) w (records.a_key s f ne l b t refl e i h) }
+  key_so : (c : Bool) → j ≡ quick_key c → ReadsQuickKey s (Some (c, end + 1))
+  key_so c w = record { is = λ h. subst (λ (y : MapKey). KeyedIs s (Some (key.Map y (cursor_at (end + 1))))) w (records.a_key s f ne l b t refl e i h) }
 
-  pub key_contig_read : j ≡ case.Contig → ReadsQuickKey s (quick-key.Key true (end + 1))
+  pub key_contig_read : j ≡ case.Contig → ReadsQuickKey s (Some (true, end + 1))
   key_contig_read w = key_so true w
 
-  pub key_other_read : j ≡ case.Other → ReadsQuickKey s (quick-key.Key false (end + 1))
+  pub key_other_read : j ≡ case.Other → ReadsQuickKey s (Some (false, end + 1))
   key_other_read w = key_so false w
 
 pub ruleset keys_quickly = (key_usual, key_contig_read, key_other_read)
 
-pub quick_usual : (s : Bytes) → ReadsQuick s quick.Unusual
+pub quick_usual : (s : Bytes) → ReadsQuick s None
 quick_usual s = record { is = tt }
 
-pub quick_read : (s : Bytes) {q : Bool} → q ≡ starts (ascii "##") s → not q ≡ false → {x : QuickKey} → ReadsQuickKey s x → {contig : Bool} {at : ℕ} → x ≡ quick-key.Key contig at
-    → {y : QuickMap} → ReadsQuickMap contig s at y → {end n : ℕ} → y ≡ quick-map.Map end n → ReadsQuick s (quick.Map contig at end n)
+pub quick_read : (s : Bytes) {q : Bool} → q ≡ starts (ascii "##") s → not q ≡ false → {x : Option (Bool × ℕ)} → ReadsQuickKey s x → {contig : Bool} {at : ℕ} → x ≡ Some (contig, at)
+    → {y : Option (ℕ × ℕ)} → ReadsQuickMap contig s at y → {end n : ℕ} → y ≡ Some (end, n) → ReadsQuick s (Some (contig, at, end, n))
 quick_read s {q} a h {x} k {contig} {at} e {y} m {end} {n} g =
     let w = sym a ∙ not_false q h in
     let z = subst (MapQuick contig s at) g m.is in
     record {
-      is = (z.0, λ f. record_map (version_of f) s a h (key.Map (quick_key contig) (cursor_at at)) (λ u. subst (KeyQuick s) e (k.is w)) refl (z.1 f) refl);
+      is = (z.0, λ f. record_map (version_of f) s a h (Some (key.Map (quick_key contig) (cursor_at at))) (λ u. subst (KeyQuick s) e (k.is w)) refl (z.1 f) refl);
     }
 
 pub ruleset quickly = (quick_usual, quick_read)
 
-module _ (s : Bytes) {r : QuickRead} (a : ReadsQuick s r) {contig : Bool} {at end n : ℕ} (e : r ≡ quick.Map contig at end n) where
+module _ (s : Bytes) {r : Option (Bool × ℕ × ℕ × ℕ)} (a : ReadsQuick s r) {contig : Bool} {at end n : ℕ} (e : r ≡ Some (contig, at, end, n)) where
   pub record_fits : length s * 1 < 2 ^ 63 → Fits w64 (at + 4)
   record_fits few = let z = (subst (RecordQuick s) e a.is).0 in omega arith
 
   pub record_quick : (f : FileFormat) {j : MapKey} → j ≡ quick_key contig
-      → ParsesRecord (version_of f) s (read.Map (record { key = j; value = at; id = record { start = at + 4; end = end; quoted = false }; tag = 0; tally = record { odd = false; fields = n } }))
+      → ParsesRecord (version_of f) s (Ok (read.Map (record { key = j; value = at; id = record { start = at + 4; end = end; quoted = false }; tag = 0; tally = record { odd = false; fields = n } })))
   record_quick f i = rw i ((subst (RecordQuick s) e a.is).1 f)
 
 pub ruleset records_quickly = (record_fits, record_quick)

@@ -4,7 +4,7 @@ use native.Mathlib.Omega.{arith}
 use mathlib.Core.Path.{◌≡◌, refl, sym, ap, subst, ◌∙◌}
 use mathlib.Core.Bool.{Bool, true, false, not, ◌&&◌, and-false}
 use mathlib.Core.List.{List, [], ◌∷◌, tail}
-use mathlib.Core.Option.{Option, none, some}
+use Rattle.std.specs.Prelude.{Option, None, Some, Result, Ok, Err}
 use lib.ListN.{length, take, drop, drop_of_length-le}
 use Rattle.values.specs.Bytes.{Bytes, ascii, is, empty, begins, from, same, starts}
 use Rattle.values.specs.Field.{Field}
@@ -21,27 +21,19 @@ use Rattle.rules.specs.Entry.{fields_start, text_named}
 use Rattle.rules.specs.Record.{fields, text, looks_map, is_map, fileformat_read, read_record_value, read_keyed, read_record}
 use Rattle.records.specs.Formats.{format_read}
 use Rattle.records.specs.Keys.{case_bytes, key_named, Named}
-use Rattle.records.specs.Maps.{slotted, tallied, MapIs, ParsesMap, Full, TypedIs, ParsesTyped, Typed, Declared}
+use Rattle.records.specs.Maps.{slotted, tallied, MapIs, ParsesMap, Identified, Described, Full, TypedIs, ParsesTyped, Typed, Declared}
 use Rattle.rules.specs.Claims.{key_in}
 use Rattle.records.specs.Records.{ValueIs, ParsesValue, KeyedIs, version_record, RecordIs, ParsesRecord}
 use Rattle.records.specs.declared.map.Tally.{Tally}
 use Rattle.records.specs.declared.file_format.FileFormat.{FileFormat}
-use Rattle.records.specs.declared.file_format.FileFormatRead.{FileFormatRead}
-use Rattle.records.specs.declared.file_format.FileFormatRead.TheVariants as version
 use Rattle.records.specs.declared.key.MapKey.{MapKey}
 use Rattle.records.specs.declared.refusal.Refusal.{Refusal}
 use Rattle.records.specs.declared.refusal.Refusal.TheVariants.{InvalidRecord, InvalidFileFormat, DefinitionMismatch}
-use Rattle.records.specs.declared.map.MapRead.{MapRead}
-use Rattle.records.specs.declared.map.MapRead.TheVariants as maps
-use Rattle.records.specs.declared.map.TypedRead.{TypedRead}
-use Rattle.records.specs.declared.map.TypedRead.TheVariants as typed
-use Rattle.records.specs.declared.value.ValueParsed.{ValueParsed}
-use Rattle.records.specs.declared.value.ValueParsed.TheVariants as value
-use Rattle.records.specs.declared.record.KeyParsed.{KeyParsed}
-use Rattle.records.specs.declared.record.KeyParsed.TheVariants as key
-use Rattle.records.specs.declared.record.RecordRead.{RecordRead}
-use Rattle.records.specs.declared.record.RecordRead.TheVariants as read
-use Rattle.records.proofs.Needed.{full_info, full_format}
+use Rattle.records.specs.declared.record.RecordKey.{RecordKey}
+use Rattle.records.specs.declared.record.RecordKey.TheVariants as key
+use Rattle.records.specs.declared.record.Record.{Record}
+use Rattle.records.specs.declared.record.Record.TheVariants as read
+use Rattle.records.proofs.Needed.{full_info, full_format, described_filter, described_alternative_allele, identified_contig, identified_meta, identified_pedigree, identified_other}
 use Rattle.records.proofs.Keys.{named, map_by_case, text_by_case, odd_by_case, looks_by_case}
 
 -- INFO and FORMAT with their definition
@@ -52,30 +44,34 @@ judged_unless x e f = rw (e, f)
 judged_otherwise : {A : Type 0} {n : ℕ} {b : Bool} (x : A) → n ≡ unless b 18 → b ≡ false → judged n x ≡ refuse 18
 judged_otherwise x e f = rw (e, f)
 
-module _ (v : Version) (key : MapKey) (s : Bytes) (c : Cursor) {r : TypedRead} (o : Full key → ParsesTyped v key s c.at r) where
-  pub typed_unread : {x : Refusal} → r ≡ typed.Refused x → Full key → ParsesMap v key s c.at (maps.Refused x)
+module _ (v : Version) (key : MapKey) (s : Bytes) (c : Cursor) {r : Result (Text × ℕ × Text × Text × Tally) Refusal} (o : Full key → ParsesTyped v key s c.at r) where
+  pub typed_unread : {x : Refusal} → r ≡ Err x → Full key → ParsesMap v key s c.at (Err x)
   typed_unread e full = record { is = subst (TypedIs v (case_bytes key) s c.at) e (o full).is }
 
-  module _ {id : Text} {g : ℕ} {n t : Text} {tally : Tally} (e : r ≡ typed.Typed id g n t tally) {q : Bool} (d : Declared v key s id n t q) where
+  module _ {id : Text} {g : ℕ} {n t : Text} {tally : Tally} (e : r ≡ Ok (id, g, n, t, tally)) {q : Bool} (d : Declared v key s id n t q) where
     as_typed : Full key → Typed v (case_bytes key) s c.at id g n t tally
     as_typed full = subst (TypedIs v (case_bytes key) s c.at) e (o full).is
 
-    pub typed_otherwise : not q ≡ true → Full key → ParsesMap v key s c.at (maps.Refused DefinitionMismatch)
+    pub typed_otherwise : not q ≡ true → Full key → ParsesMap v key s c.at (Err DefinitionMismatch)
     typed_otherwise f full = record { is = let y = as_typed full in y.read ∙ judged_otherwise y.fs (d.is c.at g tally y) (not_true q f) }
 
-    pub typed_defined : not q ≡ false → Full key → ParsesMap v key s c.at (maps.Map id g tally)
+    pub typed_defined : not q ≡ false → Full key → ParsesMap v key s c.at (Ok (id, g, tally))
     typed_defined f full = record { is = let y = as_typed full in (y.fs, y.read ∙ judged_unless y.fs (d.is c.at g tally y) (not_false q f), y.named, y.tallied) }
 
 pub ruleset with_definition = (typed_unread, typed_otherwise, typed_defined)
 
 -- by the case of the key
-pub map_told : (v : Version) (key : MapKey) (s : Bytes) (at : ℕ) {j : MapKey} → key ≡ j → {r : MapRead} → ParsesMap v j s at r → ParsesMap v key s at r
-map_told v key s at e {r} h = subst (λ (x : MapKey). ParsesMap v x s at r) (sym e) h
+module _ (v : Version) (key : MapKey) (s : Bytes) (at : ℕ) {j : MapKey} (e : key ≡ j) {r : Result (Text × ℕ × Tally) Refusal} where
+  pub typed_told : Full j → (Full key → ParsesMap v key s at r) → ParsesMap v key s at r
+  typed_told full h = h (subst Full (sym e) full)
 
-pub typed_told : (v : Version) (key : MapKey) (s : Bytes) (at : ℕ) {j : MapKey} → key ≡ j → Full j → {r : MapRead} → (Full j → ParsesMap v j s at r) → ParsesMap v key s at r
-typed_told v key s at e full h = map_told v key s at e (h full)
+  pub described_told : Described j → (Described key → ParsesMap v key s at r) → ParsesMap v key s at r
+  described_told d h = h (subst Described (sym e) d)
 
-pub ruleset by_case = (map_told, typed_told, full_info, full_format)
+  pub identified_told : Identified j → (Identified key → ParsesMap v key s at r) → ParsesMap v key s at r
+  identified_told i h = h (subst Identified (sym e) i)
+
+pub ruleset by_case = (typed_told, described_told, identified_told, full_info, full_format, described_filter, described_alternative_allele, identified_contig, identified_meta, identified_pedigree, identified_other)
 
 -- Whether the value is a map
 
@@ -106,40 +102,40 @@ module _ (v : Version) (k x : Bytes) where
   unfolding read_record_value
   value_map e f = rw (read_record_value, e, f)
 
-module _ (s : Bytes) (c : Cursor) {p : Bytes} (b : p ≡ take (length s - c.at) (drop c.at s)) {r : FileFormatRead} (d : r ≡ format_read (read_version p)) where
-  as_read : {x : FileFormatRead} → r ≡ x → x ≡ format_read (read_version (drop c.at s))
+module _ (s : Bytes) (c : Cursor) {p : Bytes} (b : p ≡ take (length s - c.at) (drop c.at s)) {r : Option FileFormat} (d : r ≡ format_read (read_version p)) where
+  as_read : {x : Option FileFormat} → r ≡ x → x ≡ format_read (read_version (drop c.at s))
   as_read g = sym g ∙ d ∙ ap (λ (y : Bytes). format_read (read_version y)) (b ∙ rest s c.at)
 
-  pub version_unread : r ≡ version.Refused → read.Refused InvalidFileFormat ≡ version_record (read_version (drop c.at s))
+  pub version_unread : r ≡ None → Err InvalidFileFormat ≡ version_record (read_version (drop c.at s))
   version_unread g = go (read_version (drop c.at s)) (as_read g)
     where
-      go : (a : Option Version) → version.Refused ≡ format_read a → read.Refused InvalidFileFormat ≡ version_record a
-      go none e = refl
-      go (some w) e = never cc
+      go : (a : Option Version) → None ≡ format_read a → Err InvalidFileFormat ≡ version_record a
+      go None e = refl
+      go (Some w) e = never cc
 
-  pub version_read_lem : {w : FileFormat} → r ≡ version.Version w → read.FileFormat w ≡ version_record (read_version (drop c.at s))
+  pub version_read_lem : {w : FileFormat} → r ≡ Some w → Ok (read.FileFormat w) ≡ version_record (read_version (drop c.at s))
   version_read_lem {w} g = go (read_version (drop c.at s)) (as_read g)
     where
-      go : (a : Option Version) → version.Version w ≡ format_read a → read.FileFormat w ≡ version_record a
-      go none e = never cc
-      go (some u) e = cc
+      go : (a : Option Version) → Some w ≡ format_read a → Ok (read.FileFormat w) ≡ version_record a
+      go None e = never cc
+      go (Some u) e = cc
 
 pub ruleset versions = (version_unread, version_read_lem)
 
 module _ (v : Version) (key : MapKey) (s : Bytes) (c : Cursor) {m : Bool} (b : m ≡ is_map v (case_bytes key) (drop c.at s)) where
-  pub a_text : not m ≡ true → ParsesValue v key s c.at value.Text
+  pub a_text : not m ≡ true → ParsesValue v key s c.at (Ok None)
   a_text g = record { is = λ k n. value_text v k (drop c.at s) n.format (looks_by_case v k key n (drop c.at s) ∙ sym b ∙ not_true m g) }
 
-  module _ (g : not m ≡ false) {r : MapRead} (h : ParsesMap v key s c.at r) where
+  module _ (g : not m ≡ false) {r : Result (Text × ℕ × Tally) Refusal} (h : ParsesMap v key s c.at r) where
     mapped : (k : Bytes) → Named k key → {a : Answer (List Field)} → read_map v (case_bytes key) (drop c.at s) ≡ a → read_record_value v k (drop c.at s) ≡ (a >>= λ fs. ok (fields k fs))
     mapped k n e =
         value_map v k (drop c.at s) n.format (looks_by_case v k key n (drop c.at s) ∙ sym b ∙ not_false m g)
         ∙ ap (λ (a : Answer (List Field)). a >>= λ fs. ok (fields k fs)) (map_by_case v k key n (drop c.at s) ∙ e)
 
-    pub map_unread : {x : Refusal} → r ≡ maps.Refused x → ParsesValue v key s c.at (value.Refused x)
+    pub map_unread : {x : Refusal} → r ≡ Err x → ParsesValue v key s c.at (Err x)
     map_unread i = record { is = λ k n. mapped k n (subst (MapIs v (case_bytes key) s c.at) i h.is) }
 
-    pub map_given : {id : Text} {t : ℕ} {o : Tally} → r ≡ maps.Map id t o → ParsesValue v key s c.at (value.Map id t o)
+    pub map_given : {id : Text} {t : ℕ} {o : Tally} → r ≡ Ok (id, t, o) → ParsesValue v key s c.at (Ok (Some (id, t, o)))
     map_given i = record {
       is = λ k n.
           let y = subst (MapIs v (case_bytes key) s c.at) i h.is in
@@ -167,10 +163,10 @@ module _ (s : Bytes) {end : ℕ} (f : end ≡ 2 + length (key_in s)) where
   equals : from (is 61) (drop 2 s) ≡ drop end s
   equals = from_at (is 61) s 2 ∙ ap (λ (i : ℕ). drop i s) (sym f)
 
-  pub no_key : end ≡ 2 → starts (ascii "##") s ≡ true → KeyedIs s key.Refused
+  pub no_key : end ≡ 2 → starts (ascii "##") s ≡ true → KeyedIs s None
   no_key e h = unkeyed s h (ap (λ (k : Bytes). not (empty k) && begins 61 (from (is 61) (drop 2 s))) (drop_of_length-le (key_in s) {i = 0} (omega arith)))
 
-  pub no_equals : length s ≤ end → starts (ascii "##") s ≡ true → KeyedIs s key.Refused
+  pub no_equals : length s ≤ end → starts (ascii "##") s ≡ true → KeyedIs s None
   unfolding begins
   no_equals e h = unkeyed s h (rw (equals, drop_of_length-le s e) (and-false (not (empty (key_in s)))))
 
@@ -184,10 +180,10 @@ module _ (s : Bytes) {end : ℕ} (f : end ≡ 2 + length (key_in s)) where
         let r = equals ∙ here s end l in
         keyed s h v ∙ rw (read_keyed, some_bytes (key_in s) (λ z. ne (omega arith)), from_begins 61 (drop 2 s) r) (ap (read_record_value v (key_in s)) (ap tail r ∙ ap (λ (i : ℕ). drop i s) (sym at)))
 
-    pub a_format : q ≡ true → starts (ascii "##") s ≡ true → KeyedIs s (key.FileFormat d)
+    pub a_format : q ≡ true → starts (ascii "##") s ≡ true → KeyedIs s (Some (key.FileFormat d))
     a_format e h = λ v. key_value h v ∙ value_version v (key_in s) (drop d.at s) (key_tested e)
 
-    pub a_key : q ≡ false → {j : MapKey} → j ≡ key_named p → starts (ascii "##") s ≡ true → KeyedIs s (key.Map j d)
+    pub a_key : q ≡ false → {j : MapKey} → j ≡ key_named p → starts (ascii "##") s ≡ true → KeyedIs s (Some (key.Map j d))
     a_key e i h = (subst (Named (key_in s)) (ap key_named (sym (b ∙ before_part (is 61) s 2 f)) ∙ sym i) (named (key_in s) (key_tested e)), omega arith, key_value h)
 
 pub ruleset keys = (no_key, no_equals, a_format, a_key)
@@ -195,38 +191,38 @@ pub ruleset keys = (no_key, no_equals, a_format, a_key)
 -- A record
 
 module _ (v : Version) (s : Bytes) {q : Bool} (a : q ≡ starts (ascii "##") s) where
-  pub no_prefix : not q ≡ true → ParsesRecord v s (read.Refused InvalidRecord)
+  pub no_prefix : not q ≡ true → ParsesRecord v s (Err InvalidRecord)
   unfolding read_record
   no_prefix e = record { is = rw (read_record, sym a ∙ not_true q e) }
 
-  module _ (e : not q ≡ false) (x : KeyParsed) (f : starts (ascii "##") s ≡ true → KeyedIs s x) where
+  module _ (e : not q ≡ false) (x : Option RecordKey) (f : starts (ascii "##") s ≡ true → KeyedIs s x) where
     hash : KeyedIs s x
     hash = f (sym a ∙ not_false q e)
 
-    pub key_unread : x ≡ key.Refused → ParsesRecord v s (read.Refused InvalidRecord)
+    pub key_unread : x ≡ None → ParsesRecord v s (Err InvalidRecord)
     key_unread g = record { is = subst (KeyedIs s) g hash v }
 
-    pub record_version : {d : Cursor} → x ≡ key.FileFormat d → {r : RecordRead} → r ≡ version_record (read_version (drop d.at s)) → ParsesRecord v s r
+    pub record_version : {d : Cursor} → x ≡ Some (key.FileFormat d) → {r : Result Record Refusal} → r ≡ version_record (read_version (drop d.at s)) → ParsesRecord v s r
     record_version {d} g {r} w = record { is = rw w (go (read_version (drop d.at s)) (subst (KeyedIs s) g hash v)) }
       where
         go : (a : Option Version) → read_record v s ≡ fileformat_read a → RecordIs v s (version_record a)
-        go none e = e
-        go (some u) e = e
+        go None e = e
+        go (Some u) e = e
 
-    module _ {j : MapKey} {d : Cursor} (g : x ≡ key.Map j d) {y : ValueParsed} (h : ParsesValue v j s d.at y) where
-      key_is : KeyedIs s (key.Map j d)
+    module _ {j : MapKey} {d : Cursor} (g : x ≡ Some (key.Map j d)) {y : Result (Option (Text × ℕ × Tally)) Refusal} (h : ParsesValue v j s d.at y) where
+      key_is : KeyedIs s (Some (key.Map j d))
       key_is = subst (KeyedIs s) g hash
 
-      parsed : {z : ValueParsed} → y ≡ z → ValueIs v (key_in s) s d.at z
+      parsed : {z : Result (Option (Text × ℕ × Tally)) Refusal} → y ≡ z → ValueIs v (key_in s) s d.at z
       parsed w = subst (ValueIs v (key_in s) s d.at) w (h.is (key_in s) key_is.0)
 
-      pub record_text_lem : y ≡ value.Text → ParsesRecord v s (read.Text d.at)
+      pub record_text_lem : y ≡ Ok None → ParsesRecord v s (Ok (read.Text d.at))
       record_text_lem w = record { is = (key_is.1, key_is.2 v ∙ parsed w) }
 
-      pub record_refused : {z : Refusal} → y ≡ value.Refused z → ParsesRecord v s (read.Refused z)
+      pub record_refused : {z : Refusal} → y ≡ Err z → ParsesRecord v s (Err z)
       record_refused w = record { is = key_is.2 v ∙ parsed w }
 
-      pub record_map : {id : Text} {t : ℕ} {o : Tally} → y ≡ value.Map id t o → ParsesRecord v s (read.Map (record { key = j; value = d.at; id = id; tag = t; tally = o }))
+      pub record_map : {id : Text} {t : ℕ} {o : Tally} → y ≡ Ok (Some (id, t, o)) → ParsesRecord v s (Ok (read.Map (record { key = j; value = d.at; id = id; tag = t; tally = o })))
       record_map w = let m = parsed w in
           let e : d.at + 1 ≡ fields_start (key_in s) = ap (◌+ 1) key_is.1 ∙ omega arith in
           record { is = (m.0, key_is.0, key_is.1, key_is.2 v ∙ m.1, ap (λ (i : ℕ). slotted (text_named v (key_in s) (ascii "ID") i m.0)) (sym e) ∙ m.2, m.3) }

@@ -4,7 +4,7 @@ use native.Mathlib.Omega.{arith}
 use mathlib.Core.Path.{◌≡◌, refl, sym, ap, subst, ◌∙◌}
 use mathlib.Core.Bool.{Bool, true, false, not, ◌||◌, ◌&&◌, false≢true}
 use mathlib.Core.List.{List, [], ◌∷◌, ◌++◌, map}
-use mathlib.Core.Option.{Option, none, some}
+use Rattle.std.specs.Prelude.{Option, None, Some, Result, Ok, Err}
 use lib.ListN.{length, drop}
 use lib.Seq.{drop-drop}
 use Rattle.values.specs.Bytes.{Bytes, ascii, empty, begins, same}
@@ -34,14 +34,7 @@ use Rattle.records.specs.declared.refusal.Refusal.{Refusal}
 use Rattle.records.specs.declared.refusal.Refusal.TheVariants.{InvalidMap, MissingId, MissingDescription}
 use Rattle.records.specs.declared.tag.Tag.{Tag}
 use Rattle.records.specs.declared.tag.Tag.TheVariants.{Id, Description}
-use Rattle.records.specs.declared.map.Slot.{Slot}
-use Rattle.records.specs.declared.map.Slot.TheVariants as slot
 use Rattle.records.specs.declared.map.Slots.{Slots}
-use Rattle.records.specs.declared.map.Prefix.{Prefix}
-use Rattle.records.specs.declared.map.Prefix.TheVariants as prefix
-use Rattle.records.specs.declared.map.FieldsRead.{FieldsRead}
-use Rattle.records.specs.declared.map.FieldsRead.TheVariants as fields
-use Rattle.records.specs.declared.map.MapRead.TheVariants as maps
 use Rattle.records.proofs.Refusals.{number_suc}
 use Rattle.records.proofs.Tags.{id_row}
 use Rattle.records.proofs.Walks.{first_alone}
@@ -49,11 +42,11 @@ use Rattle.rules.specs.Claims.{All}
 
 -- The opening of a map
 
-no_open : (at : ℕ) (q : Bool) → opened at q ≡ prefix.Missing → q ≡ false
+no_open : (at : ℕ) (q : Bool) → opened at q ≡ None → q ≡ false
 no_open at true e = never cc
 no_open at false e = refl
 
-is_open : (at : ℕ) (q : Bool) {d : Cursor} → opened at q ≡ prefix.Consumed d → (q ≡ true) × (at + 1 ≡ d.at)
+is_open : (at : ℕ) (q : Bool) {d : Cursor} → opened at q ≡ Some d → (q ≡ true) × (at + 1 ≡ d.at)
 is_open at true e = (refl, cc)
 is_open at false e = never cc
 
@@ -77,20 +70,20 @@ scan_refused : (v : Version) (k : Bytes) (z : Scan) {m : ℕ} → scan_refusal v
 unfolding map_refusal
 scan_refused v k z {m} e = scan_first (check_fields v k [] z.0) z.1 (missing v k z.0) (misdeclared v k z.0) m e
 
-module _ (v : Version) (key : MapKey) (s : Bytes) (c : Cursor) {r : Prefix} (a : r ≡ opens_at s c.at) where
-  pub map_unopened : r ≡ prefix.Missing → OpensMap v key s c.at (fields.Refused InvalidMap)
+module _ (v : Version) (key : MapKey) (s : Bytes) (c : Cursor) {r : Option Cursor} (a : r ≡ opens_at s c.at) where
+  pub map_unopened : r ≡ None → OpensMap v key s c.at (Err InvalidMap)
   unfolding read_map
   map_unopened e = record { is = rw (read_map, no_open c.at (begins 60 (drop c.at s)) (sym a ∙ e)) }
 
-  pub map_opened : {d : Cursor} → r ≡ prefix.Consumed d → (x : FieldsRead) → ReadsFields v key s d.at x → OpensMap v key s c.at x
+  pub map_opened : {d : Cursor} → r ≡ Some d → (x : Result (Slots × Tally) Refusal) → ReadsFields v key s d.at x → OpensMap v key s c.at x
   map_opened {d} e x f = record { is = go x (subst (λ (i : ℕ). ScanIs v (case_bytes key) i (fields_after v (case_bytes key) s i) x) (sym o.1) f.is) }
     where
       o : (begins 60 (drop c.at s) ≡ true) × (c.at + 1 ≡ d.at)
       o = is_open c.at (begins 60 (drop c.at s)) (sym a ∙ e)
 
-      go : (x : FieldsRead) → ScanIs v (case_bytes key) (c.at + 1) (fields_after v (case_bytes key) s (c.at + 1)) x → OpenIs v (case_bytes key) s c.at x
-      go (fields.Fields slots tally) h = (o.0, h)
-      go (fields.Refused y) h =
+      go : (x : Result (Slots × Tally) Refusal) → ScanIs v (case_bytes key) (c.at + 1) (fields_after v (case_bytes key) s (c.at + 1)) x → OpenIs v (case_bytes key) s c.at x
+      go (Ok (slots, tally)) h = (o.0, h)
+      go (Err y) h =
           let z = fields_after v (case_bytes key) s (c.at + 1) in
           let m = number_suc y in
           map_read v (case_bytes key) s c.at o.0 ∙ judged_suc z.0 (scan_refused v (case_bytes key) z (h ∙ m.1)) ∙ ap refuse (sym m.1)
@@ -99,13 +92,13 @@ pub ruleset openings = (map_unopened, map_opened)
 
 -- What is required
 
-abbrev pub is_filled : Slot → Bool
-is_filled slot.Empty = false
-is_filled (slot.Filled t g) = true
+abbrev pub is_filled : Option (Text × ℕ) → Bool
+is_filled None = false
+is_filled (Some (t, g)) = true
 
 filled_some : (o : Option (Bytes × Text)) → is_filled (slotted o) ≡ is_some o
-filled_some none = refl
-filled_some (some p) = refl
+filled_some None = refl
+filled_some (Some p) = refl
 
 text_some : (v : Version) (k name : Bytes) (at : ℕ) (fs : List Field) → is_some (text_named v k name at fs) ≡ is_some (field_named v k name fs)
 unfolding text_named field_named
@@ -196,7 +189,7 @@ pub record Fielded (v : Version) (k s : Bytes) (at : ℕ) (slots : Slots) (tally
   pub raw : All RawField fs
 
 module _ (v : Version) (k s : Bytes) (at : ℕ) (slots : Slots) (tally : Tally) where
-  pub fielded : OpenIs v k s at (fields.Fields slots tally) → Fielded v k s at slots tally
+  pub fielded : OpenIs v k s at (Ok (slots, tally)) → Fielded v k s at slots tally
   fielded o =
       let z = fields_after v k s (at + 1) in
       record {
@@ -213,10 +206,10 @@ abbrev pub Keeps : Bytes → Tag → Type 0
 Keeps k t = (is_kept t ≡ true) × (row_named (tag_name t) (rows (kind_of k)) ≡ tag_row t)
 
 module _ {v : Version} {k s : Bytes} {at : ℕ} {slots : Slots} {tally : Tally} (f : Fielded v k s at slots tally) where
-  pub holds : (t : Tag) → Keeps k t → {x : Slot} → get t slots ≡ x → slotted (text_named v k (tag_name t) (at + 1) f.fs) ≡ x
+  pub holds : (t : Tag) → Keeps k t → {x : Option (Text × ℕ)} → get t slots ≡ x → slotted (text_named v k (tag_name t) (at + 1) f.fs) ≡ x
   holds t a e = sym (f.held.each t a.0 a.1) ∙ e
 
-  pub has : (t : Tag) → Keeps k t → {x : Slot} → get t slots ≡ x → is_some (field_named v k (tag_name t) f.fs) ≡ is_filled x
+  pub has : (t : Tag) → Keeps k t → {x : Option (Text × ℕ)} → get t slots ≡ x → is_some (field_named v k (tag_name t) f.fs) ≡ is_filled x
   has t a {x} e =
       sym (text_some v k (tag_name t) (at + 1) f.fs)
       ∙ sym (filled_some (text_named v k (tag_name t) (at + 1) f.fs))
@@ -237,42 +230,42 @@ keeps_id k = (refl, id_row (kind_of k))
 
 -- Maps with an ID, and maps with an ID and a Description
 
-module _ (v : Version) (key : MapKey) (s : Bytes) (c : Cursor) {r : FieldsRead} (o : OpensMap v key s c.at r) where
-  pub map_refused : {x : Refusal} → r ≡ fields.Refused x → ParsesMap v key s c.at (maps.Refused x)
+module _ (v : Version) (key : MapKey) (s : Bytes) (c : Cursor) {r : Result (Slots × Tally) Refusal} (o : OpensMap v key s c.at r) where
+  pub map_refused : {x : Refusal} → r ≡ Err x → ParsesMap v key s c.at (Err x)
   map_refused e = record { is = subst (OpenIs v (case_bytes key) s c.at) e o.is }
 
-  module _ {slots : Slots} {tally : Tally} (e : r ≡ fields.Fields slots tally) where
+  module _ {slots : Slots} {tally : Tally} (e : r ≡ Ok (slots, tally)) where
     abbrev f : Fielded v (case_bytes key) s c.at slots tally
     f = fielded v (case_bytes key) s c.at slots tally (subst (OpenIs v (case_bytes key) s c.at) e o.is)
 
-    no_id : slots.id ≡ slot.Empty → {rs : List KnownField} → required (kind_of (case_bytes key)) ≡ id_field ∷ rs → ParsesMap v key s c.at (maps.Refused MissingId)
+    no_id : slots.id ≡ None → {rs : List KnownField} → required (kind_of (case_bytes key)) ≡ id_field ∷ rs → ParsesMap v key s c.at (Err MissingId)
     no_id i {rs} q = record { is = lacks f (asks_of f q ∙ asked_first (is_some (field_named v (case_bytes key) (ascii "ID") f.fs)) 13 _ (has f Id (keeps_id (case_bytes key)) i)) }
 
-    pub id_missing : slots.id ≡ slot.Empty → Identified key → ParsesMap v key s c.at (maps.Refused MissingId)
+    pub id_missing : slots.id ≡ None → Identified key → ParsesMap v key s c.at (Err MissingId)
     id_missing i d = no_id i d.needs
 
-    pub id_missing_too : slots.id ≡ slot.Empty → Described key → ParsesMap v key s c.at (maps.Refused MissingId)
+    pub id_missing_too : slots.id ≡ None → Described key → ParsesMap v key s c.at (Err MissingId)
     id_missing_too i d = no_id i d.needs
 
-    module _ {id : Text} {g : ℕ} (i : slots.id ≡ slot.Filled id g) where
+    module _ {id : Text} {g : ℕ} (i : slots.id ≡ Some (id, g)) where
       past_id : {rs : List KnownField} → required (kind_of (case_bytes key)) ≡ id_field ∷ rs → missing v (case_bytes key) f.fs ≡ first (map (asks v (case_bytes key) f.fs) rs)
       past_id q = asks_of f q ∙ asked_later (is_some (field_named v (case_bytes key) (ascii "ID") f.fs)) 14 _ (has f Id (keeps_id (case_bytes key)) i)
 
-      given : missing v (case_bytes key) f.fs ≡ 0 → reserved_pages (kind_of (case_bytes key)) ≡ [] → ParsesMap v key s c.at (maps.Map id g tally)
+      given : missing v (case_bytes key) f.fs ≡ 0 → reserved_pages (kind_of (case_bytes key)) ≡ [] → ParsesMap v key s c.at (Ok (id, g, tally))
       given m t = record {
         is = (f.fs, whole f m ∙ ap (λ (n : ℕ). judged n f.fs) (misdeclared_not v (case_bytes key) f.fs t), holds f Id (keeps_id (case_bytes key)) i, f.tallied);
       }
 
-      pub id_given : Identified key → ParsesMap v key s c.at (maps.Map id g tally)
+      pub id_given : Identified key → ParsesMap v key s c.at (Ok (id, g, tally))
       unfolding first
       id_given d = given (past_id d.needs) d.free
 
-      pub description_missing : slots.description ≡ slot.Empty → Described key → ParsesMap v key s c.at (maps.Refused MissingDescription)
+      pub description_missing : slots.description ≡ None → Described key → ParsesMap v key s c.at (Err MissingDescription)
       description_missing x d = record {
         is = lacks f (past_id d.needs ∙ asked_first (is_some (field_named v (case_bytes key) (ascii "Description") f.fs)) 16 [] (has f Description (refl, d.known) x));
       }
 
-      pub description_given : {t : Text} {h : ℕ} → slots.description ≡ slot.Filled t h → Described key → ParsesMap v key s c.at (maps.Map id g tally)
+      pub description_given : {t : Text} {h : ℕ} → slots.description ≡ Some (t, h) → Described key → ParsesMap v key s c.at (Ok (id, g, tally))
       unfolding first
       description_given x d =
           given (past_id d.needs ∙ asked_later (is_some (field_named v (case_bytes key) (ascii "Description") f.fs)) 17 [] (has f Description (refl, d.known) x)) d.free

@@ -1,4 +1,5 @@
 -- A field that is split without a branch on the bytes of its name. Assumes nothing.
+use Rattle.std.specs.Prelude.{Option, Some, None}
 use Prim.Native.Nat.{ℕ, zero, suc, ◌/◌, ◌%◌, ◌^◌, ◌≤◌, ◌<◌}
 use native.Mathlib.Omega.{arith}
 use mathlib.Core.Path.{◌≡◌, refl, sym, ◌∙◌}
@@ -11,14 +12,7 @@ use Rattle.values.specs.Field.{ends_key}
 use Rattle.values.specs.Places.{byte_at, value_placed, key_at, field_at}
 use Rattle.values.specs.declared.cursor.Cursor.{Cursor}
 use Rattle.values.specs.Value.{read_bare}
-use Rattle.values.specs.declared.cursor.ByteRead.{ByteRead}
-use Rattle.values.specs.declared.cursor.ByteRead.TheVariants.{Byte}
 use Rattle.values.specs.declared.string.Text.{Text}
-use Rattle.values.specs.declared.string.ValueRead.{ValueRead}
-use Rattle.values.specs.declared.string.ValueRead.TheVariants as value
-use Rattle.values.specs.declared.field.KeyRead.{KeyRead}
-use Rattle.values.specs.declared.field.KeyRead.TheVariants as key
-use Rattle.values.specs.declared.field.FieldRead.TheVariants as field
 use Rattle.values.proofs.Tests.{pass, fail, test, and_l, and_r, not_true}
 use Rattle.values.proofs.Scans.{last_key_byte}
 use Rattle.records.specs.Names.{ReadsBare}
@@ -66,17 +60,17 @@ name_ends_lem b = elim (test (ltb b 64)) [
 ]
 
 -- what answers the needs of `parse_bare`
-pub bare_none : (s : Bytes) (i : ℕ) → ReadsBare s i value.Refused
+pub bare_none : (s : Bytes) (i : ℕ) → ReadsBare s i None
 bare_none s i = record { is = λ e. cc }
 
-pub bare_is : (s : Bytes) (i : ℕ) {r : ByteRead} → r ≡ byte_at s i → {b : ℕ} {c : Cursor} → r ≡ Byte b c → (b ≡ 34 → ⊥) → {v : ValueRead} → v ≡ value_placed i (read_bare (drop i s)) → ReadsBare s i v
+pub bare_is : (s : Bytes) (i : ℕ) {r : Option (ℕ × Cursor)} → r ≡ byte_at s i → {b : ℕ} {c : Cursor} → r ≡ Some (b, c) → (b ≡ 34 → ⊥) → {v : Option (Text × Cursor)} → v ≡ value_placed i (read_bare (drop i s)) → ReadsBare s i v
 bare_is s i a e ne f = record { is = λ g. value_raw false s i a e ne refl f }
 
 pub ruleset bares = (bare_none, bare_is)
 
 -- what answers the needs of `split`
-module _ (m : Bool) (s : Bytes) (i : ℕ) {r : KeyRead} (a : r ≡ key_at s i) {e : ℕ} {c : Cursor} (b : r ≡ key.Key e c) (no : m ≡ false) {v : ValueRead} (f : ReadsBare s c.at v) where
-  pub skim_whole : {t : Text} {n : Cursor} → v ≡ value.Value t n → field.Field e t n ≡ field_at m s i
+module _ (m : Bool) (s : Bytes) (i : ℕ) {r : Option (ℕ × Cursor)} (a : r ≡ key_at s i) {e : ℕ} {c : Cursor} (b : r ≡ Some (e, c)) (no : m ≡ false) {v : Option (Text × Cursor)} (f : ReadsBare s c.at v) where
+  pub skim_whole : {t : Text} {n : Cursor} → v ≡ Some (t, n) → Some (e, t, n) ≡ field_at m s i
   skim_whole g = field_whole m s i a b (no_bracket m (part s i e) (rw no)) (f.is g) g
 
 pub ruleset skims = (field_keyless, skim_whole)

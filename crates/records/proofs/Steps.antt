@@ -4,7 +4,7 @@ use native.Mathlib.Omega.{arith}
 use mathlib.Core.Path.{◌≡◌, refl, sym, ap, ap₂, subst, ◌∙◌}
 use mathlib.Core.Bool.{Bool, true, false, ◌||◌, ◌&&◌, and_assoc, or_assoc, false≢true}
 use mathlib.Core.List.{List, [], ◌∷◌, ◌++◌, append-nil, tail}
-use mathlib.Core.Option.{Option, none, some}
+use Rattle.std.specs.Prelude.{Option, None, Some, Result, Ok, Err}
 use lib.ListN.{length, drop, take, length-drop}
 use lib.Seq.{drop-drop}
 use Rattle.values.specs.Bytes.{Bytes, ascii, same, part}
@@ -13,8 +13,6 @@ use Rattle.values.specs.Field.{Field, read_field}
 use Rattle.values.specs.Places.{cursor_at, text_at, field_at}
 use Rattle.values.specs.declared.cursor.Cursor.{Cursor}
 use Rattle.values.specs.declared.string.Text.{Text}
-use Rattle.values.specs.declared.field.FieldRead.{FieldRead}
-use Rattle.values.specs.declared.field.FieldRead.TheVariants as read
 use Rattle.values.proofs.Tests.{Test, pass, fail, test, and_l, and_r, both, never}
 use Rattle.values.proofs.Sames.{same_sound, differ}
 use Rattle.values.proofs.Lists.{on_some}
@@ -37,15 +35,9 @@ use Rattle.records.specs.declared.refusal.Refusal.{Refusal}
 use Rattle.records.specs.declared.refusal.Refusal.TheVariants.{InvalidField, DuplicateTag, InvalidMap}
 use Rattle.records.specs.declared.tag.Tag.{Tag}
 use Rattle.records.specs.declared.tag.Tag.TheVariants.{Id, Number, ValueType, Description, Length, Md5, Url, Idx, Other}
-use Rattle.records.specs.declared.map.Slot.{Slot}
-use Rattle.records.specs.declared.map.Slot.TheVariants as slot
 use Rattle.records.specs.declared.map.Slots.{Slots}
-use Rattle.records.specs.declared.map.Check.{Check}
-use Rattle.records.specs.declared.map.Check.TheVariants as check
 use Rattle.records.specs.declared.map.After.{After as AfterRead}
 use Rattle.records.specs.declared.map.After.TheVariants as afters
-use Rattle.records.specs.declared.map.FieldTaken.{FieldTaken}
-use Rattle.records.specs.declared.map.FieldTaken.TheVariants as taken
 use Rattle.records.specs.declared.map.FieldStep.TheVariants as step
 use Rattle.records.proofs.Refusals.{number_suc}
 use Rattle.records.proofs.Keys.{kind_by_case}
@@ -76,16 +68,16 @@ module _ (v : Version) (k field : Bytes) (t : Tag) (a : tag_row t ≡ known_name
     unkept_key fs (and_r (is_required (known_named v k f.key)) _ h),
   )
 
-filled_some : (o : Option (Bytes × Text)) {x : Text} {g : ℕ} → slotted o ≡ slot.Filled x g → is_some o ≡ true
-filled_some none e = never cc
-filled_some (some p) e = refl
+filled_some : (o : Option (Bytes × Text)) {x : Text} {g : ℕ} → slotted o ≡ Some (x, g) → is_some o ≡ true
+filled_some None e = never cc
+filled_some (Some p) e = refl
 
-empty_none : (o : Option (Bytes × Text)) → slotted o ≡ slot.Empty → o ≡ none
-empty_none none e = refl
-empty_none (some p) e = never cc
+empty_none : (o : Option (Bytes × Text)) → slotted o ≡ None → o ≡ None
+empty_none None e = refl
+empty_none (Some p) e = never cc
 
 module _ (x : MapContext) (s : Bytes) (at : ℕ) (field : Bytes) (t : Tag) (slots : Slots) {q : Bool} (a : q ≡ is_kept t) where
-  held_in : q ≡ true → {y : Slot} → y ≡ get t slots → (before : List Field) → tag_row t ≡ known_named (version_in x) (key_bytes x) field → Walk x s before at slots
+  held_in : q ≡ true → {y : Option (Text × ℕ)} → y ≡ get t slots → (before : List Field) → tag_row t ≡ known_named (version_in x) (key_bytes x) field → Walk x s before at slots
       → (y ≡ slotted (text_named (version_in x) (key_bytes x) (tag_name t) x.start before)) × (is_some (text_named (version_in x) (key_bytes x) (tag_name t) x.start before) ≡ is_in (name_of (version_in x) (key_bytes x) field) (names_of (version_in x) (key_bytes x) before))
   held_in e g before b w =
       let i = sym a ∙ e in (
@@ -93,12 +85,12 @@ module _ (x : MapContext) (s : Bytes) (at : ℕ) (field : Bytes) (t : Tag) (slot
         text_in (version_in x) (key_bytes x) (tag_name t) x.start before ∙ rw (kept_name (version_in x) (key_bytes x) field t b i),
       )
 
-  pub kept_filled : q ≡ true → {y : Slot} → y ≡ get t slots → {z : Text} {g : ℕ} → y ≡ slot.Filled z g → Repeats x s at field t slots true
+  pub kept_filled : q ≡ true → {y : Option (Text × ℕ)} → y ≡ get t slots → {z : Text} {g : ℕ} → y ≡ Some (z, g) → Repeats x s at field t slots true
   kept_filled e g f = record {
     is = λ before b w f' rest rd kf. let h = held_in e g before b w in sym (sym h.1 ∙ filled_some (text_named (version_in x) (key_bytes x) (tag_name t) x.start before) (sym h.0 ∙ f));
   }
 
-  pub kept_empty : q ≡ true → {y : Slot} → y ≡ get t slots → y ≡ slot.Empty → Repeats x s at field t slots false
+  pub kept_empty : q ≡ true → {y : Option (Text × ℕ)} → y ≡ get t slots → y ≡ None → Repeats x s at field t slots false
   kept_empty e g f = record {
     is = λ before b w f' rest rd kf. let h = held_in e g before b w in sym (sym h.1 ∙ rw (empty_none (text_named (version_in x) (key_bytes x) (tag_name t) x.start before) (sym h.0 ∙ f)));
   }
@@ -127,7 +119,7 @@ abbrev pick : {A : Type 0} → Bool → A → A → A
 pick true x y = x
 pick false x y = y
 
-put_each : (g : Tag) (x : Slot) (o : Bool) (slots : Slots) → put_slot g x o slots ≡ record {
+put_each : (g : Tag) (x : Option (Text × ℕ)) (o : Bool) (slots : Slots) → put_slot g x o slots ≡ record {
   id = pick (same (tag_name g) (ascii "ID")) x slots.id;
   number = pick (same (tag_name g) (ascii "Number")) x slots.number;
   kind = pick (same (tag_name g) (ascii "Type")) x slots.kind;
@@ -146,7 +138,7 @@ put_each Url x o slots = refl
 put_each Idx x o slots = refl
 put_each Other x o slots = refl
 
-get_put : (g u : Tag) (x : Slot) (o : Bool) (slots : Slots) → is_kept u ≡ true → get u (put_slot g x o slots) ≡ pick (same (tag_name g) (tag_name u)) x (get u slots)
+get_put : (g u : Tag) (x : Option (Text × ℕ)) (o : Bool) (slots : Slots) → is_kept u ≡ true → get u (put_slot g x o slots) ≡ pick (same (tag_name g) (tag_name u)) x (get u slots)
 get_put g Id x o slots e = rw (put_each g x o slots)
 get_put g Number x o slots e = rw (put_each g x o slots)
 get_put g ValueType x o slots e = rw (put_each g x o slots)
@@ -157,7 +149,7 @@ get_put g Url x o slots e = absurd (false≢true e)
 get_put g Idx x o slots e = absurd (false≢true e)
 get_put g Other x o slots e = absurd (false≢true e)
 
-plain_put : (g : Tag) (x : Slot) (o : Bool) (slots : Slots) → (put_slot g x o slots).plain ≡ (slots.plain && is_kept g)
+plain_put : (g : Tag) (x : Option (Text × ℕ)) (o : Bool) (slots : Slots) → (put_slot g x o slots).plain ≡ (slots.plain && is_kept g)
 plain_put g x o slots = rw (put_each g x o slots) (go (is_kept g) slots.plain)
   where
     go : (b p : Bool) → pick b p false ≡ (p && b)
@@ -166,16 +158,16 @@ plain_put g x o slots = rw (put_each g x o slots) (go (is_kept g) slots.plain)
     go false true = refl
     go false false = refl
 
-odd_put : (g : Tag) (x : Slot) (o : Bool) (slots : Slots) → (put_slot g x o slots).odd ≡ o
+odd_put : (g : Tag) (x : Option (Text × ℕ)) (o : Bool) (slots : Slots) → (put_slot g x o slots).odd ≡ o
 odd_put g x o slots = rw (put_each g x o slots)
 
-none_some : (o : Option (Bytes × Text)) → is_some o ≡ false → o ≡ none
-none_some none e = refl
-none_some (some p) e = cc
+none_some : (o : Option (Bytes × Text)) → is_some o ≡ false → o ≡ None
+none_some None e = refl
+none_some (Some p) e = cc
 
-or_none : (o : Option (Bytes × Text)) → or_else o none ≡ o
-or_none none = refl
-or_none (some p) = refl
+or_none : (o : Option (Bytes × Text)) → or_else o None ≡ o
+or_none None = refl
+or_none (Some p) = refl
 
 kept_snoc : (v : Version) (k : Bytes) (before : List Field) (f : Field) → all_kept v k (before ++ f ∷ []) ≡ (all_kept v k before && is_required (known_named v k f.key))
 kept_snoc v k [] f = and-true (is_required (known_named v k f.key))
@@ -196,8 +188,8 @@ odd_snoc v k (g ∷ gs) f = rw (odd_snoc v k gs f) (sym (or_assoc (is_odd_field 
 
 module _ (v : Version) (k : Bytes) (m : Bool) (s : Bytes) (start : ℕ) (before : List Field) (at : ℕ) (slots : Slots) (f : Field) (g : Tag) (tag : tag_row g ≡ known_named v k f.key)
     (fields : FieldsFrom m s start before at) (held : Held v k start before slots) (fresh : is_in (name_of v k f.key) (names_of v k before) ≡ false) {o : Bool} (spelled : o ≡ (slots.odd || is_odd_field v k f)) where
-  abbrev filled : Slot
-  filled = slot.Filled (text_at (at + length f.key + 1) f.value) (tag_of f.key)
+  abbrev filled : Option (Text × ℕ)
+  filled = Some (text_at (at + length f.key + 1) f.value, tag_of f.key)
 
   put_held : Held v k start (before ++ f ∷ []) (put_slot g filled o slots)
   unfolding text_named
@@ -228,8 +220,8 @@ more_is e = cc
 comma_here : (s : Bytes) (i : ℕ) (t : Bytes) → after (drop i s) ≡ more t → drop i s ≡ 44 ∷ drop (i + 1) s
 comma_here s i t e = let d = after_more (drop i s) e in d ∙ ap (44 ∷◌) (sym (ap tail d) ∙ drop-drop 1 i s)
 
-module _ (x : MapContext) (s : Bytes) (at : ℕ) (slots : Slots) {r : FieldRead} (a : r ≡ field_at x.brackets s at) where
-  pub field_unread : r ≡ read.Refused → TakesField x s at slots (taken.Refused InvalidField)
+module _ (x : MapContext) (s : Bytes) (at : ℕ) (slots : Slots) {r : Option (ℕ × Text × Cursor)} (a : r ≡ field_at x.brackets s at) where
+  pub field_unread : r ≡ None → TakesField x s at slots (Err InvalidField)
   unfolding field_at first
   field_unread e = record { moves = tt; is = λ before w fuel h. go before w (see_field (read_field x.brackets (drop at s))) fuel }
     where
@@ -237,8 +229,8 @@ module _ (x : MapContext) (s : Bytes) (at : ℕ) (slots : Slots) {r : FieldRead}
       go before w (no_field u) fuel = rw (scan_none fuel x.brackets (drop at s) u, append-nil before, w.fine)
       go before w (a_field p u) fuel = let z = rw u at (sym a ∙ e) in never cc
 
-  module _ {e : ℕ} {t : Text} {n : Cursor} (b : r ≡ read.Field e t n) {p : Bytes} (c : p ≡ take (e - at) (drop at s)) (g : Tag) (d : tag_row g ≡ known_named (version_in x) (key_bytes x) p)
-      {w : Bytes} (i : w ≡ take (t.end - t.start) (drop t.start s)) (y : Check) (j : Checked y (raw_refusal (version_in x) (kind_by x.key) w t.quoted (tag_row g)) (odd_value w (tag_row g))) where
+  module _ {e : ℕ} {t : Text} {n : Cursor} (b : r ≡ Some (e, t, n)) {p : Bytes} (c : p ≡ take (e - at) (drop at s)) (g : Tag) (d : tag_row g ≡ known_named (version_in x) (key_bytes x) p)
+      {w : Bytes} (i : w ≡ take (t.end - t.start) (drop t.start s)) (y : Result Bool Refusal) (j : Checked y (raw_refusal (version_in x) (kind_by x.key) w t.quoted (tag_row g)) (odd_value w (tag_row g))) where
     told : FieldHere x.brackets s at e t n
     told = field_here x.brackets s at (sym a ∙ b)
 
@@ -258,7 +250,7 @@ module _ (x : MapContext) (s : Bytes) (at : ℕ) (slots : Slots) {r : FieldRead}
         (known_named (version_in x) (key_bytes x) f.key)
         ∙ rw (← tag_is, kind_by_case x.key, ← vt.0, ← vt.1, ← i) (sym j.refusal)
 
-    odd_is : {o : Bool} → y ≡ check.Passed o → o ≡ is_odd_field (version_in x) (key_bytes x) f
+    odd_is : {o : Bool} → y ≡ Ok o → o ≡ is_odd_field (version_in x) (key_bytes x) f
     odd_is u =
         let vt = value_text t.quoted (part s t.start t.end) told.value in
         subst (OddIs (odd_value w (tag_row g))) u j.spelled
@@ -272,7 +264,7 @@ module _ (x : MapContext) (s : Bytes) (at : ℕ) (slots : Slots) {r : FieldRead}
         let u = scan_first x.brackets (drop at s) told.read fuel l in
         rw (u.1, h u.0) (first_suc z ((scan fuel x.brackets (drop at s)).1 ∷ []))
 
-    pub field_checked : {q : Refusal} → y ≡ check.Refused q → TakesField x s at slots (taken.Refused q)
+    pub field_checked : {q : Refusal} → y ≡ Err q → TakesField x s at slots (Err q)
     field_checked {q} u = record {
       moves = tt;
       is = λ before l.
@@ -280,17 +272,17 @@ module _ (x : MapContext) (s : Bytes) (at : ℕ) (slots : Slots) {r : FieldRead}
           λ fuel h. refused_at_lem before (value_refused (version_in x) (key_bytes x) before l.fine f (refusal_is ∙ ap check_number u ∙ o.1)) fuel h ∙ sym o.1;
     }
 
-    module _ {odd : Bool} (u : y ≡ check.Passed odd) {q : Bool} (rep : Repeats x s at p g slots q) where
+    module _ {odd : Bool} (u : y ≡ Ok odd) {q : Bool} (rep : Repeats x s at p g slots q) where
       passes : value_refusal (version_in x) (kind_of (key_bytes x)) (meaning_of f.value) (known_named (version_in x) (key_bytes x) f.key) ≡ 0
       passes = refusal_is ∙ ap check_number u
 
       repeated : (before : List Field) → Walk x s before at slots → q ≡ is_in (name_of (version_in x) (key_bytes x) f.key) (names_of (version_in x) (key_bytes x) before)
       repeated before l = rw key_is at (rep.is before d l f (drop n.at s) told.read key_is)
 
-      pub field_repeated : q ≡ true → TakesField x s at slots (taken.Refused DuplicateTag)
+      pub field_repeated : q ≡ true → TakesField x s at slots (Err DuplicateTag)
       field_repeated h = record { moves = tt; is = λ before l. refused_at_lem before (name_refused (version_in x) (key_bytes x) before l.fine f passes (sym (repeated before l) ∙ h)) }
 
-      pub field_taken : q ≡ false → {tag : ℕ} → tag ≡ tag_of p → {o : Bool} → o ≡ (slots.odd || odd) → TakesField x s at slots (taken.Field g t.start t.end t.quoted tag o n)
+      pub field_taken : q ≡ false → {tag : ℕ} → tag ≡ tag_of p → {o : Bool} → o ≡ (slots.odd || odd) → TakesField x s at slots (Ok (g, t.start, t.end, t.quoted, tag, o, n))
       field_taken h {tag} tg {o} od =
           let b' = told.begun in
           let o' = told.ordered in
@@ -306,7 +298,7 @@ module _ (x : MapContext) (s : Bytes) (at : ℕ) (slots : Slots) {r : FieldRead}
                   size = told.next;
                   fine = field_fine (version_in x) (key_bytes x) before l.fine f passes fresh;
                   held =
-                      subst (λ (z : Slot). Held (version_in x) (key_bytes x) x.start (before ++ f ∷ []) (put_slot g z o slots)) (sym (ap₂ slot.Filled told.text (tg ∙ ap tag_of key_is)))
+                      subst (λ (z : Option (Text × ℕ)). Held (version_in x) (key_bytes x) x.start (before ++ f ∷ []) (put_slot g z o slots)) (sym (ap₂ (λ (a : Text) (b : ℕ). Some (a, b)) told.text (tg ∙ ap tag_of key_is)))
                       (put_held (version_in x) (key_bytes x) x.brackets s x.start before at slots f g tag_is l.fields l.held fresh (od ∙ ap (λ (b : Bool). slots.odd || b) (odd_is u)));
                 };
           }
@@ -315,18 +307,18 @@ pub ruleset takes = (field_unread, field_checked, field_repeated, field_taken)
 
 -- What follows it
 
-module _ (x : MapContext) (s : Bytes) (at : ℕ) (slots : Slots) (r : FieldTaken) (a : TakesField x s at slots r) where
-  pub step_refused : {y : Refusal} → r ≡ taken.Refused y → ReadsField x s at slots (step.Refused y)
+module _ (x : MapContext) (s : Bytes) (at : ℕ) (slots : Slots) (r : Result (Tag × ℕ × ℕ × Bool × ℕ × Bool × Cursor) Refusal) (a : TakesField x s at slots r) where
+  pub step_refused : {y : Refusal} → r ≡ Err y → ReadsField x s at slots (Err y)
   step_refused e = record { moves = tt; is = λ before l. subst (TakenIs x s before at slots) e (a.is before l) }
 
-  module _ {g : Tag} {b d : ℕ} {q : Bool} {m : ℕ} {o : Bool} {n : Cursor} (e : r ≡ taken.Field g b d q m o n) {z : AfterRead} (af : z ≡ after_at s n.at) where
+  module _ {g : Tag} {b d : ℕ} {q : Bool} {m : ℕ} {o : Bool} {n : Cursor} (e : r ≡ Ok (g, b, d, q, m, o, n)) {z : AfterRead} (af : z ≡ after_at s n.at) where
     took : (before : List Field) → Walk x s before at slots → Taken x s before at slots g (filled_as b d q m) o n.at
     took before l = subst (TakenIs x s before at slots) e (a.is before l)
 
-    pub step_next : {y : Cursor} → z ≡ afters.More y → ReadsField x s at slots (step.Next y g b d q m o)
+    pub step_next : {y : Cursor} → z ≡ afters.More y → ReadsField x s at slots (Ok (step.Next y g b d q m o))
     step_next {y} c = go (see_after (after (drop n.at s)))
       where
-        go : SeenAfter (after (drop n.at s)) → ReadsField x s at slots (step.Next y g b d q m o)
+        go : SeenAfter (after (drop n.at s)) → ReadsField x s at slots (Ok (step.Next y g b d q m o))
         go (was_more rest w) =
             let u : cursor_at (n.at + 1) ≡ y = more_is (sym (rw w at af) ∙ c) in
             let comma = comma_here s n.at rest w in
@@ -336,7 +328,7 @@ module _ (x : MapContext) (s : Bytes) (at : ℕ) (slots : Slots) (r : FieldTaken
               moves = (omega arith, omega arith);
               is = λ before l.
                   let f = took before l in
-                  let then = f.read ∙ ap (λ (r : Bytes). some (f.field, r)) (comma ∙ ap (λ (i : ℕ). 44 ∷ drop (i + 1) s) f.size) in (
+                  let then = f.read ∙ ap (λ (r : Bytes). Some (f.field, r)) (comma ∙ ap (λ (i : ℕ). 44 ∷ drop (i + 1) s) f.size) in (
                     f.field,
                     record {
                       fields = subst (FieldsFrom x.brackets s x.start (before ++ f.field ∷ [])) (ap (λ (i : ℕ). i + 1) (sym f.size)) (fields_snoc x.brackets s x.start before at f.field l.fields then);
@@ -348,7 +340,7 @@ module _ (x : MapContext) (s : Bytes) (at : ℕ) (slots : Slots) (r : FieldTaken
         go (was_done w) = let q' = sym (rw w at af) ∙ c in never cc
         go (was_wrong w) = let q' = sym (rw w at af) ∙ c in never cc
 
-    pub step_last : z ≡ afters.Closed → {k : Slot} → k ≡ filled_as b d q m → {left : Slots} → left ≡ put_slot g k o slots → ReadsField x s at slots (step.Last left)
+    pub step_last : z ≡ afters.Closed → {k : Option (Text × ℕ)} → k ≡ filled_as b d q m → {left : Slots} → left ≡ put_slot g k o slots → ReadsField x s at slots (Ok (step.Last left))
     step_last c {k} w {left} p = record {
       moves = tt;
       is = λ before l. let f = took before l in (f.field, rw (p, w) f.held, f.fine, λ fuel h. scan_done x.brackets (drop at s) f.read fuel h (go (see_after (after (drop n.at s)))));
@@ -359,7 +351,7 @@ module _ (x : MapContext) (s : Bytes) (at : ℕ) (slots : Slots) (r : FieldTaken
         go (was_more q w) = let q' = sym (rw w at af) ∙ c in never cc
         go (was_wrong w) = let q' = sym (rw w at af) ∙ c in never cc
 
-    pub step_wrong : z ≡ afters.Other → ReadsField x s at slots (step.Refused InvalidMap)
+    pub step_wrong : z ≡ afters.Other → ReadsField x s at slots (Err InvalidMap)
     unfolding first
     step_wrong c = record {
       moves = tt;

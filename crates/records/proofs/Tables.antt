@@ -1,7 +1,7 @@
 -- The code's texts of reserved rows, one for each table and each length of an ID, are the rules' tables: computed by the checker. Assumes nothing.
 use mathlib.Core.Path.{◌≡◌, refl}
 use mathlib.Core.List.{[], ◌∷◌, ◌++◌}
-use mathlib.Core.Option.{Option, none}
+use Rattle.std.specs.Prelude.{Option, None}
 use lib.ListN.{length}
 use Rattle.values.specs.Bytes.{Bytes, ascii}
 use Rattle.rules.specs.Known.{Number as Asked}
@@ -41,7 +41,7 @@ module _ (id : Bytes) where
   unfolding rows_in
   info_4_3_of_9 e f = length_told (info_rows ++ info_rows4_3) (ascii "VALIDATED0 fIMPRECISE0 f") 9 refl id e f
 
-  pub info_4_3_of_none : (length id ≡ 2 → ⊥) → (length id ≡ 3 → ⊥) → (length id ≡ 4 → ⊥) → (length id ≡ 5 → ⊥) → (length id ≡ 6 → ⊥) → (length id ≡ 7 → ⊥) → (length id ≡ 9 → ⊥) → Is-info-4-3 none
+  pub info_4_3_of_none : (length id ≡ 2 → ⊥) → (length id ≡ 3 → ⊥) → (length id ≡ 4 → ⊥) → (length id ≡ 5 → ⊥) → (length id ≡ 6 → ⊥) → (length id ≡ 7 → ⊥) → (length id ≡ 9 → ⊥) → Is-info-4-3 None
   info_4_3_of_none n2 n3 n4 n5 n6 n7 n9 = length_none (info_rows ++ info_rows4_3) (2 ∷ 3 ∷ 4 ∷ 5 ∷ 6 ∷ 7 ∷ 9 ∷ []) refl id (n2, (n3, (n4, (n5, (n6, (n7, (n9, tt)))))))
 
   abbrev Is-info-4-4 : Option (Asked × Bytes) → Type 0
@@ -75,7 +75,7 @@ module _ (id : Bytes) where
   unfolding rows_in
   info_4_4_of_9 e f = length_told (info_rows ++ info_rows4_4) (ascii "VALIDATED0 fIMPRECISE0 fEVENTTYPEA S") 9 refl id e f
 
-  pub info_4_4_of_none : (length id ≡ 2 → ⊥) → (length id ≡ 3 → ⊥) → (length id ≡ 4 → ⊥) → (length id ≡ 5 → ⊥) → (length id ≡ 6 → ⊥) → (length id ≡ 7 → ⊥) → (length id ≡ 9 → ⊥) → Is-info-4-4 none
+  pub info_4_4_of_none : (length id ≡ 2 → ⊥) → (length id ≡ 3 → ⊥) → (length id ≡ 4 → ⊥) → (length id ≡ 5 → ⊥) → (length id ≡ 6 → ⊥) → (length id ≡ 7 → ⊥) → (length id ≡ 9 → ⊥) → Is-info-4-4 None
   info_4_4_of_none n2 n3 n4 n5 n6 n7 n9 = length_none (info_rows ++ info_rows4_4) (2 ∷ 3 ∷ 4 ∷ 5 ∷ 6 ∷ 7 ∷ 9 ∷ []) refl id (n2, (n3, (n4, (n5, (n6, (n7, (n9, tt)))))))
 
   abbrev Is-format-4-3 : Option (Asked × Bytes) → Type 0
@@ -93,7 +93,7 @@ module _ (id : Bytes) where
   unfolding rows_in
   format_4_3_of_4 e f = length_told (format_rows ++ format_rows4_3) (ascii "AHAP1 I") 4 refl id e f
 
-  pub format_4_3_of_none : (length id ≡ 2 → ⊥) → (length id ≡ 3 → ⊥) → (length id ≡ 4 → ⊥) → Is-format-4-3 none
+  pub format_4_3_of_none : (length id ≡ 2 → ⊥) → (length id ≡ 3 → ⊥) → (length id ≡ 4 → ⊥) → Is-format-4-3 None
   format_4_3_of_none n2 n3 n4 = length_none (format_rows ++ format_rows4_3) (2 ∷ 3 ∷ 4 ∷ []) refl id (n2, (n3, (n4, tt)))
 
   abbrev Is-format-4-4 : Option (Asked × Bytes) → Type 0
@@ -111,7 +111,7 @@ module _ (id : Bytes) where
   unfolding rows_in
   format_4_4_of_4 e f = length_told (format_rows ++ format_rows4_4) (ascii "AHAP1 ICICN2 F") 4 refl id e f
 
-  pub format_4_4_of_none : (length id ≡ 2 → ⊥) → (length id ≡ 3 → ⊥) → (length id ≡ 4 → ⊥) → Is-format-4-4 none
+  pub format_4_4_of_none : (length id ≡ 2 → ⊥) → (length id ≡ 3 → ⊥) → (length id ≡ 4 → ⊥) → Is-format-4-4 None
   format_4_4_of_none n2 n3 n4 = length_none (format_rows ++ format_rows4_4) (2 ∷ 3 ∷ 4 ∷ []) refl id (n2, (n3, (n4, tt)))
 
   abbrev Is-format-4-5 : Option (Asked × Bytes) → Type 0
@@ -129,7 +129,7 @@ module _ (id : Bytes) where
   unfolding rows_in
   format_4_5_of_4 e f = length_told (format_rows ++ format_rows4_4 ++ format_rows4_5) (ascii "AHAP1 ICICN2 FLADFLRILADRLRI") 4 refl id e f
 
-  pub format_4_5_of_none : (length id ≡ 2 → ⊥) → (length id ≡ 3 → ⊥) → (length id ≡ 4 → ⊥) → Is-format-4-5 none
+  pub format_4_5_of_none : (length id ≡ 2 → ⊥) → (length id ≡ 3 → ⊥) → (length id ≡ 4 → ⊥) → Is-format-4-5 None
   format_4_5_of_none n2 n3 n4 = length_none (format_rows ++ format_rows4_4 ++ format_rows4_5) (2 ∷ 3 ∷ 4 ∷ []) refl id (n2, (n3, (n4, tt)))
 
 pub ruleset info_4_3 = (info_4_3_of_2, info_4_3_of_3, info_4_3_of_4, info_4_3_of_5, info_4_3_of_6, info_4_3_of_7, info_4_3_of_9, info_4_3_of_none)

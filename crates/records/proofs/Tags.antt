@@ -3,10 +3,10 @@ use Prim.Native.Nat.{ℕ}
 use mathlib.Core.Path.{◌≡◌, refl, sym, ap, ◌∙◌, ap₂}
 use mathlib.Core.Bool.{Bool, true, false, not, ◌||◌, ◌&&◌, and_assoc, false≢true}
 use mathlib.Core.List.{List, [], ◌∷◌}
-use mathlib.Core.Option.{Option, none, some}
+use Rattle.std.specs.Prelude.{Option, None, Some}
 use lib.Dec.{eqb}
 use Rattle.values.specs.Bytes.{Bytes, ascii, same}
-use Rattle.values.proofs.Tests.{pass, fail, test, not_true, not_false, both}
+use Rattle.values.proofs.Tests.{pass, fail, test, both}
 use Rattle.values.proofs.Sames.{same_sound, same_self}
 use Rattle.rules.specs.Version.{Version, v4_3, earlier}
 use Rattle.rules.specs.Known.{Kind, INFO, FILTER, FORMAT, ALT, contig, other, KnownField, id_field, rows, row_named, kind_of, names_id, name_of, tag_of}
@@ -21,7 +21,7 @@ use Rattle.records.proofs.Keys.{kind_by_case}
 
 -- the rows are tried one after the other; q is what the code's test answered
 module _ (r : KnownField) (rs : List KnownField) (field : Bytes) {q : Bool} (a : q ≡ same r.name field) where
-  pub row_here : q ≡ true → some r ≡ row_named field (r ∷ rs)
+  pub row_here : q ≡ true → Some r ≡ row_named field (r ∷ rs)
   unfolding row_named
   row_here e = rw (row_named, sym a ∙ e)
 
@@ -29,7 +29,7 @@ module _ (r : KnownField) (rs : List KnownField) (field : Bytes) {q : Bool} (a :
   unfolding row_named
   row_later e f = rw (row_named, sym a ∙ e) f
 
-pub row_none : (field : Bytes) → none ≡ row_named field []
+pub row_none : (field : Bytes) → None ≡ row_named field []
 unfolding row_named
 row_none field = refl
 
@@ -82,11 +82,11 @@ module _ (v : Version) (k field : Bytes) {q : Bool} (a : q ≡ same (ascii "ID")
         own_name e ∙ sym (and_assoc (same k (ascii "PEDIGREE")) (earlier v v4_3) (same field (ascii "Child") || same field (ascii "Derived")))
         ∙ ap (◌&& (same field (ascii "Child") || same field (ascii "Derived"))) (sym b ∙ f)
 
-    pub no_lineage : not l ≡ true → false ≡ same (ascii "ID") (name_of v k field)
-    no_lineage f = sym (by_name (not_true l f))
+    pub no_lineage : l ≡ false → false ≡ same (ascii "ID") (name_of v k field)
+    no_lineage f = sym (by_name f)
 
-    pub by_lineage : not l ≡ false → {t : ℕ} → t ≡ tag_of field → not (eqb t 0) ≡ same (ascii "ID") (name_of v k field)
-    by_lineage f c = ap (λ (t : ℕ). not (eqb t 0)) c ∙ lineage_tag field ∙ sym (by_name (not_false l f))
+    pub by_lineage : l ≡ true → {t : ℕ} → t ≡ tag_of field → not (eqb t 0) ≡ same (ascii "ID") (name_of v k field)
+    by_lineage f c = ap (λ (t : ℕ). not (eqb t 0)) c ∙ lineage_tag field ∙ sym (by_name f)
 
 pub ruleset id_names = (id_itself, no_lineage, by_lineage)
 
@@ -99,12 +99,12 @@ id_first ALT = refl
 id_first contig = refl
 id_first other = refl
 
-pub id_row : (kind : Kind) → row_named (ascii "ID") (rows kind) ≡ some id_field
+pub id_row : (kind : Kind) → row_named (ascii "ID") (rows kind) ≡ Some id_field
 unfolding row_named
 id_row kind = rw (id_first kind, row_named, same_self (ascii "ID"))
 
 module _ (v : Version) (key : MapKey) (field : Bytes) {q : Bool} (a : q ≡ same (ascii "ID") (name_of v (case_bytes key) field)) where
-  pub tag_named_id : q ≡ true → some id_field ≡ known_named v (case_bytes key) field
+  pub tag_named_id : q ≡ true → Some id_field ≡ known_named v (case_bytes key) field
   tag_named_id e = rw (← same_sound (ascii "ID") (name_of v (case_bytes key) field) (sym a ∙ e)) (sym (id_row (kind_of (case_bytes key))))
 
   pub tag_after_id : q ≡ false → {o : Option KnownField} → o ≡ row_named field (after_id (kind_by key)) → o ≡ known_named v (case_bytes key) field
@@ -122,8 +122,8 @@ pub ruleset names = (tag_named_id, tag_after_id)
 -- What a tag says of its field's name
 
 row_name : (name : Bytes) (rs : List KnownField) (o : Option KnownField) → o ≡ row_named name rs → is_required o ≡ true → name_in o ≡ name
-row_name name rs none e f = absurd (false≢true f)
-row_name name rs (some r) e f = row_is name rs (sym e)
+row_name name rs None e f = absurd (false≢true f)
+row_name name rs (Some r) e f = row_is name rs (sym e)
 
 -- a row that was found has a known name exactly where it was looked for by it
 row_same : (name n : Bytes) (rs : List KnownField) → is_required (row_named n rs) ≡ true → same [] n ≡ false → same (name_in (row_named name rs)) n ≡ same name n
@@ -133,8 +133,8 @@ row_same name n rs f p = elim (test (same name n)) [
 ]
   where
     go : (o : Option KnownField) → row_named name rs ≡ o → same name n ≡ false → same (name_in o) n ≡ same name n
-    go none g e = p ∙ sym e
-    go (some r) g e = rw (row_is name rs g)
+    go None g e = p ∙ sym e
+    go (Some r) g e = rw (row_is name rs g)
 
 kept_named : (t : Tag) → is_kept t ≡ true → same [] (tag_name t) ≡ false
 unfolding same

@@ -4,7 +4,7 @@ use native.Mathlib.Omega.{arith}
 use mathlib.Core.Path.{◌≡◌, refl, sym, ap, ◌∙◌}
 use mathlib.Core.Bool.{Bool, true, false, not, ◌||◌}
 use mathlib.Core.List.{List, [], ◌∷◌, ◌++◌}
-use mathlib.Core.Option.{Option, none, some}
+use Rattle.std.specs.Prelude.{Option, None, Some}
 use lib.ListN.{length, drop}
 use Rattle.values.specs.Bytes.{Bytes, same}
 use Rattle.values.specs.Value.{meaning_of}
@@ -100,8 +100,8 @@ module _ (v : Version) (k : Bytes) (before : List Field) (fine : check_fields v 
 -- Texts
 
 abbrev pub or_else : {A : Type 0} → Option A → Option A → Option A
-or_else none y = y
-or_else (some x) y = some x
+or_else None y = y
+or_else (Some x) y = Some x
 
 pub text_snoc : (v : Version) (k name : Bytes) (m : Bool) (s : Bytes) (start : ℕ) (before : List Field) (at : ℕ) (f : Field) → FieldsFrom m s start before at
     → text_named v k name start (before ++ f ∷ []) ≡ or_else (text_named v k name start before) (text_named v k name at (f ∷ []))

@@ -1,6 +1,5 @@
 -- Reserved IDs as the code has them: texts of rows whose IDs are of one length, an ID, two bytes for its Number, one for its Type. Assumes nothing.
-use Rattle.std.specs.Prelude.{ℕ, zero, suc, ◌+◌, ◌-◌, true, false, ◌||◌, List, [], ◌∷◌, eqb, ltb, length, get_or, drop, take}
-use Rattle.std.proofs.Math.Option.{Option, none, some}
+use Rattle.std.specs.Prelude.{ℕ, zero, suc, ◌+◌, ◌-◌, true, false, ◌||◌, List, [], ◌∷◌, eqb, ltb, length, get_or, drop, take, Option, None, Some}
 use Rattle.values.specs.Bytes.{Bytes}
 use Rattle.rules.specs.Known.{count, letter}
 use Rattle.rules.specs.Known.{Number as Asked}
@@ -10,21 +9,19 @@ use Rattle.records.specs.declared.number.Number.{Number}
 use Rattle.records.specs.declared.number.Number.TheVariants.{Count, Letter}
 use Rattle.records.specs.declared.number.ValueType.{ValueType}
 use Rattle.records.specs.declared.number.ValueType.TheVariants.{Integer, Float, Flag, String}
-use Rattle.records.specs.declared.definition.Definition.{Definition}
-use Rattle.records.specs.declared.definition.Definition.TheVariants.{Of, Unreserved}
 
 abbrev pub asked : Number → Asked
 asked (Count n) = count n
 asked (Letter a b) = letter (lettered a b)
 
 -- the Number and Type that an ID must have
-abbrev pub definition_means : Definition → Option (Asked × Bytes)
-definition_means (Of n t) = some (asked n, type_name t)
-definition_means Unreserved = none
+abbrev pub definition_means : Option (Number × ValueType) → Option (Asked × Bytes)
+definition_means (Some (n, t)) = Some (asked n, type_name t)
+definition_means None = None
 
 abbrev pub outline : Option ReservedRow → Option (Asked × Bytes)
-outline none = none
-outline (some r) = some (r.number, r.type)
+outline None = None
+outline (Some r) = Some (r.number, r.type)
 
 -- a digit is a count, anything else a letter
 abbrev pub number_coded : ℕ → ℕ → Number

@@ -1,13 +1,10 @@
 -- Which names of a map's fields differ, told by marks. Assumes nothing.
-use Rattle.std.specs.Prelude.{ℕ, ◌%◌, ◌^◌, ◌<◌, ◌≡◌, Bool, true, false, not, ◌&&◌, List, eqb, drop}
-use Rattle.std.proofs.Math.Option.{some}
+use Rattle.std.specs.Prelude.{ℕ, ◌%◌, ◌^◌, ◌<◌, ◌≡◌, Bool, true, false, not, ◌&&◌, List, eqb, drop, Some, Option}
 use Rattle.values.specs.Bytes.{Bytes}
 use Rattle.values.specs.Field.{Field, read_field}
 use Rattle.values.specs.Places.{value_at}
 use Rattle.values.specs.declared.cursor.Cursor.{Cursor}
 use Rattle.values.specs.declared.string.Text.{Text}
-use Rattle.values.specs.declared.string.ValueRead.{ValueRead}
-use Rattle.values.specs.declared.string.ValueRead.TheVariants as value
 use Rattle.values.specs.Hash.{wide_basis, wide_step, wide_from}
 use Rattle.values.specs.Marks.{is_met, meet}
 use Rattle.rules.specs.Known.{is_in}
@@ -44,7 +41,7 @@ is_sure n k ds name = is_of n k name && is_clear ds name
 
 -- no field that begins before r and has such a name has the name of an earlier one
 pub record DistinctOf (such : Bytes → Bool) (x : MapContext) (s : Bytes) (r : ℕ) : Type 0 where
-  pub apart : (before : List Field) (at : ℕ) → FieldsFrom x.brackets s x.start before at → (f : Field) (rest : Bytes) → read_field x.brackets (drop at s) ≡ some (f, rest)
+  pub apart : (before : List Field) (at : ℕ) → FieldsFrom x.brackets s x.start before at → (f : Field) (rest : Bytes) → read_field x.brackets (drop at s) ≡ Some (f, rest)
       → at < r → such f.key ≡ true → is_in f.key (keys_of before) ≡ false
 
 -- the names of these fields that are such are marked, by a hash
@@ -62,5 +59,5 @@ pub record Doubts (n k : ℕ) (x : MapContext) (s : Bytes) (ds₀ ds : List ℕ)
   pub apart : DistinctOf (is_sure n k ds) x s r
 
 -- a value that was told is the one that stands there; brackets are none of it
-pub record ReadsBare (s : Bytes) (at : ℕ) (r : ValueRead) : Type 0 where
-  pub is : {t : Text} {n : Cursor} → r ≡ value.Value t n → r ≡ value_at false s at
+pub record ReadsBare (s : Bytes) (at : ℕ) (r : Option (Text × Cursor)) : Type 0 where
+  pub is : {t : Text} {n : Cursor} → r ≡ Some (t, n) → r ≡ value_at false s at

@@ -1,10 +1,8 @@
 -- Number and Type as the code asks for them: integers are read from the bytes as they stand, letters by meaning. Assumes nothing.
-use Rattle.std.specs.Prelude.{ℕ, Bool, true, false, List, [], ◌∷◌, ◌++◌, eqb}
+use Rattle.std.specs.Prelude.{ℕ, Bool, true, false, List, [], ◌∷◌, ◌++◌, eqb, Option, Some, None}
 use Rattle.values.specs.Bytes.{Bytes, ascii, same}
 use Rattle.values.specs.Integer.{u64_read}
 use Rattle.values.specs.Value.{meaning}
-use Rattle.values.specs.declared.integer.IntegerRead.{IntegerRead}
-use Rattle.values.specs.declared.integer.IntegerRead.TheVariants as integer
 use Rattle.rules.specs.Known.{common_letters}
 use Rattle.rules.specs.Map.{is_value}
 use Rattle.records.specs.declared.number.Letters.{Letters}
@@ -27,9 +25,9 @@ letters_of Local = common_letters ++ ascii "P" ∷ ascii "LA" ∷ ascii "LR" ∷
 abbrev pub types_of : Bool → List Bytes
 types_of flag = (ascii "Integer" ∷ ascii "Float" ∷ ascii "Character" ∷ ascii "String" ∷ []) ++ elim flag [ true ↦ ascii "Flag" ∷ [] | false ↦ [] ]
 
-abbrev pub is_integer : ℕ → IntegerRead → Bool
-is_integer n (integer.Value m p) = eqb m n
-is_integer n integer.Refused = false
+abbrev pub is_integer : ℕ → Option (ℕ × Bool) → Bool
+is_integer n (Some (m, p)) = eqb m n
+is_integer n None = false
 
 -- a letter of one byte has a blank behind it
 abbrev pub lettered : ℕ → ℕ → Bytes

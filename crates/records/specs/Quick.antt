@@ -1,11 +1,8 @@
 -- A record of one or two bare fields, of which the first is its ID, as it is read without keeping anything. Assumes nothing.
-use Rattle.std.specs.Prelude.{ℕ, ◌+◌, ◌≤◌, ◌<◌, ◌≡◌, Bool, true, false, length, get_or}
+use Rattle.std.specs.Prelude.{ℕ, ◌+◌, ◌≤◌, ◌<◌, ◌≡◌, Bool, true, false, length, get_or, Option, Some, None, Ok}
 use Rattle.values.specs.Bytes.{Bytes, ascii, starts}
 use Rattle.values.specs.Places.{cursor_at, field_at}
-use Rattle.values.specs.declared.field.FieldRead.TheVariants as field
 use Rattle.values.specs.declared.string.Text.{Text}
-use Rattle.values.specs.declared.integer.IntegerRead.{IntegerRead}
-use Rattle.values.specs.declared.integer.IntegerRead.TheVariants as integer
 use Rattle.rules.specs.Version.{Version}
 use Rattle.rules.specs.Known.{row_named}
 use Rattle.rules.specs.Spelling.{odd_value}
@@ -19,21 +16,11 @@ use Rattle.records.specs.declared.key.MapKey.{MapKey}
 use Rattle.records.specs.declared.key.MapKey.TheVariants.{Contig, Other}
 use Rattle.records.specs.declared.key.MapContext.{MapContext}
 use Rattle.records.specs.declared.tag.Tag.{Tag}
-use Rattle.records.specs.declared.map.Check.TheVariants as check
 use Rattle.records.specs.declared.map.Slots.{Slots}
 use Rattle.records.specs.declared.map.FieldStep.TheVariants as step
-use Rattle.records.specs.declared.value.ValueParsed.TheVariants as value
-use Rattle.records.specs.declared.record.KeyParsed.TheVariants as key
+use Rattle.records.specs.declared.record.RecordKey.TheVariants as key
 use Rattle.records.specs.declared.record.MapRecord.{MapRecord}
-use Rattle.records.specs.declared.record.RecordRead.TheVariants as read
-use Rattle.records.specs.declared.quick.PlainField.{PlainField}
-use Rattle.records.specs.declared.quick.PlainField.TheVariants as plain
-use Rattle.records.specs.declared.quick.QuickKey.{QuickKey}
-use Rattle.records.specs.declared.quick.QuickKey.TheVariants as quick-key
-use Rattle.records.specs.declared.quick.QuickMap.{QuickMap}
-use Rattle.records.specs.declared.quick.QuickMap.TheVariants as quick-map
-use Rattle.records.specs.declared.quick.QuickRead.{QuickRead}
-use Rattle.records.specs.declared.quick.QuickRead.TheVariants as quick
+use Rattle.records.specs.declared.record.Record.TheVariants as read
 
 -- the keys whose maps need an ID alone and hold no bracketed value
 abbrev pub quick_key : Bool → MapKey
@@ -44,16 +31,16 @@ abbrev pub quick_context : Bool → FileFormat → ℕ → MapContext
 quick_context contig f start = context_of (quick_key contig) f start
 
 -- a number without a sign or a leading zero
-abbrev pub is_plainly : IntegerRead → Bool
-is_plainly (integer.Value n p) = p
-is_plainly integer.Refused = false
+abbrev pub is_plainly : Option (ℕ × Bool) → Bool
+is_plainly (Some (n, p)) = p
+is_plainly None = false
 
 -- a field with a bare value: its `=`, and past it
-abbrev pub PlainIs : Bytes → ℕ → PlainField → Type 0
-PlainIs s i (plain.Field e n) = (field_at false s i ≡ field.Field e (record { start = e + 1; end = n; quoted = false }) (cursor_at n)) × (e < length s)
-PlainIs s i plain.Unusual = Unit {0}
+abbrev pub PlainIs : Bytes → ℕ → Option (ℕ × ℕ) → Type 0
+PlainIs s i (Some (e, n)) = (field_at false s i ≡ Some (e, record { start = e + 1; end = n; quoted = false }, cursor_at n)) × (e < length s)
+PlainIs s i None = Unit {0}
 
-pub record ReadsPlain (s : Bytes) (i : ℕ) (r : PlainField) : Type 0 where
+pub record ReadsPlain (s : Bytes) (i : ℕ) (r : Option (ℕ × ℕ)) : Type 0 where
   pub is : PlainIs s i r
 
 -- a field that may follow the ID, with this bare value: it is not kept, and no number in it is oddly spelled
@@ -61,7 +48,7 @@ pub record Follows (contig : Bool) (name text : Bytes) : Type 0 where
   pub tag : Tag
   pub named : tag_row tag ≡ row_named name (after_id (kind_by (quick_key contig)))
   pub unkept : is_kept tag ≡ false
-  pub passes : (v : Version) → Checked (check.Passed false) (raw_refusal v (kind_by (quick_key contig)) text false (tag_row tag)) (odd_value text (tag_row tag))
+  pub passes : (v : Version) → Checked (Ok false) (raw_refusal v (kind_by (quick_key contig)) text false (tag_row tag)) (odd_value text (tag_row tag))
 
 pub record FitsContig (name text : Bytes) (r : Bool) : Type 0 where
   pub is : r ≡ true → Follows true name text
@@ -71,7 +58,7 @@ pub record LastRead (x : MapContext) (s : Bytes) (at : ℕ) (slots : Slots) : Ty
   pub kept : Slots
   pub id : kept.id ≡ slots.id
   pub odd : kept.odd ≡ false
-  pub read : ReadsField x s at slots (step.Last kept)
+  pub read : ReadsField x s at slots (Ok (step.Last kept))
 
 -- whether a field is the last, where only the ID stands before it
 pub record IsLast (contig : Bool) (s : Bytes) (at : ℕ) (r : Bool) : Type 0 where
@@ -90,27 +77,27 @@ pub record IsFollowed (contig : Bool) (s : Bytes) (end : ℕ) (r : Bool) : Type 
 abbrev pub id_from : ℕ → ℕ → Text
 id_from at end = record { start = at + 4; end = end; quoted = false }
 
-abbrev pub MapQuick : Bool → Bytes → ℕ → QuickMap → Type 0
-MapQuick contig s at (quick-map.Map end n) = (at + 4 ≤ length s) × ((f : FileFormat) → ParsesValue (version_of f) (quick_key contig) s at (value.Map (id_from at end) 0 (tallied false n)))
-MapQuick contig s at quick-map.Unusual = Unit {0}
+abbrev pub MapQuick : Bool → Bytes → ℕ → Option (ℕ × ℕ) → Type 0
+MapQuick contig s at (Some (end, n)) = (at + 4 ≤ length s) × ((f : FileFormat) → ParsesValue (version_of f) (quick_key contig) s at (Ok (Some (id_from at end, 0, tallied false n))))
+MapQuick contig s at None = Unit {0}
 
-pub record ReadsQuickMap (contig : Bool) (s : Bytes) (at : ℕ) (r : QuickMap) : Type 0 where
+pub record ReadsQuickMap (contig : Bool) (s : Bytes) (at : ℕ) (r : Option (ℕ × ℕ)) : Type 0 where
   pub is : MapQuick contig s at r
 
-abbrev pub KeyQuick : Bytes → QuickKey → Type 0
-KeyQuick s (quick-key.Key contig at) = KeyedIs s (key.Map (quick_key contig) (cursor_at at))
-KeyQuick s quick-key.Unusual = Unit {0}
+abbrev pub KeyQuick : Bytes → Option (Bool × ℕ) → Type 0
+KeyQuick s (Some (contig, at)) = KeyedIs s (Some (key.Map (quick_key contig) (cursor_at at)))
+KeyQuick s None = Unit {0}
 
 -- a key of a line that begins `##`
-pub record ReadsQuickKey (s : Bytes) (r : QuickKey) : Type 0 where
+pub record ReadsQuickKey (s : Bytes) (r : Option (Bool × ℕ)) : Type 0 where
   pub is : starts (ascii "##") s ≡ true → KeyQuick s r
 
 abbrev pub quick_record : Bool → ℕ → ℕ → ℕ → MapRecord
 quick_record contig at end n = record { key = quick_key contig; value = at; id = id_from at end; tag = 0; tally = tallied false n }
 
-abbrev pub RecordQuick : Bytes → QuickRead → Type 0
-RecordQuick s (quick.Map contig at end n) = (at + 4 ≤ length s) × ((f : FileFormat) → ParsesRecord (version_of f) s (read.Map (quick_record contig at end n)))
-RecordQuick s quick.Unusual = Unit {0}
+abbrev pub RecordQuick : Bytes → Option (Bool × ℕ × ℕ × ℕ) → Type 0
+RecordQuick s (Some (contig, at, end, n)) = (at + 4 ≤ length s) × ((f : FileFormat) → ParsesRecord (version_of f) s (Ok (read.Map (quick_record contig at end n))))
+RecordQuick s None = Unit {0}
 
-pub record ReadsQuick (s : Bytes) (r : QuickRead) : Type 0 where
+pub record ReadsQuick (s : Bytes) (r : Option (Bool × ℕ × ℕ × ℕ)) : Type 0 where
   pub is : RecordQuick s r

@@ -11,37 +11,26 @@ use crate::key::MapKey;
 use crate::number::{Number, ValueType};
 use values::bytes;
 
-#[derive(Clone, Copy)]
-pub enum Definition {
-    Of(Number, ValueType),
-    Unreserved,
-}
+pub type Definition = Option<(Number, ValueType)>;
 
 fn number_coded(a: u8, b: u8) -> Number
     ensures { result ≡ number_coded a b }
 {
-    if a < b'0' {
-        return Number::Letter(a, b);
+    match a {
+        b'0'..=b'9' => Number::Count((a - b'0') as u64),
+        _ => Number::Letter(a, b),
     }
-    if b'9' < a {
-        return Number::Letter(a, b);
-    }
-    Number::Count((a - b'0') as u64)
 }
 
 fn type_coded(t: u8) -> ValueType
     ensures { result ≡ type_coded t }
 {
-    if t == b'I' {
-        return ValueType::Integer;
+    match t {
+        b'I' => ValueType::Integer,
+        b'F' => ValueType::Float,
+        b'f' => ValueType::Flag,
+        _ => ValueType::String,
     }
-    if t == b'F' {
-        return ValueType::Float;
-    }
-    if t == b'f' {
-        return ValueType::Flag;
-    }
-    ValueType::String
 }
 
 // The row of an ID among rows whose IDs are as long: the ID, two bytes for the Number, one for the Type.
@@ -49,22 +38,12 @@ fn row_in(rows: &[u8], id: &[u8]) -> Definition
     ensures { definition_means result ≡ outline (look_row id.now (rows_in (length rows.now) (length id.now) rows.now)) }
 {
     let n = id.len();
-    let mut at: usize = 0;
-    while at < rows.len() {
-        if rows.len() - at <= n {
-            return Definition::Unreserved;
+    for row in rows.chunks_exact(n + 3) {
+        if bytes::same(&row[..n], id) {
+            return Some((number_coded(row[n], row[n + 1]), type_coded(row[n + 2])));
         }
-        let end = at + n;
-        if rows.len() - end < 3 {
-            return Definition::Unreserved;
-        }
-        if bytes::same(bytes::part(rows, at, end), id) {
-            let number = number_coded(rows[end], rows[end + 1]);
-            return Definition::Of(number, type_coded(rows[end + 2]));
-        }
-        at = end + 3;
     }
-    Definition::Unreserved
+    None
 }
 
 // The rows of INFO in 4.3, by the ID's length.
@@ -102,7 +81,7 @@ fn info_4_3(id: &[u8]) -> Definition
     if n == 9 {
         return row_in(b"VALIDATED0 fIMPRECISE0 f", id);
     }
-    Definition::Unreserved
+    None
 }
 
 // The rows of INFO from 4.4 on, by the ID's length.
@@ -140,7 +119,7 @@ fn info_4_4(id: &[u8]) -> Definition
     if n == 9 {
         return row_in(b"VALIDATED0 fIMPRECISE0 fEVENTTYPEA S", id);
     }
-    Definition::Unreserved
+    None
 }
 
 // The rows of FORMAT in 4.3, by the ID's length.
@@ -160,7 +139,7 @@ fn format_4_3(id: &[u8]) -> Definition
     if n == 4 {
         return row_in(b"AHAP1 I", id);
     }
-    Definition::Unreserved
+    None
 }
 
 // The rows of FORMAT in 4.4, by the ID's length.
@@ -183,7 +162,7 @@ fn format_4_4(id: &[u8]) -> Definition
     if n == 4 {
         return row_in(b"AHAP1 ICICN2 F", id);
     }
-    Definition::Unreserved
+    None
 }
 
 // The rows of FORMAT from 4.5 on, by the ID's length.
@@ -206,7 +185,7 @@ fn format_4_5(id: &[u8]) -> Definition
     if n == 4 {
         return row_in(b"AHAP1 ICICN2 FLADFLRILADRLRI", id);
     }
-    Definition::Unreserved
+    None
 }
 
 // A row is looked for by the bytes as they stand: no reserved ID has a byte that could be escaped.
@@ -214,7 +193,7 @@ pub fn definition_of(version: FileFormat, key: MapKey, id: &[u8], quoted: bool) 
     ensures { definition_means result ≡ outline (reserved (version_of version) (kind_by key) (meaning quoted id.now)) }
 {
     if version.lt(FileFormat::V4_3) {
-        return Definition::Unreserved;
+        return None;
     }
     if key.is_info() {
         if version.lt(FileFormat::V4_4) {
@@ -223,7 +202,7 @@ pub fn definition_of(version: FileFormat, key: MapKey, id: &[u8], quoted: bool) 
         return info_4_4(id);
     }
     if !key.is_format() {
-        return Definition::Unreserved;
+        return None;
     }
     if version.lt(FileFormat::V4_4) {
         return format_4_3(id);

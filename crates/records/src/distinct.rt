@@ -1,5 +1,5 @@
 // Whether the names of a map's fields differ, told without holding each against all before it.
-ghost use Rattle.std.specs.Prelude.{◌≡◌, ◌&&◌, ◌+◌, ◌≤◌, ◌<◌, length, drop};
+ghost use Rattle.std.specs.Prelude.{◌≡◌, ◌&&◌, ◌+◌, ◌≤◌, ◌<◌, ◌==◌, count_by, length, drop};
 ghost use Rattle.values.specs.Bytes.{before};
 ghost use Rattle.values.specs.Field.{ends_key};
 ghost use Rattle.values.specs.Places.{key_at, field_at};
@@ -8,11 +8,9 @@ ghost use Rattle.records.specs.Maps.{HasKey, Distinct};
 ghost use Rattle.records.specs.Names.{name_hash, again, is_of, mark_if, is_doubted, is_clear, DistinctOf, NameSought, Doubts, ReadsBare};
 
 use crate::field;
-use crate::field::FieldFound;
 use crate::key::MapContext;
-use values::cursor::{ByteRead, Cursor};
-use values::field::{FieldRead, KeyRead, Separator};
-use values::string::{Text, ValueRead};
+use values::cursor::Cursor;
+use values::string::Text;
 use values::{bytes, hash, marks};
 
 // So many fields have marks enough, where those that the marks can't tell from an earlier one are looked at again.
@@ -25,7 +23,7 @@ const NAME_ENDS: u64 = 0x7000_1004_0000_0000;
 pub fn has_key(s: &[u8], start: usize, upto: usize, brackets: bool, key: &[u8]) -> bool
     ensures { HasKey brackets s.now start upto key.now result }
 {
-    let FieldFound::Found(text) = field::find_field(s, start, brackets, key) else {
+    let Some(text) = field::find_field(s, start, brackets, key) else {
         return false;
     };
     text.start < upto
@@ -65,15 +63,16 @@ fn mark_fields(s: &[u8], map: MapContext, doubts: &[u64], marks: &mut [u64]) -> 
     ensures { DistinctOf (is_doubted doubts.now) map s.now result }
 {
     let mut c = Cursor { at: map.start };
+    // Kept: no plainer: each field tells where the next one begins, and a walk has two ways to end.
     loop {
         let at = c.at;
-        let FieldRead::Field(equals, _, next) = c.split_field(s, map.brackets) else {
+        let Some((equals, _, next)) = c.split_field(s, map.brackets) else {
             return at;
         };
         if is_named(s, map, at, bytes::part(s, at, equals), doubts, marks) {
             return at;
         }
-        let Separator::Comma(d) = next.consume_separator(s) else {
+        let Some(d) = next.consume_separator(s) else {
             return next.at;
         };
         c = d;
@@ -91,69 +90,53 @@ fn ends_name(b: u8) -> bool
 fn find_name_end(s: &[u8], start: usize) -> usize
     ensures { result ≡ start + length (before ends_key (drop start s.now)) }
 {
-    let mut i = start;
-    while i < s.len() {
+    for i in start..s.len() {
         if ends_name(s[i]) {
             return i;
         }
-        i += 1;
     }
-    i
+    start.max(s.len())
 }
 
 // As `parse_key`, which is faster where names are plain.
-fn parse_name(s: &[u8], c: Cursor) -> KeyRead
+fn parse_name(s: &[u8], c: Cursor) -> Option<(usize, Cursor)>
     ensures { result ≡ key_at s.now c.at }
 {
     let start = c.at;
     let end = find_name_end(s, start);
-    if end == start {
-        return KeyRead::Refused;
+    if end == start || s.len() <= end || s[end] != b'=' {
+        return None;
     }
-    if s.len() <= end {
-        return KeyRead::Refused;
-    }
-    if s[end] != b'=' {
-        return KeyRead::Refused;
-    }
-    KeyRead::Key(end, Cursor { at: end + 1 })
+    Some((end, Cursor { at: end + 1 }))
 }
 
 // A value that stands bare; others are left to `split_field`.
-fn parse_bare(s: &[u8], c: Cursor) -> ValueRead
+fn parse_bare(s: &[u8], c: Cursor) -> Option<(Text, Cursor)>
     ensures { ReadsBare s.now c.at result }
 {
-    let ByteRead::Byte(b, _) = c.next_byte(s) else {
-        return ValueRead::Refused;
+    let Some((b, _)) = c.next_byte(s) else {
+        return None;
     };
     if b == b'"' {
-        return ValueRead::Refused;
+        return None;
     }
     c.parse_raw_string(s)
 }
 
 // As `split_field`.
-fn split(s: &[u8], c: Cursor, brackets: bool) -> FieldRead
+fn split(s: &[u8], c: Cursor, brackets: bool) -> Option<(usize, Text, Cursor)>
     ensures { result ≡ field_at brackets s.now c.at }
 {
     if brackets {
         return c.split_field(s, brackets);
     }
-    let KeyRead::Key(equals, value) = parse_name(s, c) else {
-        return FieldRead::Refused;
+    let Some((equals, value)) = parse_name(s, c) else {
+        return None;
     };
-    let ValueRead::Value(text, next) = parse_bare(s, value) else {
+    let Some((text, next)) = parse_bare(s, value) else {
         return c.split_field(s, brackets);
     };
-    FieldRead::Field(
-        equals,
-        Text {
-            start: text.start,
-            end: text.end,
-            quoted: text.quoted,
-        },
-        Cursor { at: next.at },
-    )
+    Some((equals, text, next))
 }
 
 // A name of the class that may have been met is put in doubt, and each is marked.
@@ -166,10 +149,9 @@ fn doubt_name(name: &[u8], classes: usize, class: usize, marks: &mut [u64], doub
     if hash % 0x1_0000_0000 % (classes as u64) != class as u64 {
         return;
     }
-    if !marks::meet_hash(marks, hash) {
-        return;
+    if marks::meet_hash(marks, hash) {
+        marks::meet_hash(doubts, hash);
     }
-    marks::meet_hash(doubts, hash);
 }
 
 // A place such that no field that begins before it and whose name is of the class has the name of an earlier one, unless it is in doubt.
@@ -185,13 +167,14 @@ fn doubt_fields(
     ensures { Doubts classes class map s.now doubts.old doubts.new result }
 {
     let mut c = Cursor { at: map.start };
+    // Kept: no plainer: each field tells where the next one begins, and a walk has two ways to end.
     loop {
         let at = c.at;
-        let FieldRead::Field(equals, _, next) = split(s, c, map.brackets) else {
+        let Some((equals, _, next)) = split(s, c, map.brackets) else {
             return at;
         };
         doubt_name(bytes::part(s, at, equals), classes, class, marks, doubts);
-        let Separator::Comma(d) = next.consume_separator(s) else {
+        let Some(d) = next.consume_separator(s) else {
             return next.at;
         };
         c = d;
@@ -206,44 +189,23 @@ fn doubt_class(s: &[u8], map: MapContext, classes: usize, class: usize, doubts: 
     doubt_fields(s, map, classes, class, &mut marks, doubts)
 }
 
-fn lesser(a: usize, b: usize) -> usize
-    ensures first { result ≤ a }
-    ensures second { result ≤ b }
-{
-    if a < b {
-        return a;
-    }
-    b
-}
-
 // How often a byte stands there: each is looked at, so that a compiler can take many at once.
 fn count(s: &[u8], x: u8) -> usize
-    ensures { result ≤ length s.now }
+    ensures { result ≡ count_by (λ b. b == x) s.now }
 {
-    let mut n: usize = 0;
-    let mut k: usize = 0;
-    while k < s.len() {
-        let b = s[k];
-        k += 1;
-        if b == x {
-            n += 1;
-        }
-    }
-    n
+    s.iter().filter(|b| **b == x).count()
 }
 
 // The names of one class after the other, so that the marks are enough for any number of fields: each has a `=`, and a `,` follows it.
 fn doubt_classes(s: &[u8], map: MapContext, doubts: &mut [u64]) -> usize
     ensures { DistinctOf (is_clear doubts.new) map s.now result }
 {
-    let fields = lesser(count(s, b','), count(s, b'='));
+    let fields = count(s, b',').min(count(s, b'='));
     let classes = fields / FIELDS + 1;
     let mut distinct = s.len();
-    let mut class: usize = 0;
-    while class < classes {
+    for class in 0..classes {
         let end = doubt_class(s, map, classes, class, doubts);
-        distinct = lesser(distinct, end);
-        class += 1;
+        distinct = distinct.min(end);
     }
     distinct
 }
@@ -256,13 +218,14 @@ fn mark_doubts(s: &[u8], map: MapContext, doubts: &[u64]) -> usize
 }
 
 // The names that may stand twice are found first, then only these are marked: so few are looked for in vain, each by a walk over all fields.
+#[inline(never)]
 fn find_longer(s: &[u8], map: MapContext) -> usize
     ensures { Distinct map s.now result }
 {
     let mut doubts = [0u64; 8192];
     let clear = doubt_classes(s, map, &mut doubts);
     let sought = mark_doubts(s, map, &doubts);
-    lesser(clear, sought)
+    clear.min(sought)
 }
 
 // Where there are no doubts, each name is in doubt.
@@ -273,38 +236,24 @@ fn mark_all(s: &[u8], map: MapContext, marks: &mut [u64]) -> usize
     mark_fields(s, map, &none, marks)
 }
 
-fn find_some(s: &[u8], map: MapContext) -> usize
+// With marks of its own, which are on the stack of no caller.
+#[inline(never)]
+fn find_marked<const N: usize>(s: &[u8], map: MapContext) -> usize
+    requires { N ≤ 40960 }
     ensures { Distinct map s.now result }
 {
-    let mut marks = [0u64; 4096];
+    let mut marks = [0u64; N];
     mark_all(s, map, &mut marks)
 }
 
-fn find_long(s: &[u8], map: MapContext) -> usize
+// A place such that no field that begins before it has the name of an earlier one.
+pub fn find(s: &[u8], map: MapContext) -> usize
     ensures { Distinct map s.now result }
 {
-    let mut marks = [0u64; 40960];
-    mark_all(s, map, &mut marks)
-}
-
-// A place such that no field that begins before it has the name of an earlier one, whatever stands in `marks`; with marks of its own where
-// none are lent. A function that calls itself is not made a part of its caller, nor are those with more marks of it: else the stack would
-// hold all marks for each line.
-pub fn find(s: &[u8], map: MapContext, marks: &mut [u64]) -> usize
-    ensures { Distinct map s.now result }
-{
-    if 0 < marks.len() {
-        return mark_all(s, map, marks);
+    match s.len() {
+        0..1024 => find_marked::<64>(s, map),
+        1024..65536 => find_marked::<4096>(s, map),
+        65536..0x4_0000 => find_marked::<40960>(s, map),
+        _ => find_longer(s, map),
     }
-    if s.len() < 1024 {
-        let mut own = [0u64; 64];
-        return find(s, map, &mut own);
-    }
-    if s.len() < 65536 {
-        return find_some(s, map);
-    }
-    if s.len() < 0x4_0000 {
-        return find_long(s, map);
-    }
-    find_longer(s, map)
 }

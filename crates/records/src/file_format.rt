@@ -3,7 +3,6 @@ ghost use Rattle.std.specs.Prelude.{◌≡◌};
 ghost use Rattle.rules.specs.Version.{earlier, read_version};
 ghost use Rattle.records.specs.Formats.{version_of, format_read};
 
-use values::integer::IntegerRead;
 use values::{bytes, integer};
 
 #[derive(Clone, Copy)]
@@ -29,40 +28,26 @@ impl FileFormat {
     pub fn lt(self, other: FileFormat) -> bool
         ensures { result ≡ earlier (version_of self) (version_of other) }
     {
-        let a = self.major;
-        let b = other.major;
-        if a < b {
-            return true;
-        }
-        if b < a {
-            return false;
-        }
-        self.minor < other.minor
+        self.major < other.major || self.major == other.major && self.minor < other.minor
     }
-}
-
-#[derive(Clone, Copy)]
-pub enum FileFormatRead {
-    Version(FileFormat),
-    Refused,
 }
 
 // The value of a fileformat line.
-pub fn parse_file_format(s: &[u8]) -> FileFormatRead
+pub fn parse_file_format(s: &[u8]) -> Option<FileFormat>
     ensures { result ≡ format_read (read_version s.now) }
 {
     if !bytes::starts_with(s, b"VCFv") {
-        return FileFormatRead::Refused;
+        return None;
     }
     let point = bytes::find(s, 4, b'.');
     if s.len() <= point {
-        return FileFormatRead::Refused;
+        return None;
     }
-    let IntegerRead::Value(major, _) = integer::parse_u32(&s[4..point]) else {
-        return FileFormatRead::Refused;
+    let Some((major, _)) = integer::parse_u32(&s[4..point]) else {
+        return None;
     };
-    let IntegerRead::Value(minor, _) = integer::parse_u32(&s[point + 1..]) else {
-        return FileFormatRead::Refused;
+    let Some((minor, _)) = integer::parse_u32(&s[point + 1..]) else {
+        return None;
     };
-    FileFormatRead::Version(FileFormat::new(major as u32, minor as u32))
+    Some(FileFormat::new(major as u32, minor as u32))
 }

@@ -70,69 +70,45 @@ impl MapKey {
     pub fn is_typed(self) -> bool
         ensures { result ≡ is_typed (case_bytes self) }
     {
-        self.kind() != 7
+        !matches!(self, MapKey::Meta | MapKey::Pedigree | MapKey::Other)
     }
 
     fn is_meta(self) -> bool
         ensures { result ≡ is_meta_key self }
     {
-        match self {
-            MapKey::Info => false,
-            MapKey::Filter => false,
-            MapKey::Format => false,
-            MapKey::AlternativeAllele => false,
-            MapKey::Contig => false,
-            MapKey::Meta => true,
-            MapKey::Pedigree => false,
-            MapKey::Other => false,
-        }
+        matches!(self, MapKey::Meta)
     }
 
     pub fn is_pedigree(self) -> bool
         ensures { result ≡ is_pedigree_key self }
     {
-        match self {
-            MapKey::Info => false,
-            MapKey::Filter => false,
-            MapKey::Format => false,
-            MapKey::AlternativeAllele => false,
-            MapKey::Contig => false,
-            MapKey::Meta => false,
-            MapKey::Pedigree => true,
-            MapKey::Other => false,
-        }
+        matches!(self, MapKey::Pedigree)
     }
 
     pub fn is_info(self) -> bool
         ensures { result ≡ is_info (kind_by self) }
     {
-        self.kind() == 2
+        matches!(self, MapKey::Info)
     }
 
     pub fn is_format(self) -> bool
         ensures { result ≡ is_format (kind_by self) }
     {
-        self.kind() == 4
+        matches!(self, MapKey::Format)
     }
 
     // META and PEDIGREE are always maps, and need a field.
     pub fn is_always_map(self) -> bool
         ensures { result ≡ always_map (case_bytes self) }
     {
-        if self.is_meta() {
-            return true;
-        }
-        self.is_pedigree()
+        self.is_meta() || self.is_pedigree()
     }
 
     // Whether the value of Values may be bracketed: in a META, from 4.3.
     pub fn has_brackets(self, version: FileFormat) -> bool
         ensures { result ≡ is_meta (version_of version) (case_bytes self) }
     {
-        if !self.is_meta() {
-            return false;
-        }
-        !version.lt(FileFormat::V4_3)
+        self.is_meta() && !version.lt(FileFormat::V4_3)
     }
 
     // The kind of an entry of a map.
@@ -145,9 +121,7 @@ impl MapKey {
             MapKey::Format => 4,
             MapKey::AlternativeAllele => 5,
             MapKey::Contig => 6,
-            MapKey::Meta => 7,
-            MapKey::Pedigree => 7,
-            MapKey::Other => 7,
+            MapKey::Meta | MapKey::Pedigree | MapKey::Other => 7,
         }
     }
 

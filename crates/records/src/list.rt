@@ -11,6 +11,7 @@ pub fn is_listed(list: &[u8], s: &[u8], quoted: bool) -> bool
     ensures { result ≡ is_in (meaning quoted s.now) (listed_row list.now) }
 {
     let mut start: usize = 0;
+    // Kept: with `for name in list.split(|b| *b == b',')` the proof didn't close at `returns-then-same_meaning`: nothing ties the closure to `listed_row`.
     loop {
         let end = bytes::find(list, start, b',');
         if string::same_meaning(bytes::part(list, start, end), false, s, quoted) {

@@ -20,17 +20,11 @@ use crate::refusal::Refusal;
 use crate::tag::Tag;
 use crate::{distinct, number, tag};
 use values::cursor::Cursor;
-use values::field::{FieldRead, Separator};
-use values::integer::IntegerRead;
 use values::string::Text;
 use values::{bytes, integer};
 
 // A text that was read, and which name stood for the ID.
-#[derive(Clone, Copy)]
-pub enum Slot {
-    Empty,
-    Filled(Text, u8),
-}
+pub type Slot = Option<(Text, u8)>;
 
 // The fields that are kept while a map is read; `plain`: each field so far is one of them; `odd`: a number so far was not plainly
 // spelled.
@@ -44,19 +38,6 @@ pub struct Slots {
     pub odd: bool,
 }
 
-// What passed says whether it is a number that was not plainly spelled.
-#[derive(Clone, Copy)]
-pub enum Check {
-    Passed(bool),
-    Refused(Refusal),
-}
-
-#[derive(Clone, Copy)]
-pub enum Prefix {
-    Consumed(Cursor),
-    Missing,
-}
-
 // What follows a value.
 #[derive(Clone, Copy)]
 pub enum After {
@@ -67,18 +48,13 @@ pub enum After {
 
 // A field: its tag, where its text starts and ends, whether it is quoted, which name stood for the ID, whether a number up to it was not
 // plainly spelled, and past it. A text that is handed on whole is copied, and the processor waits for the copy where it is read.
-#[derive(Clone, Copy)]
-pub enum FieldTaken {
-    Field(Tag, usize, usize, bool, u8, bool, Cursor),
-    Refused(Refusal),
-}
+pub type FieldTaken = Result<(Tag, usize, usize, bool, u8, bool, Cursor), Refusal>;
 
 // The same after where the next field stands; after the last field, what is kept of all.
 #[derive(Clone, Copy)]
 pub enum FieldStep {
     Next(Cursor, Tag, usize, usize, bool, u8, bool),
     Last(Slots),
-    Refused(Refusal),
 }
 
 // What the fields of a map tell together: whether a number among them was not plainly spelled, and how many they are.
@@ -88,25 +64,13 @@ pub struct Tally {
     pub fields: usize,
 }
 
-#[derive(Clone, Copy)]
-pub enum FieldsRead {
-    Fields(Slots, Tally),
-    Refused(Refusal),
-}
+pub type FieldsRead = Result<(Slots, Tally), Refusal>;
 
 // The ID of a map, which name stands for it, and what its fields tell together.
-#[derive(Clone, Copy)]
-pub enum MapRead {
-    Map(Text, u8, Tally),
-    Refused(Refusal),
-}
+pub type MapRead = Result<(Text, u8, Tally), Refusal>;
 
 // The ID of an INFO or FORMAT map, which name stands for it, its Number and its Type, and what its fields tell together.
-#[derive(Clone, Copy)]
-pub enum TypedRead {
-    Typed(Text, u8, Text, Text, Tally),
-    Refused(Refusal),
-}
+pub type TypedRead = Result<(Text, u8, Text, Text, Tally), Refusal>;
 
 // Whether the value of an untyped key is a map.
 pub fn is_map(s: &[u8], c: Cursor, version: FileFormat) -> bool
@@ -119,17 +83,14 @@ pub fn is_map(s: &[u8], c: Cursor, version: FileFormat) -> bool
     bytes::starts_with(rest, b"<")
 }
 
-pub fn consume_prefix(s: &[u8], c: Cursor) -> Prefix
+pub fn consume_prefix(s: &[u8], c: Cursor) -> Option<Cursor>
     ensures { result ≡ opens_at s.now c.at }
 {
     let at = c.at;
-    if s.len() <= at {
-        return Prefix::Missing;
+    if at < s.len() && s[at] == b'<' {
+        return Some(Cursor { at: at + 1 });
     }
-    if s[at] == b'<' {
-        return Prefix::Consumed(Cursor { at: at + 1 });
-    }
-    Prefix::Missing
+    None
 }
 
 // `>` as the last byte of the line.
@@ -137,21 +98,15 @@ pub fn consume_suffix(s: &[u8], c: Cursor) -> bool
     ensures { result ≡ closes_at s.now c.at }
 {
     let at = c.at;
-    if s.len() <= at {
-        return false;
-    }
-    if s[at] != b'>' {
-        return false;
-    }
-    at + 1 == s.len()
+    at < s.len() && s[at] == b'>' && at + 1 == s.len()
 }
 
 pub fn after_field(s: &[u8], c: Cursor) -> After
     ensures { result ≡ after_at s.now c.at }
 {
     match c.consume_separator(s) {
-        Separator::Comma(next) => After::More(next),
-        Separator::Other => {
+        Some(next) => After::More(next),
+        None => {
             if consume_suffix(s, c) {
                 return After::Closed;
             }
@@ -160,32 +115,33 @@ pub fn after_field(s: &[u8], c: Cursor) -> After
     }
 }
 
-fn pass_or(passed: bool, refusal: Refusal) -> Check
+// What passed says whether it is a number that was not plainly spelled.
+fn pass_or(passed: bool, refusal: Refusal) -> Result<bool, Refusal>
     ensures { Checked result (unless passed (number refusal)) false }
 {
     if passed {
-        return Check::Passed(false);
+        return Ok(false);
     }
-    Check::Refused(refusal)
+    Err(refusal)
 }
 
 // IDX and length.
-fn check_integer(s: &[u8]) -> Check
+fn check_integer(s: &[u8]) -> Result<bool, Refusal>
     ensures { Checked result (unless (is_count s.now) 13) (is_odd (u64_read s.now)) }
 {
     match integer::parse_u64(s) {
-        IntegerRead::Value(_, plain) => Check::Passed(!plain),
-        IntegerRead::Refused => Check::Refused(Refusal::InvalidInteger),
+        Some((_, plain)) => Ok(!plain),
+        None => Err(Refusal::InvalidInteger),
     }
 }
 
 // Number: a count, or one of the letters.
-fn check_number(s: &[u8], quoted: bool, letters: Letters) -> Check
+fn check_number(s: &[u8], quoted: bool, letters: Letters) -> Result<bool, Refusal>
     ensures { Checked result (unless (is_count s.now || is_in (meaning quoted s.now) (letters_of letters)) 11) (is_odd (u64_read s.now)) }
 {
     match integer::parse_u64(s) {
-        IntegerRead::Value(_, plain) => Check::Passed(!plain),
-        IntegerRead::Refused => pass_or(
+        Some((_, plain)) => Ok(!plain),
+        None => pass_or(
             number::is_letter_of(s, quoted, letters),
             Refusal::InvalidNumber,
         ),
@@ -196,10 +152,7 @@ impl MapKey {
     fn letters(self, version: FileFormat) -> Letters
         ensures { letters_of result ≡ letters (version_of version) (kind_by self) }
     {
-        if !self.is_format() {
-            return Letters::Common;
-        }
-        if version.lt(FileFormat::V4_4) {
+        if !self.is_format() || version.lt(FileFormat::V4_4) {
             return Letters::Common;
         }
         if version.lt(FileFormat::V4_5) {
@@ -209,25 +162,25 @@ impl MapKey {
     }
 
     // Number, Type, IDX and length have rules of their own.
-    pub fn check_value(self, version: FileFormat, tag: Tag, s: &[u8], quoted: bool) -> Check
+    pub fn check_value(
+        self,
+        version: FileFormat,
+        tag: Tag,
+        s: &[u8],
+        quoted: bool,
+    ) -> Result<bool, Refusal>
         ensures { Checked result (raw_refusal (version_of version) (kind_by self) s.now quoted (tag_row tag)) (odd_value s.now (tag_row tag)) }
     {
         match tag {
-            Tag::Id => Check::Passed(false),
-            Tag::Number => {
-                let letters = self.letters(version);
-                check_number(s, quoted, letters)
-            }
+            Tag::Number => check_number(s, quoted, self.letters(version)),
             Tag::ValueType => {
-                let flag = self.is_info();
-                pass_or(number::is_type(s, quoted, flag), Refusal::InvalidType)
+                pass_or(
+                    number::is_type(s, quoted, self.is_info()),
+                    Refusal::InvalidType,
+                )
             }
-            Tag::Description => Check::Passed(false),
-            Tag::Length => check_integer(s),
-            Tag::Md5 => Check::Passed(false),
-            Tag::Url => Check::Passed(false),
-            Tag::Idx => check_integer(s),
-            Tag::Other => Check::Passed(false),
+            Tag::Length | Tag::Idx => check_integer(s),
+            Tag::Id | Tag::Description | Tag::Md5 | Tag::Url | Tag::Other => Ok(false),
         }
     }
 }
@@ -250,10 +203,10 @@ impl Slots {
         ensures { result ≡ no_slots }
     {
         Slots {
-            id: Slot::Empty,
-            number: Slot::Empty,
-            kind: Slot::Empty,
-            description: Slot::Empty,
+            id: None,
+            number: None,
+            kind: None,
+            description: None,
             plain: true,
             odd: false,
         }
@@ -267,32 +220,39 @@ impl Slots {
             Tag::Number => self.number,
             Tag::ValueType => self.kind,
             Tag::Description => self.description,
-            Tag::Length => Slot::Empty,
-            Tag::Md5 => Slot::Empty,
-            Tag::Url => Slot::Empty,
-            Tag::Idx => Slot::Empty,
-            Tag::Other => Slot::Empty,
+            _ => None,
         }
     }
 
     fn put(self, tag: Tag, slot: Slot, odd: bool) -> Slots
         ensures { result ≡ put_slot tag slot odd self }
     {
-        let id = self.id;
-        let number = self.number;
-        let kind = self.kind;
-        let description = self.description;
-        let plain = self.plain;
         match tag {
-            Tag::Id => slots_of(slot, number, kind, description, plain, odd),
-            Tag::Number => slots_of(id, slot, kind, description, plain, odd),
-            Tag::ValueType => slots_of(id, number, slot, description, plain, odd),
-            Tag::Description => slots_of(id, number, kind, slot, plain, odd),
-            Tag::Length => slots_of(id, number, kind, description, false, odd),
-            Tag::Md5 => slots_of(id, number, kind, description, false, odd),
-            Tag::Url => slots_of(id, number, kind, description, false, odd),
-            Tag::Idx => slots_of(id, number, kind, description, false, odd),
-            Tag::Other => slots_of(id, number, kind, description, false, odd),
+            Tag::Id => Slots {
+                id: slot,
+                odd,
+                ..self
+            },
+            Tag::Number => Slots {
+                number: slot,
+                odd,
+                ..self
+            },
+            Tag::ValueType => Slots {
+                kind: slot,
+                odd,
+                ..self
+            },
+            Tag::Description => Slots {
+                description: slot,
+                odd,
+                ..self
+            },
+            _ => Slots {
+                plain: false,
+                odd,
+                ..self
+            },
         }
     }
 }
@@ -313,11 +273,12 @@ fn is_repeated(
 {
     if tag.is_kept() {
         return match slots.get(tag) {
-            Slot::Empty => false,
-            Slot::Filled(_, _) => true,
+            None => false,
+            Some((_, _)) => true,
         };
     }
     let plain = slots.plain;
+    // Kept: with `plain || at < distinct` in one test the proof didn't close at `returns-then-slots`, where both reasons meet.
     if plain {
         return false;
     }
@@ -325,12 +286,6 @@ fn is_repeated(
         return false;
     }
     distinct::has_key(s, map.start, at, map.brackets, field)
-}
-
-fn either(a: bool, b: bool) -> bool
-    ensures { result ≡ (a || b) }
-{
-    a || b
 }
 
 // The field at the cursor.
@@ -341,36 +296,46 @@ fn take_field(s: &[u8], map: MapContext, c: Cursor, slots: Slots, distinct: usiz
     let at = c.at;
     let key = map.key;
     let version = map.version;
-    let FieldRead::Field(equals, text, next) = c.split_field(s, map.brackets) else {
-        return FieldTaken::Refused(Refusal::InvalidField);
+    let Some((equals, text, next)) = c.split_field(s, map.brackets) else {
+        return Err(Refusal::InvalidField);
     };
     let field = bytes::part(s, at, equals);
     let tag = key.tag(version, field);
     let value = bytes::part(s, text.start, text.end);
     match key.check_value(version, tag, value, text.quoted) {
-        Check::Refused(x) => FieldTaken::Refused(x),
-        Check::Passed(odd) => {
+        Err(x) => Err(x),
+        Ok(odd) => {
             if is_repeated(s, map, at, field, tag, slots, distinct) {
-                return FieldTaken::Refused(Refusal::DuplicateTag);
+                return Err(Refusal::DuplicateTag);
             }
             let name = tag::id_tag(field);
-            let strange = either(slots.odd, odd);
-            FieldTaken::Field(tag, text.start, text.end, text.quoted, name, strange, next)
+            let strange = slots.odd | odd;
+            Ok((tag, text.start, text.end, text.quoted, name, strange, next))
         }
     }
 }
 
 // The same, and what follows it.
-fn read_field(s: &[u8], map: MapContext, c: Cursor, slots: Slots, distinct: usize) -> FieldStep
+fn read_field(
+    s: &[u8],
+    map: MapContext,
+    c: Cursor,
+    slots: Slots,
+    distinct: usize,
+) -> Result<FieldStep, Refusal>
     requires { Distinct map s.now distinct }
     ensures { ReadsField map s.now c.at slots result }
 {
     match take_field(s, map, c, slots, distinct) {
-        FieldTaken::Refused(x) => FieldStep::Refused(x),
-        FieldTaken::Field(tag, start, end, quoted, name, odd, next) => match after_field(s, next) {
-            After::More(d) => FieldStep::Next(d, tag, start, end, quoted, name, odd),
-            After::Closed => FieldStep::Last(slots.put(tag, filled(start, end, quoted, name), odd)),
-            After::Other => FieldStep::Refused(Refusal::InvalidMap),
+        Err(x) => Err(x),
+        Ok((tag, start, end, quoted, name, odd, next)) => match after_field(s, next) {
+            After::More(d) => Ok(FieldStep::Next(d, tag, start, end, quoted, name, odd)),
+            After::Closed => Ok(FieldStep::Last(slots.put(
+                tag,
+                filled(start, end, quoted, name),
+                odd,
+            ))),
+            After::Other => Err(Refusal::InvalidMap),
         },
     }
 }
@@ -378,7 +343,7 @@ fn read_field(s: &[u8], map: MapContext, c: Cursor, slots: Slots, distinct: usiz
 fn filled(start: usize, end: usize, quoted: bool, name: u8) -> Slot
     ensures { result ≡ filled_as start end quoted name }
 {
-    Slot::Filled(Text { start, end, quoted }, name)
+    Some((Text { start, end, quoted }, name))
 }
 
 // A place before which no two fields have the same name, where the field of this number is read next: few fields are held against all
@@ -388,8 +353,7 @@ fn distinct_at(s: &[u8], map: MapContext, fields: usize, distinct: usize) -> usi
     ensures { Distinct map s.now result }
 {
     if fields == 8 {
-        let mut none = [0u64; 0];
-        return distinct::find(s, map, &mut none);
+        return distinct::find(s, map);
     }
     distinct
 }
@@ -398,7 +362,7 @@ fn fields_of(slots: Slots, fields: usize) -> FieldsRead
     ensures { result ≡ fields_of slots fields }
 {
     let odd = slots.odd;
-    FieldsRead::Fields(slots, Tally { odd, fields })
+    Ok((slots, Tally { odd, fields }))
 }
 
 // One field or more, from the first on. The slots are apart, so that a field writes its own and no other is copied.
@@ -406,20 +370,21 @@ fn walk_fields(s: &[u8], map: MapContext) -> FieldsRead
     ensures { WalksFields map s.now result }
 {
     let mut c = Cursor { at: map.start };
-    let mut id = Slot::Empty;
-    let mut number = Slot::Empty;
-    let mut kind = Slot::Empty;
-    let mut description = Slot::Empty;
+    let mut id = None;
+    let mut number = None;
+    let mut kind = None;
+    let mut description = None;
     let mut plain = true;
     let mut odd = false;
     let mut fields: usize = 1;
     let mut distinct: usize = 0;
+    // Kept: no plainer: each field tells where the next one begins, and a walk has two ways to end.
     loop {
         let slots = slots_of(id, number, kind, description, plain, odd);
         match read_field(s, map, c, slots, distinct) {
-            FieldStep::Refused(x) => return FieldsRead::Refused(x),
-            FieldStep::Last(kept) => return fields_of(kept, fields),
-            FieldStep::Next(next, tag, start, end, quoted, name, strange) => {
+            Err(x) => return Err(x),
+            Ok(FieldStep::Last(kept)) => return fields_of(kept, fields),
+            Ok(FieldStep::Next(next, tag, start, end, quoted, name, strange)) => {
                 c = next;
                 odd = strange;
                 fields += 1;
@@ -429,11 +394,7 @@ fn walk_fields(s: &[u8], map: MapContext) -> FieldsRead
                     Tag::Number => number = filled(start, end, quoted, name),
                     Tag::ValueType => kind = filled(start, end, quoted, name),
                     Tag::Description => description = filled(start, end, quoted, name),
-                    Tag::Length => plain = false,
-                    Tag::Md5 => plain = false,
-                    Tag::Url => plain = false,
-                    Tag::Idx => plain = false,
-                    Tag::Other => plain = false,
+                    _ => plain = false,
                 }
             }
         }
@@ -444,14 +405,8 @@ fn walk_fields(s: &[u8], map: MapContext) -> FieldsRead
 pub fn is_bare(s: &[u8], c: Cursor, key: MapKey) -> bool
     ensures { result ≡ bare_at s.now c.at (always_map (case_bytes key)) }
 {
-    if key.is_always_map() {
-        return false;
-    }
     let at = c.at;
-    if s.len() <= at {
-        return true;
-    }
-    s[at] == b'>'
+    !key.is_always_map() && (s.len() <= at || s[at] == b'>')
 }
 
 // The fields after the `<`, up to the `>` at the end of the line.
@@ -463,23 +418,23 @@ pub fn parse_fields(s: &[u8], c: Cursor, key: MapKey, version: FileFormat) -> Fi
         return walk_fields(s, map);
     }
     if consume_suffix(s, c) {
-        return FieldsRead::Fields(
+        return Ok((
             Slots::empty(),
             Tally {
                 odd: false,
                 fields: 0,
             },
-        );
+        ));
     }
-    FieldsRead::Refused(Refusal::InvalidMap)
+    Err(Refusal::InvalidMap)
 }
 
 // A map from its `<` on, up to the end of the line.
 pub fn parse_map(s: &[u8], c: Cursor, key: MapKey, version: FileFormat) -> FieldsRead
     ensures { OpensMap (version_of version) key s.now c.at result }
 {
-    let Prefix::Consumed(d) = consume_prefix(s, c) else {
-        return FieldsRead::Refused(Refusal::InvalidMap);
+    let Some(d) = consume_prefix(s, c) else {
+        return Err(Refusal::InvalidMap);
     };
     parse_fields(s, d, key, version)
 }
@@ -489,24 +444,13 @@ pub fn parse_identified(s: &[u8], c: Cursor, key: MapKey, version: FileFormat) -
     ensures { Identified key → ParsesMap (version_of version) key s.now c.at result }
 {
     match parse_map(s, c, key, version) {
-        FieldsRead::Refused(x) => MapRead::Refused(x),
-        FieldsRead::Fields(slots, tally) => {
+        Err(x) => Err(x),
+        Ok((slots, tally)) => {
             let named = slots.id;
-            let Slot::Filled(id, tag) = named else {
-                return MapRead::Refused(Refusal::MissingId);
+            let Some((id, tag)) = named else {
+                return Err(Refusal::MissingId);
             };
-            MapRead::Map(
-                Text {
-                    start: id.start,
-                    end: id.end,
-                    quoted: id.quoted,
-                },
-                tag,
-                Tally {
-                    odd: tally.odd,
-                    fields: tally.fields,
-                },
-            )
+            Ok((id, tag, tally))
         }
     }
 }
@@ -516,28 +460,17 @@ pub fn parse_described(s: &[u8], c: Cursor, key: MapKey, version: FileFormat) ->
     ensures { Described key → ParsesMap (version_of version) key s.now c.at result }
 {
     match parse_map(s, c, key, version) {
-        FieldsRead::Refused(x) => MapRead::Refused(x),
-        FieldsRead::Fields(slots, tally) => {
+        Err(x) => Err(x),
+        Ok((slots, tally)) => {
             let named = slots.id;
-            let Slot::Filled(id, tag) = named else {
-                return MapRead::Refused(Refusal::MissingId);
+            let Some((id, tag)) = named else {
+                return Err(Refusal::MissingId);
             };
             let described = slots.description;
-            let Slot::Filled(_, _) = described else {
-                return MapRead::Refused(Refusal::MissingDescription);
+            let Some((_, _)) = described else {
+                return Err(Refusal::MissingDescription);
             };
-            MapRead::Map(
-                Text {
-                    start: id.start,
-                    end: id.end,
-                    quoted: id.quoted,
-                },
-                tag,
-                Tally {
-                    odd: tally.odd,
-                    fields: tally.fields,
-                },
-            )
+            Ok((id, tag, tally))
         }
     }
 }

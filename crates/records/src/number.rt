@@ -6,7 +6,6 @@ ghost use Rattle.rules.specs.Known.{is_in};
 ghost use Rattle.records.specs.Numbers.{letters_of, types_of, lettered, is_number_of, type_name};
 
 use crate::list;
-use values::integer::IntegerRead;
 use values::{integer, string};
 
 // What a reserved ID asks of a Number: a count, or a letter of two bytes, of which the second is a blank where it has one.
@@ -70,7 +69,7 @@ impl Number {
     {
         match self {
             Number::Count(n) => {
-                let IntegerRead::Value(m, _) = integer::parse_u64(s) else {
+                let Some((m, _)) = integer::parse_u64(s) else {
                     return false;
                 };
                 m == n

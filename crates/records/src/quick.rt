@@ -8,37 +8,10 @@ use crate::key::MapKey;
 use crate::tag::Tag;
 use crate::{key, map, tag};
 use values::cursor::Cursor;
-use values::field::KeyRead;
-use values::integer::IntegerRead;
 use values::{bytes, integer, string};
 
 // Whether it is a contig, where its value stands, where its ID ends, and how many fields it has.
-#[derive(Clone, Copy)]
-pub enum QuickRead {
-    Map(bool, usize, usize, usize),
-    Unusual,
-}
-
-// Where the ID of a map ends, and how many fields it has.
-#[derive(Clone, Copy)]
-enum QuickMap {
-    Map(usize, usize),
-    Unusual,
-}
-
-// The place of a field's `=`, and past its bare value.
-#[derive(Clone, Copy)]
-enum PlainField {
-    Field(usize, usize),
-    Unusual,
-}
-
-// Whether a key under which the ID alone is required is `contig`, and where the value stands.
-#[derive(Clone, Copy)]
-enum QuickKey {
-    Key(bool, usize),
-    Unusual,
-}
+pub type QuickRead = Option<(bool, usize, usize, usize)>;
 
 // The key of a map that was read quickly.
 pub fn quick_key(contig: bool) -> MapKey
@@ -54,8 +27,8 @@ fn is_plainly(s: &[u8]) -> bool
     ensures { result ≡ is_plainly (u64_read s.now) }
 {
     match integer::parse_u64(s) {
-        IntegerRead::Value(_, plain) => plain,
-        IntegerRead::Refused => false,
+        Some((_, plain)) => plain,
+        None => false,
     }
 }
 
@@ -64,40 +37,32 @@ fn fits_contig(name: &[u8], text: &[u8]) -> bool
     ensures { FitsContig name.now text.now result }
 {
     match tag::contig_tag(name) {
-        Tag::Id => false,
-        Tag::Number => false,
-        Tag::ValueType => false,
-        Tag::Description => false,
-        Tag::Length => is_plainly(text),
-        Tag::Md5 => true,
-        Tag::Url => true,
-        Tag::Idx => is_plainly(text),
-        Tag::Other => true,
+        Tag::Id | Tag::Number | Tag::ValueType | Tag::Description => false,
+        Tag::Length | Tag::Idx => is_plainly(text),
+        Tag::Md5 | Tag::Url | Tag::Other => true,
     }
 }
 
 // A field whose value is bare, where no value may be bracketed.
-fn plain_field(s: &[u8], c: Cursor) -> PlainField
+// The place of its `=`, and past the value.
+fn plain_field(s: &[u8], c: Cursor) -> Option<(usize, usize)>
     ensures { ReadsPlain s.now c.at result }
 {
-    let KeyRead::Key(equals, value) = c.parse_key(s) else {
-        return PlainField::Unusual;
+    let Some((equals, value)) = c.parse_key(s) else {
+        return None;
     };
     let start = value.at;
-    if s.len() <= start {
-        return PlainField::Unusual;
+    if s.len() <= start || s[start] == b'"' {
+        return None;
     }
-    if s[start] == b'"' {
-        return PlainField::Unusual;
-    }
-    PlainField::Field(equals, string::find_stop(s, start))
+    Some((equals, string::find_stop(s, start)))
 }
 
 // Whether the field that stands here is bare, not the ID, plainly spelled and the last.
 fn is_last(s: &[u8], at: usize, contig: bool) -> bool
     ensures { IsLast contig s.now at result }
 {
-    let PlainField::Field(equals, end) = plain_field(s, Cursor { at }) else {
+    let Some((equals, end)) = plain_field(s, Cursor { at }) else {
         return false;
     };
     if !map::consume_suffix(s, Cursor { at: end }) {
@@ -117,63 +82,48 @@ fn is_last(s: &[u8], at: usize, contig: bool) -> bool
 fn is_followed(s: &[u8], end: usize, contig: bool) -> bool
     ensures { IsFollowed contig s.now end result }
 {
-    if s.len() <= end {
-        return false;
-    }
-    if s[end] != b',' {
-        return false;
-    }
-    is_last(s, end + 1, contig)
+    end < s.len() && s[end] == b',' && is_last(s, end + 1, contig)
 }
 
 // The value that stands at `at`.
-fn read_map(s: &[u8], at: usize, contig: bool) -> QuickMap
+// Where the ID of a map ends, and how many fields it has.
+fn read_map(s: &[u8], at: usize, contig: bool) -> Option<(usize, usize)>
     ensures { ReadsQuickMap contig s.now at result }
 {
     if !bytes::starts_with(bytes::part(s, at, s.len()), b"<ID=") {
-        return QuickMap::Unusual;
+        return None;
     }
     let start = at + 4;
-    if s.len() <= start {
-        return QuickMap::Unusual;
-    }
-    if s[start] == b'"' {
-        return QuickMap::Unusual;
+    if s.len() <= start || s[start] == b'"' {
+        return None;
     }
     let end = string::find_stop(s, start);
     if map::consume_suffix(s, Cursor { at: end }) {
-        return QuickMap::Map(end, 1);
+        return Some((end, 1));
     }
     if is_followed(s, end, contig) {
-        return QuickMap::Map(end, 2);
+        return Some((end, 2));
     }
-    QuickMap::Unusual
+    None
 }
 
-fn read_key(s: &[u8]) -> QuickKey
+// Whether a key under which the ID alone is required is `contig`, and where the value stands.
+fn read_key(s: &[u8]) -> Option<(bool, usize)>
     ensures { ReadsQuickKey s.now result }
 {
     let end = bytes::find(s, 2, b'=');
-    if end == 2 {
-        return QuickKey::Unusual;
-    }
-    if s.len() <= end {
-        return QuickKey::Unusual;
+    if end == 2 || s.len() <= end {
+        return None;
     }
     let name = bytes::part(s, 2, end);
     let at = end + 1;
     if bytes::same(name, b"fileformat") {
-        return QuickKey::Unusual;
+        return None;
     }
     match key::map_key_of(name) {
-        MapKey::Info => QuickKey::Unusual,
-        MapKey::Filter => QuickKey::Unusual,
-        MapKey::Format => QuickKey::Unusual,
-        MapKey::AlternativeAllele => QuickKey::Unusual,
-        MapKey::Contig => QuickKey::Key(true, at),
-        MapKey::Meta => QuickKey::Unusual,
-        MapKey::Pedigree => QuickKey::Unusual,
-        MapKey::Other => QuickKey::Key(false, at),
+        MapKey::Contig => Some((true, at)),
+        MapKey::Other => Some((false, at)),
+        _ => None,
     }
 }
 
@@ -181,13 +131,13 @@ pub fn read_quick(s: &[u8]) -> QuickRead
     ensures { ReadsQuick s.now result }
 {
     if !bytes::starts_with(s, b"##") {
-        return QuickRead::Unusual;
+        return None;
     }
-    let QuickKey::Key(contig, at) = read_key(s) else {
-        return QuickRead::Unusual;
+    let Some((contig, at)) = read_key(s) else {
+        return None;
     };
-    let QuickMap::Map(end, fields) = read_map(s, at, contig) else {
-        return QuickRead::Unusual;
+    let Some((end, fields)) = read_map(s, at, contig) else {
+        return None;
     };
-    QuickRead::Map(contig, at, end, fields)
+    Some((contig, at, end, fields))
 }

@@ -5,12 +5,10 @@ ghost use Rattle.rules.specs.Version.{read_version};
 ghost use Rattle.records.specs.Formats.{version_of};
 ghost use Rattle.records.specs.Records.{KeyedIs, version_record, ParsesRecord};
 
-use crate::file_format::{FileFormat, FileFormatRead};
+use crate::file_format::FileFormat;
 use crate::key::MapKey;
 use crate::map::Tally;
-use crate::quick::QuickRead;
 use crate::refusal::Refusal;
-use crate::value::ValueParsed;
 use crate::{file_format, key, quick, value};
 use values::bytes;
 use values::cursor::Cursor;
@@ -18,10 +16,9 @@ use values::string::Text;
 
 // The key, and past its `=`.
 #[derive(Clone, Copy)]
-pub enum KeyParsed {
+pub enum RecordKey {
     FileFormat(Cursor),
     Map(MapKey, Cursor),
-    Refused,
 }
 
 // A map: its key, where its value stands, its ID and which name stands for that, and what its fields tell together.
@@ -36,11 +33,10 @@ pub struct MapRecord {
 
 // A text has the place of its value.
 #[derive(Clone, Copy)]
-pub enum RecordRead {
+pub enum Record {
     FileFormat(FileFormat),
     Map(MapRecord),
     Text(usize),
-    Refused(Refusal),
 }
 
 // The length of the key before a value that stands here.
@@ -60,76 +56,63 @@ fn consume_prefix(s: &[u8]) -> bool
 }
 
 // The key after the prefix.
-fn parse_key(s: &[u8]) -> KeyParsed
+fn parse_key(s: &[u8]) -> Option<RecordKey>
     ensures { starts (ascii "##") s.now ≡ true → KeyedIs s.now result }
 {
     let end = bytes::find(s, 2, b'=');
-    if end == 2 {
-        return KeyParsed::Refused;
-    }
-    if s.len() <= end {
-        return KeyParsed::Refused;
+    if end == 2 || s.len() <= end {
+        return None;
     }
     let name = bytes::part(s, 2, end);
     let next = Cursor { at: end + 1 };
     if bytes::same(name, b"fileformat") {
-        return KeyParsed::FileFormat(next);
+        return Some(RecordKey::FileFormat(next));
     }
-    KeyParsed::Map(key::map_key_of(name), next)
+    Some(RecordKey::Map(key::map_key_of(name), next))
 }
 
 // The value of a fileformat line.
-fn parse_version(s: &[u8], c: Cursor) -> RecordRead
+fn parse_version(s: &[u8], c: Cursor) -> Result<Record, Refusal>
     ensures { result ≡ version_record (read_version (drop c.at s.now)) }
 {
     let value = bytes::part(s, c.at, s.len());
-    let FileFormatRead::Version(version) = file_format::parse_file_format(value) else {
-        return RecordRead::Refused(Refusal::InvalidFileFormat);
+    let Some(version) = file_format::parse_file_format(value) else {
+        return Err(Refusal::InvalidFileFormat);
     };
-    RecordRead::FileFormat(FileFormat {
-        major: version.major,
-        minor: version.minor,
-    })
+    Ok(Record::FileFormat(version))
 }
 
-pub fn parse_record(s: &[u8], version: FileFormat) -> RecordRead
+pub fn parse_record(s: &[u8], version: FileFormat) -> Result<Record, Refusal>
     ensures { ParsesRecord (version_of version) s.now result }
 {
     if !consume_prefix(s) {
-        return RecordRead::Refused(Refusal::InvalidRecord);
+        return Err(Refusal::InvalidRecord);
     }
     match parse_key(s) {
-        KeyParsed::FileFormat(next) => parse_version(s, next),
-        KeyParsed::Map(key, next) => match value::parse_value(s, next, key, version) {
-            ValueParsed::Map(id, tag, tally) => RecordRead::Map(MapRecord {
+        Some(RecordKey::FileFormat(next)) => parse_version(s, next),
+        Some(RecordKey::Map(key, next)) => match value::parse_value(s, next, key, version) {
+            Ok(Some((id, tag, tally))) => Ok(Record::Map(MapRecord {
                 key,
                 value: next.at,
-                id: Text {
-                    start: id.start,
-                    end: id.end,
-                    quoted: id.quoted,
-                },
+                id,
                 tag,
-                tally: Tally {
-                    odd: tally.odd,
-                    fields: tally.fields,
-                },
-            }),
-            ValueParsed::Text => RecordRead::Text(next.at),
-            ValueParsed::Refused(x) => RecordRead::Refused(x),
+                tally,
+            })),
+            Ok(None) => Ok(Record::Text(next.at)),
+            Err(x) => Err(x),
         },
-        KeyParsed::Refused => RecordRead::Refused(Refusal::InvalidRecord),
+        None => Err(Refusal::InvalidRecord),
     }
 }
 
 // As `parse_record`, and quicker where the record has one or two bare fields.
-pub fn read_record(s: &[u8], version: FileFormat) -> RecordRead
+pub fn read_record(s: &[u8], version: FileFormat) -> Result<Record, Refusal>
     ensures { ParsesRecord (version_of version) s.now result }
 {
-    let QuickRead::Map(contig, value, end, fields) = quick::read_quick(s) else {
+    let Some((contig, value, end, fields)) = quick::read_quick(s) else {
         return parse_record(s, version);
     };
-    RecordRead::Map(MapRecord {
+    Ok(Record::Map(MapRecord {
         key: quick::quick_key(contig),
         value,
         id: Text {
@@ -139,5 +122,5 @@ pub fn read_record(s: &[u8], version: FileFormat) -> RecordRead
         },
         tag: 0,
         tally: Tally { odd: false, fields },
-    })
+    }))
 }

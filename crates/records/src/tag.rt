@@ -31,37 +31,21 @@ impl Tag {
     pub fn is_kept(self) -> bool
         ensures { result ≡ is_kept self }
     {
-        match self {
-            Tag::Id => true,
-            Tag::Number => true,
-            Tag::ValueType => true,
-            Tag::Description => true,
-            Tag::Length => false,
-            Tag::Md5 => false,
-            Tag::Url => false,
-            Tag::Idx => false,
-            Tag::Other => false,
-        }
+        matches!(
+            self,
+            Tag::Id | Tag::Number | Tag::ValueType | Tag::Description
+        )
     }
 
     pub fn is_known(self) -> bool
         ensures { result ≡ is_some (tag_row self) }
     {
-        match self {
-            Tag::Id => true,
-            Tag::Number => true,
-            Tag::ValueType => true,
-            Tag::Description => true,
-            Tag::Length => true,
-            Tag::Md5 => true,
-            Tag::Url => true,
-            Tag::Idx => true,
-            Tag::Other => false,
-        }
+        !matches!(self, Tag::Other)
     }
 }
 
 // Which name stands for the ID: 0 ID, 1 Child, 2 Derived.
+// Kept: what may not change: it is the number that an entry's words hold, where 3 stands for no name.
 pub fn id_tag(field: &[u8]) -> u8
     ensures { result ≡ tag_of field.now }
 {
@@ -133,14 +117,11 @@ impl MapKey {
         ensures { tag_row result ≡ row_named field.now (after_id (kind_by self)) }
     {
         match self {
-            MapKey::Info => typed_tag(field),
+            MapKey::Info | MapKey::Format => typed_tag(field),
             MapKey::Filter => filter_tag(field),
-            MapKey::Format => typed_tag(field),
             MapKey::AlternativeAllele => alternative_allele_tag(field),
             MapKey::Contig => contig_tag(field),
-            MapKey::Meta => Tag::Other,
-            MapKey::Pedigree => Tag::Other,
-            MapKey::Other => Tag::Other,
+            MapKey::Meta | MapKey::Pedigree | MapKey::Other => Tag::Other,
         }
     }
 
@@ -148,22 +129,13 @@ impl MapKey {
     fn has_lineage(self, version: FileFormat) -> bool
         ensures { result ≡ (same (case_bytes self) (ascii "PEDIGREE") && earlier (version_of version) v4_3) }
     {
-        if !self.is_pedigree() {
-            return false;
-        }
-        version.lt(FileFormat::V4_3)
+        self.is_pedigree() && version.lt(FileFormat::V4_3)
     }
 
     fn names_id(self, version: FileFormat, field: &[u8]) -> bool
         ensures { result ≡ same (ascii "ID") (name_of (version_of version) (case_bytes self) field.now) }
     {
-        if bytes::same(b"ID", field) {
-            return true;
-        }
-        if !self.has_lineage(version) {
-            return false;
-        }
-        id_tag(field) != 0
+        bytes::same(b"ID", field) || self.has_lineage(version) && id_tag(field) != 0
     }
 
     pub fn tag(self, version: FileFormat, field: &[u8]) -> Tag

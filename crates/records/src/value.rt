@@ -9,32 +9,22 @@ ghost use Rattle.records.specs.Records.{fits, ParsesValue};
 use crate::definition::Definition;
 use crate::file_format::FileFormat;
 use crate::key::MapKey;
-use crate::map::{MapRead, Tally, TypedRead};
+use crate::map::{MapRead, Tally};
 use crate::refusal::Refusal;
-use crate::{alternative_allele, contig, definition, filter, map, other, typed};
+use crate::{definition, map, typed};
 use values::bytes;
 use values::cursor::Cursor;
 use values::string::Text;
 
 // A map has its ID, which name stands for it, and what its fields tell together.
-#[derive(Clone, Copy)]
-pub enum ValueParsed {
-    Map(Text, u8, Tally),
-    Text,
-    Refused(Refusal),
-}
+pub type ValueParsed = Result<Option<(Text, u8, Tally)>, Refusal>;
 
 fn is_defined(definition: Definition, n: &[u8], nq: bool, t: &[u8], tq: bool) -> bool
     ensures { result ≡ fits definition n.now nq t.now tq }
 {
     match definition {
-        Definition::Unreserved => true,
-        Definition::Of(x, y) => {
-            if !x.is(n, nq) {
-                return false;
-            }
-            y.is(t, tq)
-        }
+        None => true,
+        Some((x, y)) => { x.is(n, nq) && y.is(t, tq) }
     }
 }
 
@@ -59,23 +49,12 @@ fn parse_typed_value(s: &[u8], c: Cursor, key: MapKey, version: FileFormat) -> M
     ensures { Full key → ParsesMap (version_of version) key s.now c.at result }
 {
     match typed::parse_typed(s, c, key, version) {
-        TypedRead::Refused(x) => MapRead::Refused(x),
-        TypedRead::Typed(id, tag, number, kind, tally) => {
+        Err(x) => Err(x),
+        Ok((id, tag, number, kind, tally)) => {
             if !validate_definition(s, version, key, id, number, kind) {
-                return MapRead::Refused(Refusal::DefinitionMismatch);
+                return Err(Refusal::DefinitionMismatch);
             }
-            MapRead::Map(
-                Text {
-                    start: id.start,
-                    end: id.end,
-                    quoted: id.quoted,
-                },
-                tag,
-                Tally {
-                    odd: tally.odd,
-                    fields: tally.fields,
-                },
-            )
+            Ok((id, tag, tally))
         }
     }
 }
@@ -84,14 +63,11 @@ fn parse_map_value(s: &[u8], c: Cursor, key: MapKey, version: FileFormat) -> Map
     ensures { ParsesMap (version_of version) key s.now c.at result }
 {
     match key {
-        MapKey::Info => parse_typed_value(s, c, MapKey::Info, version),
-        MapKey::Filter => filter::parse_filter(s, c, version),
-        MapKey::Format => parse_typed_value(s, c, MapKey::Format, version),
-        MapKey::AlternativeAllele => alternative_allele::parse_alternative_allele(s, c, version),
-        MapKey::Contig => contig::parse_contig(s, c, version),
-        MapKey::Meta => other::parse_meta(s, c, version),
-        MapKey::Pedigree => other::parse_pedigree(s, c, version),
-        MapKey::Other => other::parse_other(s, c, version),
+        MapKey::Info | MapKey::Format => parse_typed_value(s, c, key, version),
+        MapKey::Filter | MapKey::AlternativeAllele => map::parse_described(s, c, key, version),
+        MapKey::Contig | MapKey::Meta | MapKey::Pedigree | MapKey::Other => {
+            map::parse_identified(s, c, key, version)
+        }
     }
 }
 
@@ -99,34 +75,17 @@ fn parse_map_value(s: &[u8], c: Cursor, key: MapKey, version: FileFormat) -> Map
 pub fn is_map_value(s: &[u8], c: Cursor, key: MapKey, version: FileFormat) -> bool
     ensures { result ≡ is_map (version_of version) (case_bytes key) (drop c.at s.now) }
 {
-    if key.is_typed() {
-        return true;
-    }
-    if key.is_always_map() {
-        return true;
-    }
-    map::is_map(s, c, version)
+    key.is_typed() || key.is_always_map() || map::is_map(s, c, version)
 }
 
 pub fn parse_value(s: &[u8], c: Cursor, key: MapKey, version: FileFormat) -> ValueParsed
     ensures { ParsesValue (version_of version) key s.now c.at result }
 {
     if !is_map_value(s, c, key, version) {
-        return ValueParsed::Text;
+        return Ok(None);
     }
     match parse_map_value(s, c, key, version) {
-        MapRead::Map(id, tag, tally) => ValueParsed::Map(
-            Text {
-                start: id.start,
-                end: id.end,
-                quoted: id.quoted,
-            },
-            tag,
-            Tally {
-                odd: tally.odd,
-                fields: tally.fields,
-            },
-        ),
-        MapRead::Refused(x) => ValueParsed::Refused(x),
+        Ok((id, tag, tally)) => Ok(Some((id, tag, tally))),
+        Err(x) => Err(x),
     }
 }

@@ -4,7 +4,7 @@ use native.Mathlib.Omega.{arith}
 use mathlib.Core.Path.{◌≡◌, refl, sym, ap, ap₂, ◌∙◌}
 use mathlib.Core.Bool.{Bool, true, false}
 use mathlib.Core.List.{List, [], ◌∷◌, tail}
-use mathlib.Core.Option.{Option, none, some}
+use Rattle.std.specs.Prelude.{Option, None, Some, Result, Ok, Err, ⊤}
 use lib.Dec.{eqb}
 use lib.ListN.{length, get_or}
 use Rattle.values.specs.Bytes.{Bytes}
@@ -22,11 +22,10 @@ use Rattle.entries.specs.declared.form.Form.{Form}
 use Rattle.entries.specs.Values.{limits_by}
 use Rattle.entries.specs.Tables.{room, first_entries, entry_in}
 use Rattle.header.proofs.Callers.{Read, read_refused, read_accepted, read_records, read_kept, read_good}
-use Rattle.header.specs.declared.parser.Outcome.TheVariants as outcome
 use Rattle.header.specs.declared.parser.ReadAnswer.{ReadAnswer}
 use Rattle.header.specs.Parsers.{AnswerMeaning, answer_means, reading_means, read_into, ReadCall}
-use Rattle.register.specs.declared.probe.RegisterOutcome.{RegisterOutcome}
-use Rattle.register.specs.declared.probe.RegisterOutcome.TheVariants.{Accepted as Whole, Unread, EarlyVersion, UnknownCell, MissingWell, InvalidConstant}
+use Rattle.register.specs.declared.probe.RegisterRefusal.{RegisterRefusal}
+use Rattle.register.specs.declared.probe.RegisterRefusal.TheVariants.{Unread, EarlyVersion, UnknownCell, MissingWell, InvalidConstant}
 use Rattle.register.specs.declared.probe.RegisterRead.{RegisterRead}
 use Rattle.register.specs.declared.cells.Plate.{Plate}
 use Rattle.register.specs.Cells.{Cell, cells, first_of, wells}
@@ -39,7 +38,7 @@ use Rattle.register.proofs.Bridge.{header_cells}
 use Rattle.rules.specs.Claims.{Sized}
 
 -- what answers the needs of `number`
-pub number_told : (o : RegisterOutcome) {x : Refusal} → o ≡ Unread x → {r : ℕ} → r ≡ number x → r ≡ register_number o
+pub number_told : (o : Result ⊤ RegisterRefusal) {x : Refusal} → o ≡ Err (Unread x) → {r : ℕ} → r ≡ number x → r ≡ register_number o
 number_told o e q = q ∙ rw e
 
 -- The refusals, one by one
@@ -53,21 +52,21 @@ unfolding counted
 counted_there g cs e = rw (e, counted)
 
 -- a fault is the cell of a well
-fault_cell : (ws : List ℕ) (cs : List Cell) {c : Cell} → faulty ws cs ≡ some c → (w : ℕ) × (first_of w cs ≡ some c)
+fault_cell : (ws : List ℕ) (cs : List Cell) {c : Cell} → faulty ws cs ≡ Some c → (w : ℕ) × (first_of w cs ≡ Some c)
 unfolding faulty
 fault_cell [] cs e = none_not e
 fault_cell (w ∷ ws) cs {c} e = elim (see (fault_of (first_of w cs))) [
-  | there d q ↦ (w, cell (first_of w cs) (q ∙ ap some (some_is (sym (faulty_here w ws cs q) ∙ e))))
+  | there d q ↦ (w, cell (first_of w cs) (q ∙ ap Some (some_is (sym (faulty_here w ws cs q) ∙ e))))
   | gone q ↦ fault_cell ws cs (sym (faulty_later w ws cs q) ∙ e)
 ]
   where
-    cell : (o : Option Cell) → fault_of o ≡ some c → o ≡ some c
-    cell none q = none_not q
-    cell (some d) q = one d.constant q
+    cell : (o : Option Cell) → fault_of o ≡ Some c → o ≡ Some c
+    cell None q = none_not q
+    cell (Some d) q = one d.constant q
       where
-        one : (k : Option ℕ) → fault_in d k ≡ some c → some d ≡ some c
-        one none q = q
-        one (some n) q = none_not q
+        one : (k : Option ℕ) → fault_in d k ≡ Some c → Some d ≡ Some c
+        one None q = q
+        one (Some n) q = none_not q
 
 -- what the reading told
 module _ (a : ReadAnswer) (g : Reading) (e : answer_means a ≡ reading_means g) where
@@ -81,13 +80,13 @@ module _ (a : ReadAnswer) (g : Reading) (e : answer_means a ≡ reading_means g)
   entries_are = ap (λ (x : AnswerMeaning). x.entries) e
 
   -- a refusal of the register's own
-  refusal_told : (x : RegisterOutcome) (line start : ℕ) {r : RegisterRead} → r ≡ register_refused_as x line start a.entries → register_answer_means r ≡ register_means (register_refused (register_number x) line start g.entries)
+  refusal_told : (x : Result ⊤ RegisterRefusal) (line start : ℕ) {r : RegisterRead} → r ≡ register_refused_as x line start a.entries → register_answer_means r ≡ register_means (register_refused (register_number x) line start g.entries)
   refusal_told x line start q = ap register_answer_means q ∙ ap (λ (n : ℕ). record { number = register_number x; line = line; start = start; entries = n; constants = filled [] }) entries_are
 
 -- what answers the needs of `answer_known`
 module _ (form : Form) (a : ReadAnswer) (h : Bytes) (t : List ℕ) {ls : List ℕ} {q : Bool} (m : MissingTold ls q) where
-  pub known_missing : q ≡ true → {r : RegisterRead} → r ≡ register_refused_as MissingWell 0 0 a.entries → AnswersKnown form a h t ls r
-  known_missing f i = record { is = λ l g e. refusal_told a g e MissingWell 0 0 i ∙ ap register_means (sym (counted_absent g (table_cells form h t) (sym (m.is form h t l) ∙ f))) }
+  pub known_missing : q ≡ true → {r : RegisterRead} → r ≡ register_refused_as (Err MissingWell) 0 0 a.entries → AnswersKnown form a h t ls r
+  known_missing f i = record { is = λ l g e. refusal_told a g e (Err MissingWell) 0 0 i ∙ ap register_means (sym (counted_absent g (table_cells form h t) (sym (m.is form h t l) ∙ f))) }
 
   module _ (f : q ≡ false) {p : Plate} (k : ConstantsTold form h t ls p) where
     abbrev cs : List Cell
@@ -99,7 +98,7 @@ module _ (form : Form) (a : ReadAnswer) (h : Bytes) (t : List ℕ) {ls : List �
     plate_is : Lines cs ls → p ≡ plate_of cs (faulty wells cs)
     plate_is l = k.is l (sym (m.is form h t l) ∙ f)
 
-    pub known_fault : 0 < p.fault → {s : ℕ} → StartTold form t p.fault s → {r : RegisterRead} → r ≡ register_refused_as InvalidConstant p.fault s a.entries → AnswersKnown form a h t ls r
+    pub known_fault : 0 < p.fault → {s : ℕ} → StartTold form t p.fault s → {r : RegisterRead} → r ≡ register_refused_as (Err InvalidConstant) p.fault s a.entries → AnswersKnown form a h t ls r
     known_fault z {s} y {r} i = record {
       is = λ l g e. go g e (plate_is l) (settles l g) (see (faulty wells cs));
     }
@@ -111,15 +110,15 @@ module _ (form : Form) (a : ReadAnswer) (h : Bytes) (t : List ℕ) {ls : List �
             let d = fault_cell wells cs n in
             let o = from_entry form h t d.0 d.1 in
             let s-is : s ≡ c.start = y.is z ∙ ap (λ (x : ℕ). (entry_in form t (x - 1)).start) b ∙ sym o.start in
-            refusal_told a g e InvalidConstant p.fault s i ∙ ap₂ (λ (x y : ℕ). register_means (register_refused 40 x y g.entries)) b s-is ∙ ap register_means (sym (w ∙ ap (settled g cs) n))
+            refusal_told a g e (Err InvalidConstant) p.fault s i ∙ ap₂ (λ (x y : ℕ). register_means (register_refused 40 x y g.entries)) b s-is ∙ ap register_means (sym (w ∙ ap (settled g cs) n))
 
-    pub known_whole : p.fault ≤ 0 → AnswersKnown form a h t ls (record { outcome = Whole; line = a.line; start = a.start; entries = a.entries; constants = p.constants })
+    pub known_whole : p.fault ≤ 0 → AnswersKnown form a h t ls (record { outcome = (Ok tt); line = a.line; start = a.start; entries = a.entries; constants = p.constants })
     known_whole z = record {
       is = λ l g e. go g e l (plate_is l) (settles l g) (see (faulty wells cs));
     }
       where
         go : (g : Reading) → answer_means a ≡ reading_means g → Lines cs ls → p ≡ plate_of cs (faulty wells cs) → counted g cs ≡ settled g cs (faulty wells cs) → Seen (faulty wells cs)
-            → register_answer_means (record { outcome = Whole; line = a.line; start = a.start; entries = a.entries; constants = p.constants }) ≡ register_means (counted g cs)
+            → register_answer_means (record { outcome = (Ok tt); line = a.line; start = a.start; entries = a.entries; constants = p.constants }) ≡ register_means (counted g cs)
         go g e l u w (there c n) =
             let b : p.fault ≡ c.line = ap (λ (x : Plate). x.fault) (u ∙ ap (plate_of cs) n) in
             let d = fault_cell wells cs n in
@@ -143,9 +142,9 @@ module _ (a : ReadAnswer) (f : FileFormat) (i : f.major < 4294967296) (j : f.min
   sized_is : Sized (version_of f)
   sized_is = record { major = omega arith; minor = omega arith }
 
-  pub early_version : q ≡ true → {r : RegisterRead} → r ≡ register_refused_as EarlyVersion 0 0 a.entries → AnswersRegister a f (table_cells form h t) r
+  pub early_version : q ≡ true → {r : RegisterRead} → r ≡ register_refused_as (Err EarlyVersion) 0 0 a.entries → AnswersRegister a f (table_cells form h t) r
   early_version y k = record {
-    is = λ g e. refusal_told a g e EarlyVersion 0 0 k ∙ ap register_means (sym (accepted_early g (version_of f) (table_cells form h t) (sym u ∙ y)));
+    is = λ g e. refusal_told a g e (Err EarlyVersion) 0 0 k ∙ ap register_means (sym (accepted_early g (version_of f) (table_cells form h t) (sym u ∙ y)));
     sized = sized_is;
   }
 
@@ -156,7 +155,7 @@ module _ (a : ReadAnswer) (f : FileFormat) (i : f.major < 4294967296) (j : f.min
     recent : (g : Reading) {o : Option Cell} → first_of 0 those ≡ o → register_accepted g (version_of f) those ≡ wells_known g those o
     recent g n = accepted_recent g (version_of f) those (sym u ∙ y) ∙ ap (wells_known g those) n
 
-    pub unknown_cell : 0 < get_or ls 0 0 → {s : ℕ} → StartTold form t (get_or ls 0 0) s → {r : RegisterRead} → r ≡ register_refused_as UnknownCell (get_or ls 0 0) s a.entries → AnswersRegister a f those r
+    pub unknown_cell : 0 < get_or ls 0 0 → {s : ℕ} → StartTold form t (get_or ls 0 0) s → {r : RegisterRead} → r ≡ register_refused_as (Err UnknownCell) (get_or ls 0 0) s a.entries → AnswersRegister a f those r
     unknown_cell z {s} x {r} k = record { is = λ g e. go g e (see (first_of 0 those)); sized = sized_is }
       where
         go : (g : Reading) → answer_means a ≡ reading_means g → Seen (first_of 0 those) → register_answer_means r ≡ register_means (register_accepted g (version_of f) those)
@@ -164,7 +163,7 @@ module _ (a : ReadAnswer) (f : FileFormat) (i : f.major < 4294967296) (j : f.min
         go g e (there c n) =
             let b : get_or ls 0 0 ≡ c.line = l.each 0 (omega arith) ∙ ap cell_line n in
             let s-is : s ≡ c.start = x.is z ∙ ap (λ (m : ℕ). (entry_in form t (m - 1)).start) b ∙ sym (from_entry form h t 0 n).start in
-            refusal_told a g e UnknownCell (get_or ls 0 0) s k ∙ ap₂ (λ (x y : ℕ). register_means (register_refused 38 x y g.entries)) b s-is ∙ ap register_means (sym (recent g n))
+            refusal_told a g e (Err UnknownCell) (get_or ls 0 0) s k ∙ ap₂ (λ (x y : ℕ). register_means (register_refused 38 x y g.entries)) b s-is ∙ ap register_means (sym (recent g n))
 
     pub known_cells : get_or ls 0 0 ≤ 0 → {r : RegisterRead} → AnswersKnown form a h t ls r → AnswersRegister a f those r
     known_cells z {r} k = record { is = λ g e. go g e (see (first_of 0 those)); sized = sized_is }
@@ -183,18 +182,18 @@ module _ (form : Form) (imposed : Option Version) (h : Bytes) (t₀ : List ℕ) 
   abbrev read : Reading
   read = read_into form imposed t₀ h
 
-  module _ {x : Refusal} (o : a.outcome ≡ outcome.Refused x) where
+  module _ {x : Refusal} (o : a.outcome ≡ Err x) where
     refused_is : register_of (limits_by form) imposed (room form t₀) h ≡ unread read
     unfolding register_of
     refused_is = let n = number_suc x in ap (by_number read) (read_refused call o ∙ n.1)
 
-    pub refused_call : {r : RegisterRead} → r ≡ register_refused_as (Unread x) a.line a.start a.entries → RegisterCall form imposed h t₀ r t
+    pub refused_call : {r : RegisterRead} → r ≡ register_refused_as (Err (Unread x)) a.line a.start a.entries → RegisterCall form imposed h t₀ r t
     refused_call q = record {
       answer = ap register_answer_means q ∙ rw (line_is a read call.answer, start_is a read call.answer, entries_are a read call.answer, ← read_refused call o) (ap register_means (sym refused_is));
       table = call.table;
     }
 
-  module _ {f : FileFormat} {n : ℕ} (o : a.outcome ≡ outcome.Accepted f n) {kept : List ℕ} (ek : kept ≡ first_entries form t a.entries) where
+  module _ {f : FileFormat} {n : ℕ} (o : a.outcome ≡ Ok (f, n)) {kept : List ℕ} (ek : kept ≡ first_entries form t a.entries) where
     abbrev was_read : Read read (version_of f) n
     was_read = read_records call o
 
@@ -248,33 +247,33 @@ number_small refusal.FormTooLong = omega arith
 number_small refusal.InvalidEntry = omega arith
 
 -- the outcome of a number that is none of them
-abbrev plain : ℕ → RegisterOutcome
+abbrev plain : ℕ → Result ⊤ RegisterRefusal
 plain n = elim (eqb n 0) [
-  | true ↦ Whole
-  | false ↦ elim (eqb n 37) [ true ↦ EarlyVersion | false ↦ elim (eqb n 38) [ true ↦ UnknownCell | false ↦ elim (eqb n 39) [ true ↦ MissingWell | false ↦ InvalidConstant ] ] ]
+  | true ↦ Ok tt
+  | false ↦ elim (eqb n 37) [ true ↦ Err EarlyVersion | false ↦ elim (eqb n 38) [ true ↦ Err UnknownCell | false ↦ elim (eqb n 39) [ true ↦ Err MissingWell | false ↦ Err InvalidConstant ] ] ]
 ]
 
-data Sort (x : RegisterOutcome) : Type 0 where
-  unread_one : (r : Refusal) → x ≡ Unread r → Sort x
+data Sort (x : Result ⊤ RegisterRefusal) : Type 0 where
+  unread_one : (r : Refusal) → x ≡ Err (Unread r) → Sort x
   own : plain (register_number x) ≡ x → (1 ≤ register_number x → 37 ≤ register_number x) → Sort x
 
-sort : (x : RegisterOutcome) → Sort x
-sort Whole = own refl (λ l. absurd (omega arith))
-sort (Unread r) = unread_one r refl
-sort EarlyVersion = own refl (λ l. omega arith)
-sort UnknownCell = own refl (λ l. omega arith)
-sort MissingWell = own refl (λ l. omega arith)
-sort InvalidConstant = own refl (λ l. omega arith)
+sort : (x : Result ⊤ RegisterRefusal) → Sort x
+sort (Ok tt) = own refl (λ l. absurd (omega arith))
+sort (Err (Unread r)) = unread_one r refl
+sort (Err EarlyVersion) = own refl (λ l. omega arith)
+sort (Err UnknownCell) = own refl (λ l. omega arith)
+sort (Err MissingWell) = own refl (λ l. omega arith)
+sort (Err InvalidConstant) = own refl (λ l. omega arith)
 
-apart : {A : Type 0} (x : RegisterOutcome) (r : Refusal) → (1 ≤ register_number x → 37 ≤ register_number x) → register_number x ≡ number r → A
+apart : {A : Type 0} (x : Result ⊤ RegisterRefusal) (r : Refusal) → (1 ≤ register_number x → 37 ≤ register_number x) → register_number x ≡ number r → A
 apart x r b e = let n = number_small r in absurd (omega (arith, n.0, n.1, b (omega (arith, n.0, e)), e))
 
-outcome_one : (x y : RegisterOutcome) → register_number x ≡ register_number y → x ≡ y
+outcome_one : (x y : Result ⊤ RegisterRefusal) → register_number x ≡ register_number y → x ≡ y
 outcome_one x y e = elim (sort x) [
   | own p b ↦ elim (sort y) [ own q c ↦ sym p ∙ ap plain e ∙ q | unread_one r i ↦ apart x r b (e ∙ ap register_number i) ]
   | unread_one r i ↦ elim (sort y) [
     | own q c ↦ apart y r c (sym e ∙ ap register_number i)
-    | unread_one s j ↦ i ∙ ap Unread (number_injective r s (sym (ap register_number i) ∙ e ∙ ap register_number j)) ∙ sym j
+    | unread_one s j ↦ i ∙ ap (λ (z : Refusal). Err (Unread z)) (number_injective r s (sym (ap register_number i) ∙ e ∙ ap register_number j)) ∙ sym j
   ]
 ]
 

@@ -5,7 +5,7 @@ use native.Mathlib.Decide.{dec_le}
 use mathlib.Core.Path.{◌≡◌, refl, sym, ap, subst, ◌∙◌}
 use mathlib.Core.Bool.{true, false}
 use mathlib.Core.List.{List, [], ◌∷◌, ◌++◌, tail}
-use mathlib.Core.Option.{Option, none, some}
+use Rattle.std.specs.Prelude.{Option, None, Some}
 use lib.ListN.{length, get_or}
 use lib.Seq.{ext_get_or}
 use Rattle.values.specs.Bytes.{Bytes, ascii, same, starts}
@@ -39,12 +39,12 @@ use Rattle.rules.specs.Claims.{All, Accepted, nth}
 -- Two records that declare one well
 
 -- a later record beside an earlier one
-apart_at : (v : Version) (rs : List Record) (i j : ℕ) {r s : Record} → Apart v rs → i < j → nth rs i ≡ some r → nth rs j ≡ some s → beside v s r ≡ 0
+apart_at : (v : Version) (rs : List Record) (i j : ℕ) {r s : Record} → Apart v rs → i < j → nth rs i ≡ Some r → nth rs j ≡ Some s → beside v s r ≡ 0
 apart_at v [] i j a l x y = none_not x
 apart_at v (z ∷ rs) zero zero a l x y = absurd (omega arith)
 apart_at v (z ∷ rs) zero (suc j) {r} {s} a l x y = subst (λ (q : Record). beside v s q ≡ 0) (some_is x) (at rs j a.0 y)
   where
-    at : (rs : List Record) (j : ℕ) → All (λ q. beside v q z ≡ 0) rs → nth rs j ≡ some s → beside v s z ≡ 0
+    at : (rs : List Record) (j : ℕ) → All (λ q. beside v q z ≡ 0) rs → nth rs j ≡ Some s → beside v s z ≡ 0
     at [] j h e = none_not e
     at (q ∷ rs) zero h e = subst (λ (u : Record). beside v u z ≡ 0) (some_is e) h.0
     at (q ∷ rs) (suc j) h e = at rs j h.1 e
@@ -84,17 +84,17 @@ record Called (r : Reading) : Type 0 where
   columns : Columns
   accepted_is : Accepted version records columns r
   recent : earlier version v4_3 ≡ false
-  all_known : first_of 0 (cells_of r version records) ≡ none
+  all_known : first_of 0 (cells_of r version records) ≡ None
   all_there : absent wells (cells_of r version records) ≡ false
-  faultless : faulty wells (cells_of r version records) ≡ none
+  faultless : faulty wells (cells_of r version records) ≡ None
   register : (registered r).constants ≡ constants wells (cells_of r version records)
 
 -- the refusals did not come
 record Passed (r : Reading) (v : Version) (cs : List Cell) : Type 0 where
   recent : earlier v v4_3 ≡ false
-  all_known : first_of 0 cs ≡ none
+  all_known : first_of 0 cs ≡ None
   all_there : absent wells cs ≡ false
-  faultless : faulty wells cs ≡ none
+  faultless : faulty wells cs ≡ None
   register : (register_accepted r v cs).constants ≡ constants wells cs
 
 passed : (r : Reading) (v : Version) (cs : List Cell) → (register_accepted r v cs).number ≡ 0 → Passed r v cs
@@ -140,7 +140,7 @@ was_called r z = go r.number refl r.state refl
 -- the well w has one line in the header: record `at`, which stands on line `at` + 2, and its K spells n hundredths
 pub record OneLine (v : Version) (rs : List Record) (w n : ℕ) : Type 0 where
   pub at : ℕ
-  pub declares : CellAt v rs at w (some n)
+  pub declares : CellAt v rs at w (Some n)
   pub only : (j : ℕ) {k : Option ℕ} → CellAt v rs j w k → j ≡ at
 
 -- a header whose register was accepted: from 4.3 on, with forty constants, each that of its well's one line
@@ -176,10 +176,10 @@ register_holds lim imposed room h z =
     at : {cs : List Cell} {xs : List ℕ} (w : ℕ) → 1 ≤ w → xs ≡ constants wells cs → Set cs (1 + (w - 1)) (get_or (constants wells cs) (w - 1) 0) → Set cs w (get_or xs (w - 1) 0)
     at {cs} {xs} w a e s = let i : 1 + (w - 1) ≡ w = omega arith in rw e (subst (λ (k : ℕ). Set cs k (get_or (constants wells cs) (w - 1) 0)) i s)
 
-    one : (v : Version) (rs : List Record) (cs : List Cell) (w : ℕ) {n : ℕ} → 1 ≤ w → Apart v rs → ((c : Cell) → first_of w cs ≡ some c → Found v 2 rs w c) → Set cs w n → OneLine v rs w n
+    one : (v : Version) (rs : List Record) (cs : List Cell) (w : ℕ) {n : ℕ} → 1 ≤ w → Apart v rs → ((c : Cell) → first_of w cs ≡ Some c → Found v 2 rs w c) → Set cs w n → OneLine v rs w n
     one v rs cs w {n} a p f s =
         let d = f s.cell s.first in
-        let c : CellAt v rs d.at w (some n) = record { fs = d.there.fs; is = d.there.is; well = d.there.well; constant = d.there.constant ∙ s.constant } in
+        let c : CellAt v rs d.at w (Some n) = record { fs = d.there.fs; is = d.there.is; well = d.there.well; constant = d.there.constant ∙ s.constant } in
         record { at = d.at; declares = c; only = λ j x. one_cell v rs j d.at p a x c }
 
 -- 2. Lines that are added
@@ -191,7 +191,7 @@ pub data Added : List Bytes → List Bytes → Type 0 where
   new : (q : Bytes) {ps qs : List Bytes} → Added ps qs → Added ps (q ∷ qs)
 
 -- each record is still there
-still_there : (v : Version) (ps qs : List Bytes) (rs xs : List Record) → Added ps qs → Reads v ps rs → Reads v qs xs → (i : ℕ) {r : Record} → nth rs i ≡ some r → (j : ℕ) × (nth xs j ≡ some r)
+still_there : (v : Version) (ps qs : List Bytes) (rs xs : List Record) → Added ps qs → Reads v ps rs → Reads v qs xs → (i : ℕ) {r : Record} → nth rs i ≡ Some r → (j : ℕ) × (nth xs j ≡ Some r)
 still_there v [] [] [] xs as_was a b i e = none_not e
 still_there v [] [] (r ∷ rs) xs as_was a b i e = absurd a
 still_there v (p ∷ ps) [] rs xs x a b i e = elim x [ ]
@@ -199,7 +199,7 @@ still_there v (p ∷ ps) (_ ∷ qs) [] xs (kept _ x) a b i e = absurd a
 still_there v (p ∷ ps) (_ ∷ qs) (r ∷ rs) [] (kept _ x) a b i e = absurd b
 still_there v (p ∷ ps) (_ ∷ qs) (r ∷ rs) (y ∷ xs) (kept _ x) a b zero e = (0, sym (ok_is (sym a.0 ∙ b.0)) ∙ e)
   where
-    ok_is : {r y : Record} → ok r ≡ ok y → some r ≡ some y
+    ok_is : {r y : Record} → ok r ≡ ok y → Some r ≡ Some y
     ok_is q = cc
 still_there v (p ∷ ps) (_ ∷ qs) (r ∷ rs) (y ∷ xs) (kept _ x) a b (suc i) e = let d = still_there v ps qs rs xs x a.1 b.1 i e in (suc d.0, d.1)
 still_there v ps (q ∷ qs) rs [] (new _ x) a b i e = absurd b
@@ -227,13 +227,13 @@ factory_line lim imposed room room' h h' f z z' ps qs e e' x a a' =
     at : {v : Version} {rs : List Record} (xs : List ℕ) (i : ℕ) → OneLine v rs (i + 1) (get_or xs (i + 1 - 1) 0) → OneLine v rs (i + 1) (get_or xs i 0)
     at {v} {rs} xs i o = let e : i + 1 - 1 ≡ i = omega arith in subst (λ (k : ℕ). OneLine v rs (i + 1) (get_or xs k 0)) e o
 
-    agree : (v u : Version) (rs xs : List Record) (w : ℕ) {n m : ℕ} → u ≡ v → 1 ≤ w → ((j : ℕ) (r : Record) → nth rs j ≡ some r → (k : ℕ) × (nth xs k ≡ some r))
+    agree : (v u : Version) (rs xs : List Record) (w : ℕ) {n m : ℕ} → u ≡ v → 1 ≤ w → ((j : ℕ) (r : Record) → nth rs j ≡ Some r → (k : ℕ) × (nth xs k ≡ Some r))
         → OneLine v rs w n → OneLine u xs w m → n ≡ m
     agree v u rs xs w i l s o q =
         let d = o.declares in
         let k = s o.at (fields (ascii "cell") d.fs) d.is in
         let c : CellAt u xs k.0 w (constant_of (field_named u (ascii "cell") (ascii "K") d.fs)) = record { fs = d.fs; is = k.1; well = rw i d.well; constant = refl } in
-        let y : ◌≡◌ {A = Option Record} (some (fields (ascii "cell") d.fs)) (some (fields (ascii "cell") q.declares.fs)) = sym k.1 ∙ ap (nth xs) (q.only k.0 c) ∙ q.declares.is in
+        let y : ◌≡◌ {A = Option Record} (Some (fields (ascii "cell") d.fs)) (Some (fields (ascii "cell") q.declares.fs)) = sym k.1 ∙ ap (nth xs) (q.only k.0 c) ∙ q.declares.is in
         let t : d.fs ≡ q.declares.fs = cc in
         some_is (sym d.constant ∙ rw (← i, t) q.declares.constant)
 

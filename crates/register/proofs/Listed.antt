@@ -4,7 +4,7 @@ use native.Mathlib.Omega.{arith}
 use mathlib.Core.Path.{◌≡◌, refl, sym, ap, ◌∙◌}
 use mathlib.Core.Bool.{true, false, true≢false}
 use mathlib.Core.List.{List, [], ◌∷◌}
-use mathlib.Core.Option.{Option, none, some}
+use Rattle.std.specs.Prelude.{Option, None, Some}
 use lib.Dec.{eqb}
 use lib.ListN.{length, get_or}
 use borrow.Author.Tests.{eqb-true}
@@ -23,17 +23,17 @@ use Rattle.rules.specs.Claims.{nth}
 
 -- an option by cases, with the equation kept
 pub data Seen {A : Type 0} (a : Option A) : Type 0 where
-  there : (x : A) → a ≡ some x → Seen a
-  gone : a ≡ none → Seen a
+  there : (x : A) → a ≡ Some x → Seen a
+  gone : a ≡ None → Seen a
 
 pub see : {A : Type 0} (a : Option A) → Seen a
-see none = gone refl
-see (some x) = there x refl
+see None = gone refl
+see (Some x) = there x refl
 
 -- The first cell of a well
 
 module _ (w : ℕ) (c : Cell) (cs : List Cell) where
-  pub first_here : eqb c.well w ≡ true → first_of w (c ∷ cs) ≡ some c
+  pub first_here : eqb c.well w ≡ true → first_of w (c ∷ cs) ≡ Some c
   unfolding first_of
   first_here e = rw (e, first_of)
 
@@ -46,8 +46,8 @@ module _ (w : ℕ) (c : Cell) (cs : List Cell) where
 -- the well w has its cell, with n hundredths
 pub record Set (cs : List Cell) (w n : ℕ) : Type 0 where
   pub cell : Cell
-  pub first : first_of w cs ≡ some cell
-  pub constant : cell.constant ≡ some n
+  pub first : first_of w cs ≡ Some cell
+  pub constant : cell.constant ≡ Some n
 
 module _ (w : ℕ) (ws : List ℕ) (cs : List Cell) where
   pub absent_here : absent (w ∷ ws) cs ≡ false → is_absent (first_of w cs) ≡ false
@@ -58,28 +58,28 @@ module _ (w : ℕ) (ws : List ℕ) (cs : List Cell) where
   unfolding absent
   absent_later e = or_r (is_absent (first_of w cs)) (absent ws cs) e
 
-  pub faulty_here : {c : Cell} → fault_of (first_of w cs) ≡ some c → faulty (w ∷ ws) cs ≡ some c
+  pub faulty_here : {c : Cell} → fault_of (first_of w cs) ≡ Some c → faulty (w ∷ ws) cs ≡ Some c
   unfolding faulty
   faulty_here e = rw (e, faulty)
 
-  pub faulty_later : fault_of (first_of w cs) ≡ none → faulty (w ∷ ws) cs ≡ faulty ws cs
+  pub faulty_later : fault_of (first_of w cs) ≡ None → faulty (w ∷ ws) cs ≡ faulty ws cs
   unfolding faulty
   faulty_later e = rw (e, faulty)
 
   -- no fault among them: none here
-  pub faultless : faulty (w ∷ ws) cs ≡ none → fault_of (first_of w cs) ≡ none
+  pub faultless : faulty (w ∷ ws) cs ≡ None → fault_of (first_of w cs) ≡ None
   faultless e = elim (see (fault_of (first_of w cs))) [ gone q ↦ q | there c q ↦ none_not (sym e ∙ faulty_here q) ]
 
-  set_here : absent (w ∷ ws) cs ≡ false → faulty (w ∷ ws) cs ≡ none → Set cs w (constant_in (first_of w cs))
+  set_here : absent (w ∷ ws) cs ≡ false → faulty (w ∷ ws) cs ≡ None → Set cs w (constant_in (first_of w cs))
   set_here a f = elim (see (first_of w cs)) [
     | gone e ↦ absurd (true≢false (rw e at (absent_here a)))
     | there c e ↦ elim (see c.constant) [
-      | there n q ↦ record { cell = c; first = e; constant = q ∙ ap some (sym (ap constant_in e ∙ ap or_zero q)) }
+      | there n q ↦ record { cell = c; first = e; constant = q ∙ ap Some (sym (ap constant_in e ∙ ap or_zero q)) }
       | gone q ↦ none_not (sym (faultless f) ∙ ap fault_of e ∙ ap (fault_in c) q)
     ]
   ]
 
-pub each_set : (cs : List Cell) (a k : ℕ) → absent (wells_from a k) cs ≡ false → faulty (wells_from a k) cs ≡ none → (i : ℕ) → i < k
+pub each_set : (cs : List Cell) (a k : ℕ) → absent (wells_from a k) cs ≡ false → faulty (wells_from a k) cs ≡ None → (i : ℕ) → i < k
     → Set cs (a + i) (get_or (constants (wells_from a k) cs) i 0)
 unfolding wells_from constants
 each_set cs a zero x f i l = absurd (omega arith)
@@ -101,7 +101,7 @@ constants_count cs a (suc k) = ap suc (constants_count cs (a + 1) k)
 -- record i is a `##cell` map of the well w, and its K is k
 pub record CellAt (v : Version) (rs : List Record) (i w : ℕ) (k : Option ℕ) : Type 0 where
   pub fs : List Field
-  pub is : nth rs i ≡ some (fields (ascii "cell") fs)
+  pub is : nth rs i ≡ Some (fields (ascii "cell") fs)
   pub well : well_of (value_named v (ascii "cell") (ascii "ID") fs) ≡ w
   pub constant : constant_of (field_named v (ascii "cell") (ascii "K") fs) ≡ k
 
@@ -118,7 +118,7 @@ later f = record {
   line_is = omega (arith, f.line_is);
 }
 
-pub first_found : (v : Version) (line : ℕ) (es : List Entry) (rs : List Record) (w : ℕ) {c : Cell} → first_of w (cells v line es rs) ≡ some c → Found v line rs w c
+pub first_found : (v : Version) (line : ℕ) (es : List Entry) (rs : List Record) (w : ℕ) {c : Cell} → first_of w (cells v line es rs) ≡ Some c → Found v line rs w c
 unfolding cells declared first_of
 first_found v line [] rs w e = none_not e
 first_found v line (x ∷ es) [] w e = none_not e
@@ -128,7 +128,7 @@ first_found v line (x ∷ es) (fields k fs ∷ rs) w {c} e = elim (test (same k 
   | fail q ↦ later (first_found v (line + 1) es rs w (rw (q, declared) at e))
   | pass q ↦
       let y = cell_of v line x.start k fs in
-      let d : first_of w (y ∷ cells v (line + 1) es rs) ≡ some c = rw (q, declared) at e in
+      let d : first_of w (y ∷ cells v (line + 1) es rs) ≡ Some c = rw (q, declared) at e in
       elim (test (eqb y.well w)) [
         | fail n ↦ later (first_found v (line + 1) es rs w (sym (first_later w y (cells v (line + 1) es rs) n) ∙ d))
         | pass n ↦ here k (same_sound k (ascii "cell") q) (eqb-true y.well w n) (some_is (sym (first_here w y (cells v (line + 1) es rs) n) ∙ d))
@@ -140,7 +140,7 @@ first_found v line (x ∷ es) (fields k fs ∷ rs) w {c} e = elim (test (same k 
       at = 0;
       there = record {
         fs = fs;
-        is = ap (λ (j : Bytes). some (fields j fs)) i;
+        is = ap (λ (j : Bytes). Some (fields j fs)) i;
         well = ap (λ (j : Bytes). well_of (value_named v j (ascii "ID") fs)) (sym i) ∙ n;
         constant = ap (λ (j : Bytes). constant_of (field_named v j (ascii "K") fs)) (sym i) ∙ ap (λ (z : Cell). z.constant) y;
       };

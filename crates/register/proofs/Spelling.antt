@@ -4,7 +4,7 @@ use native.Mathlib.Omega.{arith}
 use mathlib.Core.Path.{◌≡◌, refl, sym, ap, ◌∙◌}
 use mathlib.Core.Bool.{Bool, true, false, ◌&&◌}
 use mathlib.Core.List.{[], ◌∷◌}
-use mathlib.Core.Option.{none, some}
+use Rattle.std.specs.Prelude.{None, Some, Option}
 use lib.Dec.{eqb, leb}
 use lib.ListN.{length}
 use borrow.Author.Tests.{eqb-true, leb-true, ne_eqb, le-leb, lt-leb, leb-false, eq-eqb}
@@ -13,8 +13,6 @@ use Rattle.values.proofs.Tests.{Test, pass, fail, test, and_l, and_r, and_off}
 use Rattle.register.specs.Cells.{nth_byte, is_between, spells_well, well_in, well_of, spells_constant, hundredths_in, in_range, hundredths}
 use Rattle.values.specs.Integer.{is_digit}
 use Rattle.register.specs.Wells.{digit_of, WellTold, constant_read}
-use Rattle.register.specs.declared.well.Constant.{Constant}
-use Rattle.register.specs.declared.well.Constant.TheVariants.{Hundredths, Invalid}
 
 -- the ID of a well: `W` and its number in two digits
 abbrev pub well_id : ℕ → Bytes
@@ -82,21 +80,21 @@ between_is low high n a b = rw (le-leb low n a, le-leb n high b)
 
 -- what answers the needs of `in_range`
 module _ (n : ℕ) where
-  in_no : is_between 50 200 n ≡ false → in_range n ≡ none
+  in_no : is_between 50 200 n ≡ false → in_range n ≡ None
   unfolding in_range
   in_no e = rw (e, in_range)
 
-  in_yes : is_between 50 200 n ≡ true → in_range n ≡ some n
+  in_yes : is_between 50 200 n ≡ true → in_range n ≡ Some n
   unfolding in_range
   in_yes e = rw (e, in_range)
 
-  pub range_low : n < 50 → Invalid ≡ constant_read (in_range n)
+  pub range_low : n < 50 → None ≡ constant_read (in_range n)
   range_low l = sym (ap constant_read (in_no (between_low 50 200 n l)))
 
-  pub range_high : 200 < n → Invalid ≡ constant_read (in_range n)
+  pub range_high : 200 < n → None ≡ constant_read (in_range n)
   range_high l = sym (ap constant_read (in_no (between_high 50 200 n l)))
 
-  pub range_in : 50 ≤ n → n ≤ 200 → Hundredths n ≡ constant_read (in_range n)
+  pub range_in : 50 ≤ n → n ≤ 200 → Some n ≡ constant_read (in_range n)
   range_in a b = sym (ap constant_read (in_yes (between_is 50 200 n a b)))
 
 pub ruleset ranges = (range_low, range_high, range_in)
@@ -192,7 +190,7 @@ pub ruleset named_wells = (well_long, well_first, well_tens, well_ones, well_hig
 
 -- what answers the needs of `hundredths`
 module _ (t : Bytes) where
-  pub constant_no : spells_constant t ≡ false → hundredths t ≡ none
+  pub constant_no : spells_constant t ≡ false → hundredths t ≡ None
   unfolding hundredths
   constant_no e = rw (e, hundredths)
 
@@ -200,33 +198,33 @@ module _ (t : Bytes) where
   unfolding hundredths
   constant_yes e = rw (e, hundredths)
 
-  no_constant : spells_constant t ≡ false → Invalid ≡ constant_read (hundredths t)
+  no_constant : spells_constant t ≡ false → None ≡ constant_read (hundredths t)
   no_constant e = sym (ap constant_read (constant_no e))
 
-  pub constant_long : (length t ≡ 4 → ⊥) → Invalid ≡ constant_read (hundredths t)
+  pub constant_long : (length t ≡ 4 → ⊥) → None ≡ constant_read (hundredths t)
   unfolding spells_constant
   constant_long n = no_constant (and_none _ (ne_eqb (length t) 4 n))
 
-  pub constant_point : (nth_byte t 1 ≡ 46 → ⊥) → Invalid ≡ constant_read (hundredths t)
+  pub constant_point : (nth_byte t 1 ≡ 46 → ⊥) → None ≡ constant_read (hundredths t)
   unfolding spells_constant
   constant_point n = no_constant (and_off (eqb (length t) 4) (and_none _ (ne_eqb (nth_byte t 1) 46 n)))
 
   module _ {a b c : ℕ} (e : a ≡ digit_of (nth_byte t 0)) (f : b ≡ digit_of (nth_byte t 2)) (g : c ≡ digit_of (nth_byte t 3)) where
     -- past the length and the point
-    no_digits : is_digit (nth_byte t 0) && (is_digit (nth_byte t 2) && is_digit (nth_byte t 3)) ≡ false → Invalid ≡ constant_read (hundredths t)
+    no_digits : is_digit (nth_byte t 0) && (is_digit (nth_byte t 2) && is_digit (nth_byte t 3)) ≡ false → None ≡ constant_read (hundredths t)
     unfolding spells_constant
     no_digits q = no_constant (and_off (eqb (length t) 4) (and_off (eqb (nth_byte t 1) 46) q))
 
-    pub constant_ones : 9 < a → Invalid ≡ constant_read (hundredths t)
+    pub constant_ones : 9 < a → None ≡ constant_read (hundredths t)
     constant_ones l = no_digits (and_none _ (told_none (nth_byte t 0) e l))
 
-    pub constant_tenths : 9 < b → Invalid ≡ constant_read (hundredths t)
+    pub constant_tenths : 9 < b → None ≡ constant_read (hundredths t)
     constant_tenths l = no_digits (and_off (is_digit (nth_byte t 0)) (and_none _ (told_none (nth_byte t 2) f l)))
 
-    pub constant_last : 9 < c → Invalid ≡ constant_read (hundredths t)
+    pub constant_last : 9 < c → None ≡ constant_read (hundredths t)
     constant_last l = no_digits (and_off (is_digit (nth_byte t 0)) (and_off (is_digit (nth_byte t 2)) (told_none (nth_byte t 3) g l)))
 
-    pub constant_is : length t ≡ 4 → nth_byte t 1 ≡ 46 → a ≤ 9 → b ≤ 9 → c ≤ 9 → {r : Constant} → r ≡ constant_read (in_range (a * 100 + b * 10 + c)) → r ≡ constant_read (hundredths t)
+    pub constant_is : length t ≡ 4 → nth_byte t 1 ≡ 46 → a ≤ 9 → b ≤ 9 → c ≤ 9 → {r : Option ℕ} → r ≡ constant_read (in_range (a * 100 + b * 10 + c)) → r ≡ constant_read (hundredths t)
     unfolding spells_constant
     constant_is long point l m n q =
         let x = told_digit (nth_byte t 0) e l in

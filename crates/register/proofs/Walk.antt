@@ -5,7 +5,7 @@ use native.Mathlib.Decide.{dec_le}
 use mathlib.Core.Path.{◌≡◌, refl, sym, ap, subst, ◌∙◌}
 use mathlib.Core.Bool.{Bool, true, false, true≢false}
 use mathlib.Core.List.{List, [], ◌∷◌}
-use mathlib.Core.Option.{Option, none, some}
+use Rattle.std.specs.Prelude.{Option, None, Some}
 use lib.Dec.{eqb}
 use lib.ListN.{length, get_or, set, length-set, drop, take, replicate, length-replicate, get_or-replicate}
 use lib.Seq.{sets, get_or-set_same, get_or-set_other}
@@ -23,10 +23,6 @@ use Rattle.entries.specs.declared.form.Form.{Form}
 use Rattle.entries.specs.Tables.{room, entries_in, entry_in}
 use Rattle.entries.proofs.Stored.{entries_here, entries_past}
 use Rattle.ids.specs.Clashes.{has_key}
-use Rattle.records.specs.declared.field.FieldFound.{FieldFound}
-use Rattle.records.specs.declared.field.FieldFound.TheVariants as field
-use Rattle.register.specs.declared.well.Constant.{Constant}
-use Rattle.register.specs.declared.well.Constant.TheVariants.{Hundredths, Invalid}
 use Rattle.register.specs.Cells.{well_of, hundredths, Cell, constant_of, first_of, wells_from, wells}
 use Rattle.register.specs.Register.{absent, fault_in, fault_of, faulty, or_zero, constant_in, constants}
 use Rattle.register.specs.Wells.{WellTold, constant_read, is_cell, constant_at, cell_in, cells_by, cells_in, table_cells, cell_line, Lines, StartTold, ConstantTold, MissingTold, filled, plate_of, ConstantsTold}
@@ -37,7 +33,7 @@ use Rattle.records.specs.Fields.{FoundIs, FindsField}
 
 -- what answers the needs of `is_cell`
 module _ (h : Bytes) (e : CodeEntry) where
-  pub cell_other : (e.kind ≡ 7 → ⊥) → false ≡ is_cell h (entry_of e)
+  pub cell_other : (e.kind ≡ 7 → ⊥) → eqb e.kind 7 ≡ is_cell h (entry_of e)
   unfolding has_key
   cell_other n = rw (ne_eqb e.kind 7 n)
 
@@ -56,16 +52,16 @@ start_is q = record { is = λ l. ap (λ (x : Entry). x.start) q }
 
 pub ruleset start_tolds = (start_none, start_is)
 
-pub on_none : (form : Form) (h : Bytes) (t : List ℕ) {line : ℕ} → line ≡ 0 → ConstantTold form h t line Invalid
+pub on_none : (form : Form) (h : Bytes) (t : List ℕ) {line : ℕ} → line ≡ 0 → ConstantTold form h t line None
 on_none form h t e = record { is = λ l. absurd (omega arith) }
 
-pub on_is : (h : Bytes) {form : Form} {t : List ℕ} {line : ℕ} {e : CodeEntry} → entry_of e ≡ entry_in form t (line - 1) → {r : Constant} → r ≡ constant_read (constant_at h (entry_of e)) → ConstantTold form h t line r
+pub on_is : (h : Bytes) {form : Form} {t : List ℕ} {line : ℕ} {e : CodeEntry} → entry_of e ≡ entry_in form t (line - 1) → {r : Option ℕ} → r ≡ constant_read (constant_at h (entry_of e)) → ConstantTold form h t line r
 on_is h q r = record { is = λ l. r ∙ ap (λ (x : Entry). constant_read (constant_at h x)) q }
 
 pub ruleset constants_on = (on_none, on_is)
 
 -- what answers the needs of `constant_of`
-module _ (h : Bytes) (e : CodeEntry) {p : Bytes} (q : p ≡ line_in h (entry_of e)) {r : FieldFound} (f : FindsField false p 8 (ascii "K") r) where
+module _ (h : Bytes) (e : CodeEntry) {p : Bytes} (q : p ≡ line_in h (entry_of e)) {r : Option Text} (f : FindsField false p 8 (ascii "K") r) where
   abbrev named : Option Field
   named = field_keyed (ascii "K") (fields_at false p 8)
 
@@ -73,20 +69,20 @@ module _ (h : Bytes) (e : CodeEntry) {p : Bytes} (q : p ≡ line_in h (entry_of 
   unfolding constant_at
   at_line = rw (← q)
 
-  pub constant_none : r ≡ field.Missing → Invalid ≡ constant_read (constant_at h (entry_of e))
+  pub constant_none : r ≡ None → None ≡ constant_read (constant_at h (entry_of e))
   constant_none m = sym (ap constant_read (at_line ∙ go named (subst (FoundIs p named) m f.value)))
     where
-      go : (o : Option Field) → FoundIs p o field.Missing → constant_of o ≡ none
-      go none x = refl
-      go (some g) x = absurd x
+      go : (o : Option Field) → FoundIs p o None → constant_of o ≡ None
+      go None x = refl
+      go (Some g) x = absurd x
 
-  pub constant_found : {t : Text} → r ≡ field.Found t → {b : Bytes} → b ≡ take (t.end - t.start) (drop t.start p) → {c : Constant} → c ≡ constant_read (hundredths b)
+  pub constant_found : {t : Text} → r ≡ Some t → {b : Bytes} → b ≡ take (t.end - t.start) (drop t.start p) → {c : Option ℕ} → c ≡ constant_read (hundredths b)
       → c ≡ constant_read (constant_at h (entry_of e))
   constant_found {t} m {b} i c = c ∙ ap constant_read (sym (at_line ∙ go named (subst (FoundIs p named) m f.value)))
     where
-      go : (o : Option Field) → FoundIs p o (field.Found t) → constant_of o ≡ hundredths b
-      go none x = absurd x
-      go (some g) x = ap hundredths (sym x.0) ∙ constant_raw t.quoted (take (t.end - t.start) (drop t.start p)) ∙ ap hundredths (sym i)
+      go : (o : Option Field) → FoundIs p o (Some t) → constant_of o ≡ hundredths b
+      go None x = absurd x
+      go (Some g) x = ap hundredths (sym x.0) ∙ constant_raw t.quoted (take (t.end - t.start) (drop t.start p)) ∙ ap hundredths (sym i)
 
 pub ruleset constants_of = (constant_none, constant_found)
 
@@ -145,7 +141,7 @@ pub record From (form : Form) (h : Bytes) (t : List ℕ) (c : Cell) : Type 0 whe
   pub start : c.start ≡ (entry_in form t (c.line - 1)).start
   pub constant : c.constant ≡ constant_at h (entry_in form t (c.line - 1))
 
-from_table : (form : Form) (h : Bytes) (t : List ℕ) (n k w : ℕ) → room form t ≤ n + k → {c : Cell} → first_of w (cells_in h (k + 1) (drop k (entries_in form t))) ≡ some c → From form h t c
+from_table : (form : Form) (h : Bytes) (t : List ℕ) (n k w : ℕ) → room form t ≤ n + k → {c : Cell} → first_of w (cells_in h (k + 1) (drop k (entries_in form t))) ≡ Some c → From form h t c
 unfolding cells_in first_of
 from_table form h t zero k w l e = none_not (rw (entries_past form t k (omega arith)) at e)
 from_table form h t (suc n) k w l {c} e = elim (dec_le (room form t) k) [
@@ -154,10 +150,10 @@ from_table form h t (suc n) k w l {c} e = elim (dec_le (room form t) k) [
       let i : k < room form t = omega arith in
       let x = entry_in form t k in
       let rest = cells_in h (k + 1 + 1) (drop (k + 1) (entries_in form t)) in
-      let d : first_of w (cells_by (is_cell h x) (cell_in h (k + 1) x) rest) ≡ some c = rw (entries_here form t k i) at e in
+      let d : first_of w (cells_by (is_cell h x) (cell_in h (k + 1) x) rest) ≡ Some c = rw (entries_here form t k i) at e in
       elim (test (is_cell h x)) [
         | fail f ↦ from_table form h t n (k + 1) w (omega arith) (rw f at d)
-        | pass f ↦ let s : first_of w (cell_in h (k + 1) x ∷ rest) ≡ some c = rw f at d in
+        | pass f ↦ let s : first_of w (cell_in h (k + 1) x ∷ rest) ≡ Some c = rw f at d in
             elim (test (eqb (well_of (id_in h x)) w)) [
               | fail o ↦ from_table form h t n (k + 1) w (omega arith) (sym (first_later w (cell_in h (k + 1) x) rest o) ∙ s)
               | pass o ↦ here k (some_is (sym (first_here w (cell_in h (k + 1) x) rest o) ∙ s))
@@ -168,11 +164,11 @@ from_table form h t (suc n) k w l {c} e = elim (dec_le (room form t) k) [
     here : (k : ℕ) → cell_in h (k + 1) (entry_in form t k) ≡ c → From form h t c
     here k y = rw (← y) (let i : k + 1 - 1 ≡ k = omega arith in record { above = omega arith; start = rw i; constant = rw i })
 
-pub from_entry : (form : Form) (h : Bytes) (t : List ℕ) (w : ℕ) {c : Cell} → first_of w (table_cells form h t) ≡ some c → From form h t c
+pub from_entry : (form : Form) (h : Bytes) (t : List ℕ) (w : ℕ) {c : Cell} → first_of w (table_cells form h t) ≡ Some c → From form h t c
 from_entry form h t w e = from_table form h t (room form t) 0 w (omega arith) e
 
 -- a well's line is 0 only where it has none
-line_none : (form : Form) (h : Bytes) (t : List ℕ) (w : ℕ) → cell_line (first_of w (table_cells form h t)) ≡ 0 → first_of w (table_cells form h t) ≡ none
+line_none : (form : Form) (h : Bytes) (t : List ℕ) (w : ℕ) → cell_line (first_of w (table_cells form h t)) ≡ 0 → first_of w (table_cells form h t) ≡ None
 line_none form h t w z = elim (see (first_of w (table_cells form h t))) [
   | gone e ↦ e
   | there c e ↦ let k : c.line ≡ 0 = sym (ap cell_line e) ∙ z in absurd (omega (arith, (from_entry form h t w e).above))
@@ -193,11 +189,11 @@ wells_step : (w n : ℕ) → wells_from w (suc n) ≡ w ∷ wells_from (w + 1) n
 unfolding wells_from
 wells_step w n = refl
 
-absent_first : (w : ℕ) (ws : List ℕ) (cs : List Cell) → first_of w cs ≡ none → absent (w ∷ ws) cs ≡ true
+absent_first : (w : ℕ) (ws : List ℕ) (cs : List Cell) → first_of w cs ≡ None → absent (w ∷ ws) cs ≡ true
 unfolding absent
 absent_first w ws cs e = rw e
 
-absent_rest : (w : ℕ) (ws : List ℕ) (cs : List Cell) {c : Cell} → first_of w cs ≡ some c → absent (w ∷ ws) cs ≡ absent ws cs
+absent_rest : (w : ℕ) (ws : List ℕ) (cs : List Cell) {c : Cell} → first_of w cs ≡ Some c → absent (w ∷ ws) cs ≡ absent ws cs
 unfolding absent
 absent_rest w ws cs e = rw e
 
@@ -248,23 +244,23 @@ unfolding constants
 constants_step w ws cs = refl
 
 -- no wells are left
-none_left : (w : ℕ) (cs : List Cell) → (faulty (wells_from w 0) cs ≡ none) × (constants (wells_from w 0) cs ≡ [])
+none_left : (w : ℕ) (cs : List Cell) → (faulty (wells_from w 0) cs ≡ None) × (constants (wells_from w 0) cs ≡ [])
 unfolding wells_from faulty constants
 none_left w cs = (refl, refl)
 
-read_none : (o : Option ℕ) → Invalid ≡ constant_read o → o ≡ none
+read_none : (o : Option ℕ) → None ≡ constant_read o → o ≡ None
 read_none o e = go o e
   where
-    go : (o : Option ℕ) → Invalid ≡ constant_read o → o ≡ none
-    go none e = refl
-    go (some n) e = never cc
+    go : (o : Option ℕ) → None ≡ constant_read o → o ≡ None
+    go None e = refl
+    go (Some n) e = never cc
 
-read_some : (o : Option ℕ) {n : ℕ} → Hundredths n ≡ constant_read o → o ≡ some n
+read_some : (o : Option ℕ) {n : ℕ} → Some n ≡ constant_read o → o ≡ Some n
 read_some o {n} e = go o e
   where
-    go : (o : Option ℕ) → Hundredths n ≡ constant_read o → o ≡ some n
-    go none e = never cc
-    go (some m) e = let q : n ≡ m = cc in ap some (sym q)
+    go : (o : Option ℕ) → Some n ≡ constant_read o → o ≡ Some n
+    go None e = never cc
+    go (Some m) e = let q : n ≡ m = cc in ap Some (sym q)
 
 module _ {form : Form} {h : Bytes} {t ls found : List ℕ} {w : ℕ} (g : Filling form h t ls found w) where
   abbrev cs : List Cell
@@ -273,14 +269,14 @@ module _ {form : Form} {h : Bytes} {t ls found : List ℕ} {w : ℕ} (g : Fillin
   abbrev ws : List ℕ
   ws = wells_from (w + 1 + 1) (40 - (w + 1))
 
-  module _ (l : w < 40) {line : ℕ} (el : line ≡ get_or ls (w + 1) 0) {r : Constant} (told : ConstantTold form h t line r) where
+  module _ (l : w < 40) {line : ℕ} (el : line ≡ get_or ls (w + 1) 0) {r : Option ℕ} (told : ConstantTold form h t line r) where
     fill_wells : wells_from (w + 1) (40 - w) ≡ (w + 1) ∷ ws
     fill_wells = let i : 40 - w ≡ suc (40 - (w + 1)) = omega arith in rw i (wells_step (w + 1) (40 - (w + 1)))
 
     -- the cell of this well, and what was read of it
     record Here : Type 0 where
       cell : Cell
-      first : first_of (w + 1) cs ≡ some cell
+      first : first_of (w + 1) cs ≡ Some cell
       on_line : line ≡ cell.line
       read : r ≡ constant_read cell.constant
 
@@ -298,17 +294,17 @@ module _ {form : Form} {h : Bytes} {t ls found : List ℕ} {w : ℕ} (g : Fillin
           }
     ]
 
-    pub fill_fault : r ≡ Invalid → ConstantsTold form h t ls (record { fault = line; constants = replicate 40 0 })
+    pub fill_fault : r ≡ None → ConstantsTold form h t ls (record { fault = line; constants = replicate 40 0 })
     fill_fault e = record {
       is = λ a b.
           let s = g.still a b in
           let x = here a s.there_are in
           let n = read_none x.cell.constant (sym e ∙ x.read) in
-          let f : faulty wells cs ≡ some x.cell = sym s.fault ∙ ap (λ (y : List ℕ). faulty y cs) fill_wells ∙ faulty_here (w + 1) ws cs (ap fault_of x.first ∙ ap (fault_in x.cell) n) in
+          let f : faulty wells cs ≡ Some x.cell = sym s.fault ∙ ap (λ (y : List ℕ). faulty y cs) fill_wells ∙ faulty_here (w + 1) ws cs (ap fault_of x.first ∙ ap (fault_in x.cell) n) in
           ap (λ (k : ℕ). record { fault = k; constants = filled [] }) x.on_line ∙ ap (plate_of cs) (sym f);
     }
 
-    pub fill_more : {n : ℕ} → r ≡ Hundredths n → Filling form h t ls (set found w n) (w + 1)
+    pub fill_more : {n : ℕ} → r ≡ Some n → Filling form h t ls (set found w n) (w + 1)
     fill_more {n} e = record {
       within = omega arith;
       size = length-set found w n ∙ g.size;
@@ -324,7 +320,7 @@ module _ {form : Form} {h : Bytes} {t ls found : List ℕ} {w : ℕ} (g : Fillin
           };
     }
       where
-        in_cell : (c : Cell) → c.constant ≡ some n → constant_in (some c) ≡ n
+        in_cell : (c : Cell) → c.constant ≡ Some n → constant_in (Some c) ≡ n
         in_cell c m = ap or_zero m
 
         next : constant_in (first_of (w + 1) cs) ≡ n → sets (set found w n) (w + 1) (constants ws cs) ≡ sets found w (constants (wells_from (w + 1) (40 - w)) cs)
@@ -339,7 +335,7 @@ module _ {form : Form} {h : Bytes} {t ls found : List ℕ} {w : ℕ} (g : Fillin
         let s = g.still a b in
         let i : 40 - w ≡ 0 = omega arith in
         let n = none_left (w + 1) cs in
-        let f : faulty wells cs ≡ none = sym s.fault ∙ rw i n.0 in
+        let f : faulty wells cs ≡ None = sym s.fault ∙ rw i n.0 in
         let x : sets found w (constants (wells_from (w + 1) 0) cs) ≡ filled (constants wells cs) = rw i at s.list in
         let y : found ≡ filled (constants wells cs) = rw n.1 at x in
         rw f (ap (λ (k : List ℕ). record { fault = 0; constants = k }) y);

@@ -1,6 +1,5 @@
 -- What a register call answers. Assumes nothing.
-use Rattle.std.specs.Prelude.{ℕ, ◌≡◌, List, [], length}
-use Rattle.std.proofs.Math.Option.{Option}
+use Rattle.std.specs.Prelude.{ℕ, ◌≡◌, List, [], length, Option, Result, Ok, Err, ⊤}
 use Rattle.values.specs.Bytes.{Bytes}
 use Rattle.rules.specs.Version.{Version}
 use Rattle.rules.specs.Reading.{Reading}
@@ -12,8 +11,8 @@ use Rattle.entries.specs.Values.{limits_by}
 use Rattle.entries.specs.Tables.{room, stored}
 use Rattle.header.specs.declared.parser.ReadAnswer.{ReadAnswer}
 use Rattle.header.specs.Parsers.{answer_means, reading_means, read_into}
-use Rattle.register.specs.declared.probe.RegisterOutcome.{RegisterOutcome}
-use Rattle.register.specs.declared.probe.RegisterOutcome.TheVariants.{Accepted, Unread, EarlyVersion, UnknownCell, MissingWell, InvalidConstant}
+use Rattle.register.specs.declared.probe.RegisterRefusal.{RegisterRefusal}
+use Rattle.register.specs.declared.probe.RegisterRefusal.TheVariants.{Unread, EarlyVersion, UnknownCell, MissingWell, InvalidConstant}
 use Rattle.register.specs.declared.probe.RegisterRead.{RegisterRead}
 use Rattle.register.specs.Cells.{Cell}
 use Rattle.register.specs.Register.{RegisterReading, counted, register_accepted, register_of}
@@ -21,13 +20,13 @@ use Rattle.register.specs.Wells.{table_cells, Lines, filled}
 use Rattle.rules.specs.Claims.{Sized}
 
 -- documents 01's and 02's number for each case
-abbrev pub register_number : RegisterOutcome → ℕ
-register_number Accepted = 0
-register_number (Unread x) = number x
-register_number EarlyVersion = 37
-register_number UnknownCell = 38
-register_number MissingWell = 39
-register_number InvalidConstant = 40
+abbrev pub register_number : Result ⊤ RegisterRefusal → ℕ
+register_number (Ok tt) = 0
+register_number (Err (Unread x)) = number x
+register_number (Err EarlyVersion) = 37
+register_number (Err UnknownCell) = 38
+register_number (Err MissingWell) = 39
+register_number (Err InvalidConstant) = 40
 
 -- what an answer says: number, place, how many entries, the constants
 pub record RegisterMeaning : Type 0 where
@@ -44,7 +43,7 @@ register_answer_means a = record { number = register_number a.outcome; line = a.
 abbrev pub register_means : RegisterReading → RegisterMeaning
 register_means r = record { number = r.number; line = r.line; start = r.start; entries = length r.entries; constants = filled r.constants }
 
-abbrev pub register_refused_as : RegisterOutcome → ℕ → ℕ → ℕ → RegisterRead
+abbrev pub register_refused_as : Result ⊤ RegisterRefusal → ℕ → ℕ → ℕ → RegisterRead
 register_refused_as x line start entries = record { outcome = x; line = line; start = start; entries = entries; constants = filled [] }
 
 -- after an accepted reading, where each cell is a well's and has its line among these

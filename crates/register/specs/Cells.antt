@@ -1,7 +1,6 @@
 -- Document 02, §11: a well's ID, a constant, and the cells that a header declares. Bytes by their numbers: `.` 46, `0` 48, `9` 57, `W` 87.
 -- Assumes nothing.
-use Rattle.std.specs.Prelude.{ℕ, zero, suc, ◌+◌, ◌*◌, ◌-◌, Bool, true, false, ◌&&◌, List, [], ◌∷◌, ◌++◌, eqb, leb, length, get_or}
-use Rattle.std.proofs.Math.Option.{Option, none, some}
+use Rattle.std.specs.Prelude.{ℕ, zero, suc, ◌+◌, ◌*◌, ◌-◌, Bool, true, false, ◌&&◌, List, [], ◌∷◌, ◌++◌, eqb, leb, length, get_or, Option, None, Some}
 use Rattle.values.specs.Integer.{is_digit}
 use Rattle.values.specs.Bytes.{Bytes, ascii, same}
 use Rattle.values.specs.Value.{meaning_of}
@@ -38,11 +37,11 @@ hundredths_in t = (nth_byte t 0 - 48) * 100 + (nth_byte t 2 - 48) * 10 + (nth_by
 
 -- from 0.50 through 2.00
 unfoldable pub in_range : ℕ → Option ℕ
-in_range n = elim (is_between 50 200 n) [ true ↦ some n | false ↦ none ]
+in_range n = elim (is_between 50 200 n) [ true ↦ Some n | false ↦ None ]
 
 -- a constant as whole hundredths
 unfoldable pub hundredths : Bytes → Option ℕ
-hundredths t = elim (spells_constant t) [ true ↦ in_range (hundredths_in t) | false ↦ none ]
+hundredths t = elim (spells_constant t) [ true ↦ in_range (hundredths_in t) | false ↦ None ]
 
 -- a `##cell` map: its line from 1, the line's start, its well (0 where the ID is no well's), and its constant, if K is one
 pub record Cell : Type 0 where
@@ -53,8 +52,8 @@ pub record Cell : Type 0 where
 
 -- the constant of the field K, by the meaning of its value
 abbrev pub constant_of : Option Field → Option ℕ
-constant_of none = none
-constant_of (some f) = hundredths (meaning_of f.value)
+constant_of None = None
+constant_of (Some f) = hundredths (meaning_of f.value)
 
 -- ID and K go by meaning
 abbrev pub cell_of : Version → ℕ → ℕ → Bytes → List Field → Cell
@@ -79,8 +78,8 @@ cells v line (e ∷ es) (r ∷ rs) = declared v line e.start r ++ cells v (line 
 
 -- the first cell of this well; of well 0: the first whose ID is no well's
 unfoldable pub first_of : ℕ → List Cell → Option Cell
-first_of w [] = none
-first_of w (c ∷ cs) = elim (eqb c.well w) [ true ↦ some c | false ↦ first_of w cs ]
+first_of w [] = None
+first_of w (c ∷ cs) = elim (eqb c.well w) [ true ↦ Some c | false ↦ first_of w cs ]
 
 -- n wells from w on
 unfoldable pub wells_from : ℕ → ℕ → List ℕ

@@ -1,6 +1,5 @@
 -- Document 02, §11: each refusal and an accepted probe header, computed by the checker. Assumes nothing.
-use Rattle.std.specs.Prelude.{ℕ, zero, suc, ◌+◌, ◌/◌, ◌%◌, ◌≡◌, refl, List, [], ◌∷◌, ◌++◌, map, length}
-use Rattle.std.proofs.Math.Option.{Option, none, some}
+use Rattle.std.specs.Prelude.{ℕ, zero, suc, ◌+◌, ◌/◌, ◌%◌, ◌≡◌, refl, List, [], ◌∷◌, ◌++◌, map, length, Option, None, Some}
 use Rattle.values.specs.Bytes.{Bytes, ascii}
 use Rattle.rules.specs.Sizes.{limits}
 use Rattle.rules.specs.Version.{Version, version}
@@ -51,27 +50,27 @@ IDs = refl
 abbrev pub numbers : List Bytes
 numbers = ascii "0.49" ∷ ascii "0.50" ∷ ascii "2.00" ∷ ascii "2.01" ∷ ascii "1.5" ∷ ascii "01.50" ∷ ascii "+1.00" ∷ []
 
-Ks : map (λ (t : Bytes). hundredths t) numbers ≡ none ∷ some 50 ∷ some 200 ∷ none ∷ none ∷ none ∷ none ∷ []
+Ks : map (λ (t : Bytes). hundredths t) numbers ≡ None ∷ Some 50 ∷ Some 200 ∷ None ∷ None ∷ None ∷ None ∷ []
 unfolding opened
 Ks = refl
 
 -- the register
-whole : asked none (probe today) ≡ (0, 42, 984, 42, 100 ∷ 100 ∷ 100 ∷ 100 ∷ 100 ∷ 100 ∷ 98 ∷ map (λ (n : ℕ). 200) (wells_from 8 33))
+whole : asked None (probe today) ≡ (0, 42, 984, 42, 100 ∷ 100 ∷ 100 ∷ 100 ∷ 100 ∷ 100 ∷ 98 ∷ map (λ (n : ℕ). 200) (wells_from 8 33))
 unfolding opened
 whole = refl
 
 -- a factory line after it: the second W01, by meaning
-appended : asked none (probe (today ++ ascii "##cell=<ID=\"W01\",K=1.00>\n")) ≡ (21, 42, 945, 41, [])
+appended : asked None (probe (today ++ ascii "##cell=<ID=\"W01\",K=1.00>\n")) ≡ (21, 42, 945, 41, [])
 unfolding opened
 appended = refl
 
 -- 37 comes before 38, 38 before 39, 39 before 40; a text declares no well
 refusals : (
-    asked (some (version 4 2)) (probe (ascii "##cell=<ID=W41>\n"))
-    ∷ asked none (probe (ascii "##cell=<ID=W01>\n##cell=<ID=w07,K=1.00>\n##cell=<ID=W41,K=1.00>\n"))
-    ∷ asked none (probe (ascii "##cell=<ID=W01>\n"))
-    ∷ asked none (probe (ascii "##cell=W01\n"))
-    ∷ asked none (probe (factory (ascii "2.01") 21 20 ++ factory (ascii "1.5") 1 20))
+    asked (Some (version 4 2)) (probe (ascii "##cell=<ID=W41>\n"))
+    ∷ asked None (probe (ascii "##cell=<ID=W01>\n##cell=<ID=w07,K=1.00>\n##cell=<ID=W41,K=1.00>\n"))
+    ∷ asked None (probe (ascii "##cell=<ID=W01>\n"))
+    ∷ asked None (probe (ascii "##cell=W01\n"))
+    ∷ asked None (probe (factory (ascii "2.01") 21 20 ++ factory (ascii "1.5") 1 20))
     ∷ []
     ) ≡ (
     (37, 0, 0, 3, [])

@@ -1,7 +1,6 @@
 -- Document 02, §11: the cell register of a header, and the refusals 37 to 40 in their order. Assumes nothing.
-use Rattle.std.specs.Prelude.{ℕ, zero, suc, Bool, true, false, ◌||◌}
+use Rattle.std.specs.Prelude.{ℕ, zero, suc, Bool, true, false, ◌||◌, Option, None, Some}
 use mathlib.Core.List.{List, [], ◌∷◌, tail}
-use Rattle.std.proofs.Math.Option.{Option, none, some}
 use Rattle.values.specs.Bytes.{Bytes}
 use Rattle.rules.specs.Sizes.{Limits}
 use Rattle.rules.specs.Version.{Version, v4_3, earlier}
@@ -25,8 +24,8 @@ refused_at number c es = register_refused number c.line c.start es
 
 -- 39: one of these wells is absent
 abbrev pub is_absent : Option Cell → Bool
-is_absent none = true
-is_absent (some c) = false
+is_absent None = true
+is_absent (Some c) = false
 
 unfoldable pub absent : List ℕ → List Cell → Bool
 absent [] cs = false
@@ -34,25 +33,25 @@ absent (w ∷ ws) cs = is_absent (first_of w cs) || absent ws cs
 
 -- 40: the cell of a well has no constant
 abbrev pub fault_in : Cell → Option ℕ → Option Cell
-fault_in c none = some c
-fault_in c (some n) = none
+fault_in c None = Some c
+fault_in c (Some n) = None
 
 abbrev pub fault_of : Option Cell → Option Cell
-fault_of none = none
-fault_of (some c) = fault_in c c.constant
+fault_of None = None
+fault_of (Some c) = fault_in c c.constant
 
 -- the lowest of these wells whose cell has none
 unfoldable pub faulty : List ℕ → List Cell → Option Cell
-faulty [] cs = none
-faulty (w ∷ ws) cs = elim (fault_of (first_of w cs)) [ some c ↦ some c | none ↦ faulty ws cs ]
+faulty [] cs = None
+faulty (w ∷ ws) cs = elim (fault_of (first_of w cs)) [ Some c ↦ Some c | None ↦ faulty ws cs ]
 
 abbrev pub or_zero : Option ℕ → ℕ
-or_zero none = 0
-or_zero (some n) = n
+or_zero None = 0
+or_zero (Some n) = n
 
 abbrev pub constant_in : Option Cell → ℕ
-constant_in none = 0
-constant_in (some c) = or_zero c.constant
+constant_in None = 0
+constant_in (Some c) = or_zero c.constant
 
 -- the constants of these wells
 unfoldable pub constants : List ℕ → List Cell → List ℕ
@@ -61,8 +60,8 @@ constants (w ∷ ws) cs = constant_in (first_of w cs) ∷ constants ws cs
 
 -- 40, or the register
 abbrev pub settled : Reading → List Cell → Option Cell → RegisterReading
-settled r cs (some c) = refused_at 40 c r.entries
-settled r cs none = record { number = 0; line = r.line; start = r.start; entries = r.entries; constants = constants wells cs }
+settled r cs (Some c) = refused_at 40 c r.entries
+settled r cs None = record { number = 0; line = r.line; start = r.start; entries = r.entries; constants = constants wells cs }
 
 -- 39 before that
 unfoldable pub counted : Reading → List Cell → RegisterReading
@@ -70,8 +69,8 @@ counted r cs = elim (absent wells cs) [ true ↦ register_refused 39 0 0 r.entri
 
 -- 38 before that
 abbrev pub wells_known : Reading → List Cell → Option Cell → RegisterReading
-wells_known r cs (some c) = refused_at 38 c r.entries
-wells_known r cs none = counted r cs
+wells_known r cs (Some c) = refused_at 38 c r.entries
+wells_known r cs None = counted r cs
 
 -- 37 first; the records begin on line 2, after the fileformat line and its entry
 unfoldable pub register_accepted : Reading → Version → List Cell → RegisterReading

@@ -1,6 +1,5 @@
 -- What a header's bytes and its entries tell of the cells, as the code finds it. Assumes nothing.
-use Rattle.std.specs.Prelude.{ℕ, ◌+◌, ◌-◌, ◌≤◌, ◌≡◌, Bool, true, false, List, [], ◌∷◌, length, get_or, replicate}
-use Rattle.std.proofs.Math.Option.{Option, none, some}
+use Rattle.std.specs.Prelude.{ℕ, ◌+◌, ◌-◌, ◌≤◌, ◌≡◌, Bool, true, false, List, [], ◌∷◌, length, get_or, replicate, Option, None, Some}
 use Rattle.std.proofs.lemmas.List.Edits.{sets}
 use Rattle.values.specs.Bytes.{Bytes, ascii}
 use Rattle.rules.specs.Known.{other}
@@ -9,8 +8,6 @@ use Rattle.rules.specs.Shown.{line_in, id_in}
 use Rattle.entries.specs.declared.form.Form.{Form}
 use Rattle.entries.specs.Tables.{entries_in, entry_in}
 use Rattle.ids.specs.Clashes.{prefix_of, has_key}
-use Rattle.register.specs.declared.well.Constant.{Constant}
-use Rattle.register.specs.declared.well.Constant.TheVariants.{Hundredths, Invalid}
 use Rattle.register.specs.declared.cells.Plate.{Plate}
 use Rattle.register.specs.Cells.{well_of, Cell, constant_of, first_of, wells}
 use Rattle.values.specs.Integer.{is_digit}
@@ -25,9 +22,9 @@ pub record WellTold (id : Bytes) (r : ℕ) : Type 0 where
   pub is : r ≡ well_of id
   pub small : r ≤ 40
 
-abbrev pub constant_read : Option ℕ → Constant
-constant_read none = Invalid
-constant_read (some n) = Hundredths n
+abbrev pub constant_read : Option ℕ → Option ℕ
+constant_read None = None
+constant_read (Some n) = Some n
 
 -- an entry of a `##cell` map
 abbrev pub is_cell : Bytes → Entry → Bool
@@ -54,8 +51,8 @@ abbrev pub table_cells : Form → Bytes → List ℕ → List Cell
 table_cells form h t = cells_in h 1 (entries_in form t)
 
 abbrev pub cell_line : Option Cell → ℕ
-cell_line none = 0
-cell_line (some c) = c.line
+cell_line None = 0
+cell_line (Some c) = c.line
 
 -- the line of each well's first cell, and in place 0 that of the first cell of none
 pub record Lines (cs : List Cell) (ls : List ℕ) : Type 0 where
@@ -65,7 +62,7 @@ pub record Lines (cs : List Cell) (ls : List ℕ) : Type 0 where
 pub record StartTold (form : Form) (t : List ℕ) (line r : ℕ) : Type 0 where
   pub is : 1 ≤ line → r ≡ (entry_in form t (line - 1)).start
 
-pub record ConstantTold (form : Form) (h : Bytes) (t : List ℕ) (line : ℕ) (r : Constant) : Type 0 where
+pub record ConstantTold (form : Form) (h : Bytes) (t : List ℕ) (line : ℕ) (r : Option ℕ) : Type 0 where
   pub is : 1 ≤ line → r ≡ constant_read (constant_at h (entry_in form t (line - 1)))
 
 pub record MissingTold (ls : List ℕ) (r : Bool) : Type 0 where
@@ -77,8 +74,8 @@ filled ns = sets (replicate 40 0) 0 ns
 
 -- the plate of cells, where the lowest well's without a constant is this
 abbrev pub plate_of : List Cell → Option Cell → Plate
-plate_of cs none = record { fault = 0; constants = filled (constants wells cs) }
-plate_of cs (some c) = record { fault = c.line; constants = filled [] }
+plate_of cs None = record { fault = 0; constants = filled (constants wells cs) }
+plate_of cs (Some c) = record { fault = c.line; constants = filled [] }
 
 pub record ConstantsTold (form : Form) (h : Bytes) (t ls : List ℕ) (r : Plate) : Type 0 where
   pub is : Lines (table_cells form h t) ls → absent wells (table_cells form h t) ≡ false → r ≡ plate_of (table_cells form h t) (faulty wells (table_cells form h t))

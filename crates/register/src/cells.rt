@@ -4,12 +4,10 @@ ghost use Rattle.entries.specs.Values.{entry_of};
 ghost use Rattle.register.specs.Wells.{is_cell, constant_at, constant_read, table_cells, Lines, StartTold, ConstantTold, MissingTold, ConstantsTold};
 
 use crate::well;
-use crate::well::Constant;
 use entries::entry::Entry;
 use entries::form::Form;
 use entries::{kind, part, table};
 use records::field;
-use records::field::FieldFound;
 use values::bytes;
 
 // Where the fields stand in the line: after `##cell=<`.
@@ -25,10 +23,7 @@ pub struct Plate {
 fn is_cell(h: &[u8], e: Entry) -> bool
     ensures { result ≡ is_cell h.now (entry_of e) }
 {
-    if e.kind != kind::OTHER_MAP {
-        return false;
-    }
-    bytes::starts_with(part::line_part(h, e), b"##cell=")
+    e.kind == kind::OTHER_MAP && bytes::starts_with(part::line_part(h, e), b"##cell=")
 }
 
 // For each well the line of its first cell, in place 0 that of the first cell whose ID is no well's; 0 where there is none. From
@@ -37,14 +32,11 @@ pub fn cell_lines(h: &[u8], kept: &[u64], form: Form) -> [usize; 41]
     ensures { Lines (table_cells form h.now kept.now) result }
 {
     let mut lines = [0usize; 41];
-    let mut k = table::count(kept, form);
-    while 0 < k {
-        let line = k;
-        k -= 1;
+    for k in (0..table::count(kept, form)).rev() {
         let e = table::get(kept, form, k);
         if is_cell(h, e) {
             let well = well::well_of(part::id_part(h, e));
-            lines[well] = line;
+            lines[well] = k + 1;
         }
     }
     lines
@@ -57,41 +49,37 @@ pub fn start_of(kept: &[u64], form: Form, line: usize) -> usize
     if line == 0 {
         return 0;
     }
-    let e = table::get(kept, form, line - 1);
-    e.start
+    table::get(kept, form, line - 1).start
 }
 
 // The constant of the map that an entry is.
-fn constant_of(h: &[u8], e: Entry) -> Constant
+fn constant_of(h: &[u8], e: Entry) -> Option<u64>
     ensures { result ≡ constant_read (constant_at h.now (entry_of e)) }
 {
     let line = part::line_part(h, e);
-    let FieldFound::Found(text) = field::find_field(line, FIELDS, false, b"K") else {
-        return Constant::Invalid;
+    let Some(text) = field::find_field(line, FIELDS, false, b"K") else {
+        return None;
     };
     well::hundredths(bytes::part(line, text.start, text.end))
 }
 
-fn constant_on(h: &[u8], kept: &[u64], form: Form, line: usize) -> Constant
+fn constant_on(h: &[u8], kept: &[u64], form: Form, line: usize) -> Option<u64>
     ensures { ConstantTold form h.now kept.now line result }
 {
     if line == 0 {
-        return Constant::Invalid;
+        return None;
     }
-    let e = table::get(kept, form, line - 1);
-    constant_of(h, e)
+    constant_of(h, table::get(kept, form, line - 1))
 }
 
 // Whether a well has no line.
 pub fn is_missing(lines: &[usize; 41]) -> bool
     ensures { MissingTold lines.now result }
 {
-    let mut well = 1;
-    while well <= 40 {
+    for well in 1..=40 {
         if lines[well] == 0 {
             return true;
         }
-        well += 1;
     }
     false
 }
@@ -100,17 +88,15 @@ pub fn constants(h: &[u8], kept: &[u64], form: Form, lines: &[usize; 41]) -> Pla
     ensures { ConstantsTold form h.now kept.now lines.now result }
 {
     let mut found = [0u64; 40];
-    let mut well = 0;
-    while well < 40 {
+    for well in 0..40 {
         let line = lines[well + 1];
-        let Constant::Hundredths(n) = constant_on(h, kept, form, line) else {
+        let Some(n) = constant_on(h, kept, form, line) else {
             return Plate {
                 fault: line,
                 constants: [0; 40],
             };
         };
         found[well] = n;
-        well += 1;
     }
     Plate {
         fault: 0,

@@ -19,13 +19,11 @@ pub fn compare(old: [u64; 40], new: [u64; 40]) -> Differences
     let mut before = [0u64; 40];
     let mut after = [0u64; 40];
     let mut count = 0;
-    let mut w = 0;
-    while w < 40 {
+    for w in 0..40 {
         let a = old[w];
         let b = new[w];
-        w += 1;
         if a != b {
-            wells[count] = w as u64;
+            wells[count] = w as u64 + 1;
             before[count] = a;
             after[count] = b;
             count += 1;

@@ -7,16 +7,16 @@ ghost use Rattle.register.specs.Answers.{register_number, register_refused_as, A
 use crate::cells;
 use entries::form::Form;
 use entries::table;
-use header::file_format_option::FileFormatOption;
 use header::parser;
-use header::parser::{Outcome, ReadAnswer};
+use header::parser::ReadAnswer;
 use records::file_format::FileFormat;
 use records::refusal::Refusal;
 
 // What a header's register is found to be. Unread: the header itself is refused.
+pub type RegisterOutcome = Result<(), RegisterRefusal>;
+
 #[derive(Clone, Copy)]
-pub enum RegisterOutcome {
-    Accepted,
+pub enum RegisterRefusal {
     Unread(Refusal),
     EarlyVersion,
     UnknownCell,
@@ -24,18 +24,16 @@ pub enum RegisterOutcome {
     InvalidConstant,
 }
 
-impl RegisterOutcome {
-    pub fn number(self) -> u64
-        ensures { result ≡ register_number self }
-    {
-        match self {
-            RegisterOutcome::Accepted => 0,
-            RegisterOutcome::Unread(x) => x.number(),
-            RegisterOutcome::EarlyVersion => 37,
-            RegisterOutcome::UnknownCell => 38,
-            RegisterOutcome::MissingWell => 39,
-            RegisterOutcome::InvalidConstant => 40,
-        }
+pub fn number(outcome: RegisterOutcome) -> u64
+    ensures { result ≡ register_number outcome }
+{
+    match outcome {
+        Ok(()) => 0,
+        Err(RegisterRefusal::Unread(x)) => x.number(),
+        Err(RegisterRefusal::EarlyVersion) => 37,
+        Err(RegisterRefusal::UnknownCell) => 38,
+        Err(RegisterRefusal::MissingWell) => 39,
+        Err(RegisterRefusal::InvalidConstant) => 40,
     }
 }
 
@@ -74,17 +72,17 @@ fn answer_known(
 {
     let entries = read.entries;
     if cells::is_missing(lines) {
-        return refuse(RegisterOutcome::MissingWell, 0, 0, entries);
+        return refuse(Err(RegisterRefusal::MissingWell), 0, 0, entries);
     }
     let plate = cells::constants(h, kept, form, lines);
     let fault = plate.fault;
     if 0 < fault {
         let start = cells::start_of(kept, form, fault);
-        return refuse(RegisterOutcome::InvalidConstant, fault, start, entries);
+        return refuse(Err(RegisterRefusal::InvalidConstant), fault, start, entries);
     }
     let constants = plate.constants;
     RegisterRead {
-        outcome: RegisterOutcome::Accepted,
+        outcome: Ok(()),
         line: read.line,
         start: read.start,
         entries,
@@ -104,13 +102,13 @@ fn answer_accepted(
 {
     let entries = read.entries;
     if version.lt(FileFormat::V4_3) {
-        return refuse(RegisterOutcome::EarlyVersion, 0, 0, entries);
+        return refuse(Err(RegisterRefusal::EarlyVersion), 0, 0, entries);
     }
     let lines = cells::cell_lines(h, kept, form);
     let unknown = lines[0];
     if 0 < unknown {
         let start = cells::start_of(kept, form, unknown);
-        return refuse(RegisterOutcome::UnknownCell, unknown, start, entries);
+        return refuse(Err(RegisterRefusal::UnknownCell), unknown, start, entries);
     }
     answer_known(h, kept, form, read, &lines)
 }
@@ -118,7 +116,7 @@ fn answer_accepted(
 // Reads a header into the table, as `read` does, and its register.
 pub fn register(
     header: &[u8],
-    imposed: FileFormatOption,
+    imposed: Option<FileFormat>,
     form: Form,
     table: &mut [u64],
 ) -> RegisterRead
@@ -128,8 +126,13 @@ pub fn register(
     let entries = read.entries;
     let outcome = read.outcome;
     match outcome {
-        Outcome::Refused(x) => refuse(RegisterOutcome::Unread(x), read.line, read.start, entries),
-        Outcome::Accepted(version, _) => {
+        Err(x) => refuse(
+            Err(RegisterRefusal::Unread(x)),
+            read.line,
+            read.start,
+            entries,
+        ),
+        Ok((version, _)) => {
             answer_accepted(
                 header,
                 table::kept(table, form, entries),

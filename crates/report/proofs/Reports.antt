@@ -2,7 +2,7 @@
 use Prim.Native.Nat.{ℕ, zero, suc, ◌/◌, ◌≤◌, ◌<◌}
 use mathlib.Core.Path.{◌≡◌, refl, sym, ap, ◌∙◌, subst}
 use mathlib.Core.List.{List, [], ◌∷◌, ◌++◌, append_assoc}
-use mathlib.Core.Option.{none}
+use Rattle.std.specs.Prelude.{None, Result, Ok, Err}
 use native.Mathlib.Omega.{arith}
 use native.Mathlib.Decide.{dec_le}
 use lib.ListN.{length, take}
@@ -24,8 +24,6 @@ use Rattle.records.specs.declared.file_format.FileFormat.{FileFormat}
 use Rattle.entries.specs.declared.form.Form.TheVariants.{First}
 use Rattle.entries.specs.Tables.{room}
 use Rattle.header.specs.Parsers.{answer_means, reading_means, outcome_number, outcome_says, ReadCall}
-use Rattle.header.specs.declared.parser.Outcome.{Outcome}
-use Rattle.header.specs.declared.parser.Outcome.TheVariants as outcome
 use Rattle.header.specs.declared.parser.ReadAnswer.{ReadAnswer}
 use Rattle.report.specs.Printed.{buffer, table_words, printed, answer_line, version_text, counts_text}
 
@@ -62,18 +60,18 @@ refused_put number line start w₁ w₂ w₃ w₄ =
     labelled (ascii "refused ") (decimal number) w₁ (labelled (ascii " line=") (decimal line) w₂ (labelled (ascii " offset=") (decimal start) w₃ w₄))
 
 -- of `put_answer`
-abbrev line_by : ReadAnswer → Outcome → Bytes
+abbrev line_by : ReadAnswer → Result (FileFormat × ℕ) Refusal → Bytes
 line_by a x = answer_line (record { number = outcome_number x; line = a.line; start = a.start; entries = a.entries; accepted = outcome_says x })
 
 module _ (a : ReadAnswer) {out : Bytes} {at r : ℕ} {o : Bytes} where
-  pub accepted_line_lem : {f : FileFormat} {n : ℕ} → a.outcome ≡ outcome.Accepted f n → Wrote out at (accepted_line (version_of f) a.entries n) r o
+  pub accepted_line_lem : {f : FileFormat} {n : ℕ} → a.outcome ≡ Ok (f, n) → Wrote out at (accepted_line (version_of f) a.entries n) r o
       → Wrote out at (answer_line (answer_means a)) r o
-  accepted_line_lem e w = subst (λ (x : Outcome). Wrote out at (line_by a x) r o) (sym e) w
+  accepted_line_lem e w = subst (λ (x : Result (FileFormat × ℕ) Refusal). Wrote out at (line_by a x) r o) (sym e) w
 
-  pub refused_line_lem : {x : Refusal} → a.outcome ≡ outcome.Refused x → {n : ℕ} → n ≡ number x → Wrote out at (refused_line n a.line a.start) r o
+  pub refused_line_lem : {x : Refusal} → a.outcome ≡ Err x → {n : ℕ} → n ≡ number x → Wrote out at (refused_line n a.line a.start) r o
       → Wrote out at (answer_line (answer_means a)) r o
   refused_line_lem {x} e i w =
-      subst (λ (y : Outcome). Wrote out at (line_by a y) r o) (sym e) (subst (λ (m : ℕ). Wrote out at (refused_line m a.line a.start) r o) i w)
+      subst (λ (y : Result (FileFormat × ℕ) Refusal). Wrote out at (line_by a y) r o) (sym e) (subst (λ (m : ℕ). Wrote out at (refused_line m a.line a.start) r o) i w)
 
 -- what a reading tells is its report
 abbrev reading_of : ℕ → ℕ → ℕ → List Entry → State → Reading
@@ -111,12 +109,12 @@ module _ (h : Bytes) {out : Bytes} {r : ℕ} {o : Bytes} where
   pub printed_long : buffer < length h → Wrote out 0 (refused_line 27 0 0) r o → Wrote out 0 (printed h) r o
   printed_long l w = subst (λ (t : Bytes). Wrote out 0 t r o) (sym (too_long h l)) w
 
-  pub printed_read : (t : List ℕ) {t' : List ℕ} (a : ReadAnswer) → length h ≤ buffer → table_words ≡ length t → ReadCall First none h t a t'
+  pub printed_read : (t : List ℕ) {t' : List ℕ} (a : ReadAnswer) → length h ≤ buffer → table_words ≡ length t → ReadCall First None h t a t'
       → Wrote out 0 (answer_line (answer_means a)) r o → Wrote out 0 (printed h) r o
   unfolding printed room
   printed_read t a l s c w =
-      let e : printed h ≡ report (reading limits none (table_words / 2) h) = rw (printed, le-leb (length h) buffer l) in
-      let f : reading limits none (room First t) h ≡ reading limits none (table_words / 2) h = ap (λ (n : ℕ). reading limits none (n / 2) h) (sym s) in
-      subst (λ (x : Bytes). Wrote out 0 x r o) (ap answer_line c.answer ∙ told_report (reading limits none (room First t) h) ∙ ap report f ∙ sym e) w
+      let e : printed h ≡ report (reading limits None (table_words / 2) h) = rw (printed, le-leb (length h) buffer l) in
+      let f : reading limits None (room First t) h ≡ reading limits None (table_words / 2) h = ap (λ (n : ℕ). reading limits None (n / 2) h) (sym s) in
+      subst (λ (x : Bytes). Wrote out 0 x r o) (ap answer_line c.answer ∙ told_report (reading limits None (room First t) h) ∙ ap report f ∙ sym e) w
 
 pub ruleset reports = (number_put, version_put, counts_put, accepted_put, refused_put, accepted_line_lem, refused_line_lem, printed_long, printed_read)

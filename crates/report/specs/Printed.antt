@@ -1,7 +1,6 @@
 -- Document 01, "Sizes": the check program as a whole. Its buffer has 65,536 bytes and its table 8,192 words, two for each entry; a longer
 -- input prints as 27. Assumes nothing.
-use Rattle.std.specs.Prelude.{ℕ, ◌/◌, true, false, [], ◌∷◌, ◌++◌, leb, length}
-use Rattle.std.proofs.Math.Option.{none, some}
+use Rattle.std.specs.Prelude.{ℕ, ◌/◌, true, false, [], ◌∷◌, ◌++◌, leb, length, None, Some}
 use Rattle.values.specs.Bytes.{Bytes, LF, ascii}
 use Rattle.values.specs.Integer.{decimal}
 use Rattle.rules.specs.Sizes.{limits}
@@ -18,13 +17,13 @@ table_words = 8192
 
 unfoldable pub printed : Bytes → Bytes
 printed input = elim (leb (length input) buffer) [
-  | true ↦ report (reading limits none (table_words / 2) input)
+  | true ↦ report (reading limits None (table_words / 2) input)
   | false ↦ refused_line 27 0 0
 ]
 
 -- the line of what an answer says
 abbrev pub answer_line : AnswerMeaning → Bytes
-answer_line t = elim t.accepted [ none ↦ refused_line t.number t.line t.start | some p ↦ accepted_line p.0 t.entries p.1 ]
+answer_line t = elim t.accepted [ None ↦ refused_line t.number t.line t.start | Some p ↦ accepted_line p.0 t.entries p.1 ]
 
 -- its parts
 abbrev pub version_text : Version → Bytes

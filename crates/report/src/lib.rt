@@ -10,9 +10,8 @@ ghost use Rattle.header.specs.Parsers.{answer_means};
 ghost use Rattle.report.specs.Printed.{version_text, counts_text, answer_line, printed};
 
 use entries::form::Form;
-use header::file_format_option::FileFormatOption;
 use header::parser;
-use header::parser::{Outcome, ReadAnswer};
+use header::parser::ReadAnswer;
 use records::file_format::FileFormat;
 use values::output;
 
@@ -76,20 +75,8 @@ pub fn put_answer(out: &mut [u8], at: usize, answer: ReadAnswer) -> usize
 {
     let outcome = answer.outcome;
     match outcome {
-        Outcome::Accepted(version, samples) => put_accepted(
-            out,
-            at,
-            version,
-            answer.entries,
-            samples,
-        ),
-        Outcome::Refused(refusal) => put_refused(
-            out,
-            at,
-            refusal.number(),
-            answer.line,
-            answer.start,
-        ),
+        Ok((version, samples)) => put_accepted(out, at, version, answer.entries, samples),
+        Err(refusal) => put_refused(out, at, refusal.number(), answer.line, answer.start),
     }
 }
 
@@ -101,6 +88,6 @@ pub fn print(input: &[u8], out: &mut [u8]) -> usize
         return put_refused(out, 0, 27, 0, 0);
     }
     let mut table = empty_table();
-    let answer = parser::read(input, FileFormatOption::None, Form::First, &mut table);
+    let answer = parser::read(input, None, Form::First, &mut table);
     put_answer(out, 0, answer)
 }

@@ -2,7 +2,7 @@
 use mathlib.Core.Path.{◌≡◌, refl}
 use mathlib.Core.Bool.{true, false, not}
 use mathlib.Core.List.{List, [], ◌∷◌, map}
-use mathlib.Core.Option.{some}
+use Rattle.std.specs.Prelude.{Some}
 use Rattle.values.specs.Bytes.{Bytes, same}
 use Rattle.values.specs.Value.{meaning_of}
 use Rattle.values.specs.Field.{Field}
@@ -64,7 +64,7 @@ not_refused v k fs g =
     (zero_first (missing v k fs) _ g.whole
     (zero_first (misdeclared v k fs) [] g.declared first_nil)))
 
-pub named_yes : (v : Version) (k n : Bytes) (f : Field) (fs : List Field) → same (name_of v k f.key) n ≡ true → field_named v k n (f ∷ fs) ≡ some f
+pub named_yes : (v : Version) (k n : Bytes) (f : Field) (fs : List Field) → same (name_of v k f.key) n ≡ true → field_named v k n (f ∷ fs) ≡ Some f
 unfolding field_named
 named_yes v k n f fs e = rw (e, field_named)
 

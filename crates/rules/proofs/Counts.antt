@@ -4,7 +4,7 @@ use native.Mathlib.Omega.{arith}
 use mathlib.Core.Path.{◌≡◌, refl, ap, ◌∙◌}
 use mathlib.Core.Bool.{Bool, true, false, true≢false, false≢true}
 use mathlib.Core.List.{List, [], ◌∷◌, ◌++◌}
-use mathlib.Core.Option.{some}
+use Rattle.std.specs.Prelude.{Some}
 use lib.Dec.{leb}
 use lib.ListN.{length, drop, length-append}
 use borrow.Author.Tests.{le-leb}
@@ -71,7 +71,7 @@ counted_own true v start l r c = (refl, refl)
 counted_own false v start l r c = absurd (false≢true c)
 
 key_part : (kind start len n m : ℕ) (e : Entry) → Placed kind start len e → e.key_length ≡ n → e.field_count ≡ m → leb kind 8 ≡ true → 2 + n ≤ len
-    → entry_key_part true (some e) ≡ some ((start + 2, start + 2 + n), m)
+    → entry_key_part true (Some e) ≡ Some ((start + 2, start + 2 + n), m)
 key_part kind start len n m e p k f small fits = rw (entry_key_part, p.is_kind, small, p.is_length, le-leb (2 + e.key_length) len (rw k fits), p.is_start, f, k)
 
 -- an entry of an accepted header: its line, read again, is its record, and its key is shown
@@ -87,7 +87,7 @@ module _ (lim : Limits) (h : Bytes) (v w : Version) (start : ℕ) (l : Bytes) (r
   kind_small (fields k fs) = (map_kind_lem (kind_of k)).2
   kind_small (text k t) = refl
 
-  key_shown_lem : lim.counted ≡ true → (p : Part) × (entry_key_part true (some e) ≡ some (p, length (fields_of r))) × (part h p.0 p.1 ≡ key_of r)
+  key_shown_lem : lim.counted ≡ true → (p : Part) × (entry_key_part true (Some e) ≡ Some (p, length (fields_of r))) × (part h p.0 p.1 ≡ key_of r)
   key_shown_lem c =
       let k = line_key v l r read in
       let n : start + 2 + length (key_of r) ≡ start + (2 + length (key_of r)) = omega arith in

@@ -3,7 +3,7 @@ use Prim.Native.Nat.{ℕ, zero, suc, ◌+◌, ◌≤◌}
 use native.Mathlib.Omega.{arith}
 use mathlib.Core.Path.{◌≡◌, refl, sym, ap, subst, ◌∙◌}
 use mathlib.Core.List.{List, [], ◌∷◌, ◌++◌}
-use mathlib.Core.Option.{Option, some}
+use Rattle.std.specs.Prelude.{Option, Some}
 use lib.ListN.{length, length-append, length-drop}
 use Rattle.values.specs.Bytes.{Bytes, part}
 use Rattle.values.proofs.Lists.{some_is, none_not}
@@ -30,22 +30,22 @@ use Rattle.rules.specs.Claims.{All, SizedOption, Accepted, Row, Rows, nth, Shows
 -- the row of the i-th record
 record RowAt (lim : Limits) (h : Bytes) (v : Version) (es : List Entry) (i : ℕ) (r : Record) : Type 0 where
   entry : Entry
-  is : nth es i ≡ some entry
+  is : nth es i ≡ Some entry
   row : Row lim h v entry r
 
-row_at : (lim : Limits) (h : Bytes) (v : Version) (es : List Entry) (rs : List Record) (i : ℕ) {r : Record} → Rows lim h v es rs → nth rs i ≡ some r → RowAt lim h v es i r
+row_at : (lim : Limits) (h : Bytes) (v : Version) (es : List Entry) (rs : List Record) (i : ℕ) {r : Record} → Rows lim h v es rs → nth rs i ≡ Some r → RowAt lim h v es i r
 row_at lim h v [] [] i a e = none_not e
 row_at lim h v [] (r ∷ rs) i a e = absurd a
 row_at lim h v (x ∷ es) [] i a e = absurd a
 row_at lim h v (x ∷ es) (r ∷ rs) zero a e = record { entry = x; is = refl; row = subst (Row lim h v x) (some_is e) a.0 }
 row_at lim h v (x ∷ es) (r ∷ rs) (suc i) a e = let d = row_at lim h v es rs i a.1 e in record { entry = d.entry; is = d.is; row = d.row }
 
-all_at : (P : Record → Type 0) (rs : List Record) (i : ℕ) {r : Record} → All P rs → nth rs i ≡ some r → P r
+all_at : (P : Record → Type 0) (rs : List Record) (i : ℕ) {r : Record} → All P rs → nth rs i ≡ Some r → P r
 all_at P [] i a e = none_not e
 all_at P (r ∷ rs) zero a e = subst P (some_is e) a.0
 all_at P (r ∷ rs) (suc i) a e = all_at P rs i a.1 e
 
-entry_left : (xs ys : List Entry) (i : ℕ) {e : Entry} → nth xs i ≡ some e → nth (xs ++ ys) i ≡ some e
+entry_left : (xs ys : List Entry) (i : ℕ) {e : Entry} → nth xs i ≡ Some e → nth (xs ++ ys) i ≡ Some e
 entry_left [] ys i h = none_not h
 entry_left (x ∷ xs) ys zero h = h
 entry_left (x ∷ xs) ys (suc i) h = entry_left xs ys i h
@@ -63,11 +63,11 @@ rows_length lim h v (x ∷ es) (r ∷ rs) a = ap suc (rows_length lim h v es rs 
 -- a sample's name, where its entry says
 pub record NameIn (s : ℕ) (l : Bytes) (es : List Entry) (j : ℕ) (x : Bytes) : Type 0 where
   pub at : ℕ
-  pub is : nth es j ≡ some (plain_entry sample_kind (s + at) (length x))
+  pub is : nth es j ≡ Some (plain_entry sample_kind (s + at) (length x))
   pub here : part l at (at + length x) ≡ x
   pub inside : at + length x ≤ length l
 
-name_in : (s : ℕ) (l : Bytes) (at : ℕ) (xs : List Bytes) (j : ℕ) {x : Bytes} → NamesAt l at xs → nth xs j ≡ some x → NameIn s l (sample_entries (s + at) xs) j x
+name_in : (s : ℕ) (l : Bytes) (at : ℕ) (xs : List Bytes) (j : ℕ) {x : Bytes} → NamesAt l at xs → nth xs j ≡ Some x → NameIn s l (sample_entries (s + at) xs) j x
 unfolding sample_entries
 name_in s l at [] j h e = none_not e
 name_in s l at (y ∷ xs) zero {x} h e =
@@ -88,7 +88,7 @@ module _ (lim : Limits) (imposed : Option Version) (sized : SizedOption imposed)
   pub traced : TracedHeader lim imposed h v rs c entries
   traced = header_traced lim imposed room h a
 
-  record_shown : (i : ℕ) (r : Record) (e : Entry) → Entered v r → Row lim h v e r → nth entries (suc i) ≡ some e → Shown lim h v entries (suc i) r
+  record_shown : (i : ℕ) (r : Record) (e : Entry) → Entered v r → Row lim h v e r → nth entries (suc i) ≡ Some e → Shown lim h v entries (suc i) r
   unfolding record_entry line_entry
   record_shown i r e g row q = record {
     entry = e;
@@ -107,7 +107,7 @@ module _ (lim : Limits) (imposed : Option Version) (sized : SizedOption imposed)
       go (text k t) g row = shows_text lim h v k t e row
 
   -- entry i + 1 shows record i
-  pub entry_shows : (i : ℕ) {r : Record} → nth rs i ≡ some r → Shown lim h v entries (suc i) r
+  pub entry_shows : (i : ℕ) {r : Record} → nth rs i ≡ Some r → Shown lim h v entries (suc i) r
   entry_shows i {r} e =
       let d = row_at lim h v traced.rows rs i traced.all e in
       let g = all_at (Entered v) rs i (accepted_good lim imposed room h sized a).0.0.good e in
@@ -124,7 +124,7 @@ module _ (lim : Limits) (imposed : Option Version) (sized : SizedOption imposed)
   }
 
   -- and tells of it, whatever the version
-  pub format_tells : (u : Version) → (e : Entry) × (nth entries 0 ≡ some e) × Tells lim.counted h u e (fileformat traced.own)
+  pub format_tells : (u : Version) → (e : Entry) × (nth entries 0 ≡ Some e) × Tells lim.counted h u e (fileformat traced.own)
   format_tells u =
       let read = on_ok (FormatIs (read_record u traced.format)) (format_any v4_5 u traced.format) traced.read_format in
       let tells = record_tells lim h u traced.own 0 traced.format (fileformat traced.own) traced.first read in
@@ -149,7 +149,7 @@ module _ (lim : Limits) (imposed : Option Version) (sized : SizedOption imposed)
       ∙ rw (rows_length lim h v traced.rows rs traced.all, samples_count (traced.start + samples_start) c.samples) (omega arith)
 
   -- the entries after it show the sample names
-  pub sample_shows : (j : ℕ) {x : Bytes} → nth c.samples j ≡ some x → ShownPlain h entries (suc (length rs) + suc j) sample_kind x
+  pub sample_shows : (j : ℕ) {x : Bytes} → nth c.samples j ≡ Some x → ShownPlain h entries (suc (length rs) + suc j) sample_kind x
   unfolding column_entries counts_in_place
   sample_shows j {x} e =
       let s = traced.start in

@@ -4,7 +4,7 @@ use native.Mathlib.Omega.{arith}
 use mathlib.Core.Path.{◌≡◌, refl, sym, ap, ap₂, subst, ◌∙◌}
 use mathlib.Core.Bool.{Bool, true, false, false≢true}
 use mathlib.Core.List.{List, [], ◌∷◌, ◌++◌, append_assoc, append-nil}
-use mathlib.Core.Option.{Option, none, some}
+use Rattle.std.specs.Prelude.{Option, None, Some}
 use mathlib.Core.Logic.{◌⊎◌, inl, inr, ⊎_elim}
 use lib.Dec.{leb}
 use lib.ListN.{length, length-append}
@@ -467,8 +467,8 @@ house_moved lim imposed room output {h} {h'} x {v} {rs} {c} a =
     ]
       where
         go : (x : Option (ℕ × ℕ)) → lined output r (house_form m) x ≡ lined output t (house_form m) x
-        go none = rw (e, f)
-        go (some p) = refl
+        go None = rw (e, f)
+        go (Some p) = refl
 
 -- Blocks of lines
 

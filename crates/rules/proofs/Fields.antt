@@ -4,7 +4,7 @@ use native.Mathlib.Omega.{arith}
 use mathlib.Core.Path.{◌≡◌, refl, sym, ap, ap₂, ◌∙◌}
 use mathlib.Core.Bool.{Bool, true, false, not, ◌||◌, ◌&&◌, false≢true}
 use mathlib.Core.List.{List, [], ◌∷◌, ◌++◌, tail, append_assoc}
-use mathlib.Core.Option.{Option, none, some}
+use Rattle.std.specs.Prelude.{Option, None, Some}
 use lib.ListN.{length, length-append}
 use borrow.Author.Tests.{eqb-true}
 use Rattle.values.specs.Bytes.{Bytes, is, empty, begins, any, before, from}
@@ -37,8 +37,8 @@ abbrev PureValue : Value × Bytes → Type 0
 PureValue p = Pure (text_of p.0) × Pure p.1
 
 in_quotes_pure : (bs : Bytes) (a : Option (Bytes × Bytes)) → Pure bs → OnSome (QuotedIn bs) a → OnSome PureValue (in_quotes a)
-in_quotes_pure bs none g h = tt
-in_quotes_pure bs (some p) g h = pure_split p.0 34 p.1 (omega arith) (rw h at g)
+in_quotes_pure bs None g h = tt
+in_quotes_pure bs (Some p) g h = pure_split p.0 34 p.1 (omega arith) (rw h at g)
 
 values_pure : (bs : Bytes) → Pure bs → OnSome PureValue (read_values bs)
 values_pure bs g = elim (test (is_bracketed bs)) [
@@ -75,12 +75,12 @@ unfolding read_field
 field_good m bs g = with_key_lem (read_key bs) (key_in bs)
   where
     with_value_lem : (p : Bytes × Bytes) → KeyIn bs p → Pure p.0 → (a : Option (Value × Bytes)) → OnSome PureValue a → OnSome GoodRead (with_value p.0 a)
-    with_value_lem p k l none h = tt
-    with_value_lem p k l (some q) h = (record { legal = k.legal; plain = k.plain; key = l; text = h.0 }, h.1)
+    with_value_lem p k l None h = tt
+    with_value_lem p k l (Some q) h = (record { legal = k.legal; plain = k.plain; key = l; text = h.0 }, h.1)
 
     with_key_lem : (a : Option (Bytes × Bytes)) → OnSome (KeyIn bs) a → OnSome GoodRead (with_key m a)
-    with_key_lem none h = tt
-    with_key_lem (some p) h =
+    with_key_lem None h = tt
+    with_key_lem (Some p) h =
         let d = pure_split p.0 61 p.1 (omega arith) (rw h.text at g) in
         with_value_lem p h d.0 (read_value (may_bracket m p.0) p.1) (value_pure (may_bracket m p.0) p.1 d.1)
 
@@ -107,22 +107,22 @@ after_in [] = tt
 after_in (b ∷ bs) = elim (test (is 44 b)) [
   | pass e ↦ rw (after, e) (rw (eqb-true b 44 e))
   | fail e ↦ elim (test (is 62 b && empty bs)) [
-    | pass f ↦ rw (after, e, f) (ap₂ ◌∷◌ (eqb-true b 62 (and_l (is 62 b) (empty bs) f)) (none bs (and_r (is 62 b) (empty bs) f)))
+    | pass f ↦ rw (after, e, f) (ap₂ ◌∷◌ (eqb-true b 62 (and_l (is 62 b) (empty bs) f)) (None bs (and_r (is 62 b) (empty bs) f)))
     | fail f ↦ rw (after, e, f) tt
   ]
 ]
   where
-    none : (bs : Bytes) → empty bs ≡ true → bs ≡ []
-    none [] h = refl
-    none (b ∷ bs) h = absurd (false≢true h)
+    None : (bs : Bytes) → empty bs ≡ true → bs ≡ []
+    None [] h = refl
+    None (b ∷ bs) h = absurd (false≢true h)
 
 pub data SeenField (a : Option (Field × Bytes)) : Type 0 where
-  no_field : a ≡ none → SeenField a
-  a_field : (p : Field × Bytes) → a ≡ some p → SeenField a
+  no_field : a ≡ None → SeenField a
+  a_field : (p : Field × Bytes) → a ≡ Some p → SeenField a
 
 pub see_field : (a : Option (Field × Bytes)) → SeenField a
-see_field none = no_field refl
-see_field (some p) = a_field p refl
+see_field None = no_field refl
+see_field (Some p) = a_field p refl
 
 scan_good : (n : ℕ) (m : Bool) (bs : Bytes) → Pure bs → All GoodField (scan n m bs).0
 unfolding scan
@@ -149,30 +149,30 @@ fields_good m needed bs g = elim (test (not needed && (empty bs || begins 62 bs)
 
 -- a value that is read as itself before a `,` or `>`
 abbrev pub Stable : Bool → Value → Type 0
-Stable m v = (c : ℕ) (r : Bytes) → is_stop c ≡ true → read_value m (written v ++ c ∷ r) ≡ some (v, c ∷ r)
+Stable m v = (c : ℕ) (r : Bytes) → is_stop c ≡ true → read_value m (written v ++ c ∷ r) ≡ Some (v, c ∷ r)
 
 pub record StableField (m : Bool) (f : Field) : Type 0 where
   pub legal : is_key f.key ≡ true
   pub plain : any (is 61) f.key ≡ false
   pub value : Stable (may_bracket m f.key) f.value
 
-key_back : (k r : Bytes) → is_key k ≡ true → any (is 61) k ≡ false → read_key (k ++ 61 ∷ r) ≡ some (k, r)
+key_back : (k r : Bytes) → is_key k ≡ true → any (is 61) k ≡ false → read_key (k ++ 61 ∷ r) ≡ Some (k, r)
 unfolding begins
 key_back k r l p =
     let b = before_stop (is 61) k 61 r p refl in
     let f = from_stop (is 61) k 61 r p refl in
     key_is (k ++ 61 ∷ r) (rw (b, f) (rw l)) ∙ rw (b, f)
 
-field_back : (m : Bool) (f : Field) (c : ℕ) (r : Bytes) → StableField m f → is_stop c ≡ true → read_field m (written_field f ++ c ∷ r) ≡ some (f, c ∷ r)
+field_back : (m : Bool) (f : Field) (c : ℕ) (r : Bytes) → StableField m f → is_stop c ≡ true → read_field m (written_field f ++ c ∷ r) ≡ Some (f, c ∷ r)
 unfolding read_field written_field
 field_back m f c r h s =
     rw (append_assoc f.key (61 ∷ written f.value) (c ∷ r), key_back f.key (written f.value ++ c ∷ r) h.legal h.plain, h.value c r s)
 
-scan_more : (n : ℕ) (m : Bool) (bs : Bytes) (f : Field) (r : Bytes) → read_field m bs ≡ some (f, 44 ∷ r) → scan (suc n) m bs ≡ (f ∷ (scan n m r).0, (scan n m r).1)
+scan_more : (n : ℕ) (m : Bool) (bs : Bytes) (f : Field) (r : Bytes) → read_field m bs ≡ Some (f, 44 ∷ r) → scan (suc n) m bs ≡ (f ∷ (scan n m r).0, (scan n m r).1)
 unfolding scan after
 scan_more n m bs f r e = rw (scan, e)
 
-scan_done : (n : ℕ) (m : Bool) (bs : Bytes) (f : Field) → read_field m bs ≡ some (f, 62 ∷ []) → scan (suc n) m bs ≡ (f ∷ [], 0)
+scan_done : (n : ℕ) (m : Bool) (bs : Bytes) (f : Field) → read_field m bs ≡ Some (f, 62 ∷ []) → scan (suc n) m bs ≡ (f ∷ [], 0)
 unfolding scan after
 scan_done n m bs f e = rw (scan, e)
 
@@ -269,7 +269,7 @@ value_not : (m : Bool) (bs : Bytes) → begins 34 bs ≡ false → read_value m 
 unfolding read_value
 value_not m bs h = rw (h, read_value)
 
-bare_back : (t : Bytes) (c : ℕ) (r : Bytes) → any is_stop t ≡ false → is_stop c ≡ true → read_bare (t ++ c ∷ r) ≡ some (bare t, c ∷ r)
+bare_back : (t : Bytes) (c : ℕ) (r : Bytes) → any is_stop t ≡ false → is_stop c ≡ true → read_bare (t ++ c ∷ r) ≡ Some (bare t, c ∷ r)
 bare_back t c r h s = rw (before_stop is_stop t c r h s, from_stop is_stop t c r h s)
 
 pub quoted_stable : (m : Bool) (t : Bytes) → Stable m (value_of true t)
@@ -283,7 +283,7 @@ bare_stable m t n k c r s =
     let q = begins_append 34 t c r (or_l (begins 34 t) (any is_stop t) n) (stop_not 34 c refl s) in
     value_not m (t ++ c ∷ r) q ∙ unquoted m k
   where
-    unquoted : (m : Bool) → m && begins 91 t ≡ false → read_unquoted m (t ++ c ∷ r) ≡ some (bare t, c ∷ r)
+    unquoted : (m : Bool) → m && begins 91 t ≡ false → read_unquoted m (t ++ c ∷ r) ≡ Some (bare t, c ∷ r)
     unquoted true k = bracketed_not (t ++ c ∷ r) (rw (begins_append 91 t c r k (stop_not 91 c refl s))) ∙ bare_back t c r (or_r (begins 34 t) (any is_stop t) n) s
     unquoted false k = bare_back t c r (or_r (begins 34 t) (any is_stop t) n) s
 

@@ -3,12 +3,11 @@ use Prim.Native.Nat.{ℕ}
 use mathlib.Core.Path.{◌≡◌, refl, sym, ap, ◌∙◌}
 use mathlib.Core.Bool.{Bool, true, false, ◌&&◌, false≢true, and_assoc}
 use mathlib.Core.List.{List, [], ◌∷◌, ◌++◌, map}
-use mathlib.Core.Option.{Option, none, some}
+use Rattle.std.specs.Prelude.{Option, None, Some}
 use Rattle.values.specs.Bytes.{Bytes, ascii, is, begins, any, same}
 use Rattle.values.specs.Value.{Value, quoted, bare, text_of, meaning_of, value_of}
 use Rattle.values.specs.Field.{Field, is_key, may_bracket}
 use Rattle.values.specs.Integer.{u64_read, decimal}
-use Rattle.values.specs.declared.integer.IntegerRead.TheVariants as integer
 use Rattle.values.proofs.Tests.{pass, fail, test, or_l, or_r, and_l, and_r, not_false, both}
 use Rattle.values.proofs.Lists.{OnSome}
 use Rattle.rules.specs.Answer.{unless, first}
@@ -88,7 +87,7 @@ numeric_names ALT = tt
 numeric_names contig = (refl, (refl, tt))
 numeric_names other = tt
 
-pub number_count : (v : Version) (kind : Kind) (t : Bytes) {n : ℕ} {p : Bool} → u64_read t ≡ integer.Value n p → read_number v kind t ≡ some (count n)
+pub number_count : (v : Version) (kind : Kind) (t : Bytes) {n : ℕ} {p : Bool} → u64_read t ≡ Some (n, p) → read_number v kind t ≡ Some (count n)
 unfolding read_number
 number_count v kind t e = rw e
 
@@ -107,7 +106,7 @@ type_rows ALT = (refl, (refl, tt))
 type_rows contig = (refl, (refl, (refl, (refl, (refl, tt)))))
 type_rows other = (refl, tt)
 
-number_passes : (v : Version) (kind : Kind) (name : Bytes) (n : ℕ) {p : Bool} → same name (ascii "Type") ≡ false → u64_read (decimal n) ≡ integer.Value n p
+number_passes : (v : Version) (kind : Kind) (name : Bytes) (n : ℕ) {p : Bool} → same name (ascii "Type") ≡ false → u64_read (decimal n) ≡ Some (n, p)
     → (rs : List KnownField) → All (λ r. is_type r.reads ≡ same r.name (ascii "Type")) rs → value_refusal v kind (decimal n) (row_named name rs) ≡ 0
 unfolding row_named
 number_passes v kind name n d e [] h = refl
@@ -148,8 +147,8 @@ known_all P v k tag g (n ∷ ns) h = go (g n) h.0 (known_all P v k tag g ns h.1)
   where
     go : (x : Option Known) → OnSome (λ x. P (write_field v k (key_written tag n) (write_known x))) x → All P (known_fields v k tag ns (map g ns))
         → All P (known_fields v k tag (n ∷ ns) (x ∷ map g ns))
-    go none q r = r
-    go (some x) q r = (q, r)
+    go None q r = r
+    go (Some x) q r = (q, r)
 
 -- what each other field has
 others_all : (Q : Bytes → Bytes → Type 0) (v : Version) (k : Bytes) (fs : List Field) → All (λ f. Q f.key (meaning_of f.value)) fs → All (λ p. Q p.0 p.1) (others v k fs)
@@ -174,7 +173,7 @@ required_known ALT = (refl, (refl, tt))
 required_known contig = (refl, tt)
 required_known other = (refl, tt)
 
-pub reserved_none : (v : Version) (kind : Kind) (id : Bytes) → reserved_pages kind ≡ [] → reserved v kind id ≡ none
+pub reserved_none : (v : Version) (kind : Kind) (id : Bytes) → reserved_pages kind ≡ [] → reserved v kind id ≡ None
 unfolding reserved look_row at_version
 reserved_none v kind id e = rw (reserved, e)
 
@@ -185,8 +184,8 @@ module _ (v : Version) (k : Bytes) (fs : List Field) where
   given_tidy n h = rw (find_tidy v k fs n h) (go (field_named v k n fs))
     where
       go : (x : Option Field) → is_some (written_as v k (tag v k fs) n (known_of (kind_of k) n x)) ≡ is_some x
-      go none = refl
-      go (some f) = refl
+      go None = refl
+      go (Some f) = refl
 
   pub missing_tidy : missing v k (tidy v k fs) ≡ missing v k fs
   unfolding missing
@@ -199,8 +198,8 @@ module _ (v : Version) (k : Bytes) (fs : List Field) where
   value_tidy n h Q z s = rw (find_tidy v k fs n h) (go (field_named v k n fs))
     where
       go : (x : Option Field) → Q (value_in (written_as v k (tag v k fs) n (known_of (kind_of k) n x))) (value_in x)
-      go none = z
-      go (some f) =
+      go None = z
+      go (Some f) =
           let t = write_known (known_value (kind_of k) n (meaning_of f.value)) in
           rw (meaning_back (is_written_quoted v k (key_written (tag v k fs) n) t) t) (s (meaning_of f.value))
 
@@ -259,7 +258,7 @@ module _ (v : Version) (k : Bytes) (fs : List Field) (good : All GoodField fs) (
   fits (f ∷ gs) g p = (fit_of v k f g.0 p.0, fits gs g.1 p.1)
 
   -- a known field stands under the key that it stood under
-  key_kept : (n : Bytes) (f : Field) → field_named v k n fs ≡ some f → name_of v k f.key ≡ n → key_written T n ≡ f.key
+  key_kept : (n : Bytes) (f : Field) → field_named v k n fs ≡ Some f → name_of v k f.key ≡ n → key_written T n ≡ f.key
   key_kept n f e q = elim (test (same n (ascii "ID"))) [
     | pass w ↦
         let i : n ≡ ascii "ID" = same_sound n (ascii "ID") w in
@@ -272,8 +271,8 @@ module _ (v : Version) (k : Bytes) (fs : List Field) (good : All GoodField fs) (
     where
       go : (x : Option Field) → field_named v k n fs ≡ x → OnSome (λ f. Fit v k f.key (meaning_of f.value) × (name_of v k f.key ≡ n)) x
           → OnSome (λ x. Fit v k (key_written T n) (write_known x)) (known_of kind n x)
-      go none e p = tt
-      go (some f) e p = rw (key_kept n f e p.1) (fit_known v k f.key n (meaning_of f.value) p.0 p.1)
+      go None e p = tt
+      go (Some f) e p = rw (key_kept n f e p.1) (fit_known v k f.key n (meaning_of f.value) p.0 p.1)
 
   -- what every fit field has, every field as written has
   pub tidy_all : (P : Field → Type 0) → ((key t : Bytes) → Fit v k key t → P (write_field v k key t)) → All P (tidy v k fs)
@@ -284,8 +283,8 @@ module _ (v : Version) (k : Bytes) (fs : List Field) (good : All GoodField fs) (
       (others_all (Fit v k) v k fs (fits fs good h.passes))))
     where
       lift : (n : Bytes) (x : Option Known) → OnSome (λ x. Fit v k (key_written T n) (write_known x)) x → OnSome (λ x. P (write_field v k (key_written T n) (write_known x))) x
-      lift n none q = tt
-      lift n (some x) q = f (key_written T n) (write_known x) q
+      lift n None q = tt
+      lift n (Some x) q = f (key_written T n) (write_known x) q
 
   -- the names of the others are fresh among themselves
   fresh_others : (gs : List Field) (seen t : List Bytes) → Within seen [] t → Fresh seen (names_of v k gs) → Fresh t (names_of v k (other_fields v k (others v k gs)))
@@ -314,10 +313,10 @@ module _ (v : Version) (k : Bytes) (fs : List Field) (good : All GoodField fs) (
   unfolding known_fields is_in
   fresh_known [] xs seen t rest f a w c = c t (λ n p q. p)
   fresh_known (n ∷ ns) [] seen t rest f a w c = c t (λ n p q. p)
-  fresh_known (n ∷ ns) (none ∷ xs) seen t rest f a w c =
+  fresh_known (n ∷ ns) (None ∷ xs) seen t rest f a w c =
       fresh_known ns xs (n ∷ seen) t rest f.1 a.1 (λ m p q. w m (or_r (same n m) (is_in m seen) p) q)
       (λ t' u. c t' (λ m p q. u m p (or_r (same n m) (is_in m ns) q)))
-  fresh_known (n ∷ ns) (some x ∷ xs) seen t rest f a w c =
+  fresh_known (n ∷ ns) (Some x ∷ xs) seen t rest f a w c =
       rw a.0 (
         w n f.0 refl,
         fresh_known ns xs (n ∷ seen) (n ∷ t) rest f.1 a.1 (λ m p q. rw (or_l (same n m) (is_in m seen) p) (w m (or_r (same n m) (is_in m seen) p) q))

@@ -3,7 +3,7 @@ use Prim.Native.Nat.{ℕ, suc, ◌+◌, ◌≤◌}
 use native.Mathlib.Omega.{arith}
 use mathlib.Core.Path.{◌≡◌, sym, ap, ◌∙◌}
 use mathlib.Core.List.{List, [], ◌∷◌, ◌++◌, map}
-use mathlib.Core.Option.{Option, none, some}
+use Rattle.std.specs.Prelude.{Option, None, Some}
 use mathlib.Core.Logic.{◌↔◌}
 use lib.Dec.{leb}
 use lib.ListN.{length, length-map}
@@ -28,7 +28,7 @@ use Rattle.rules.proofs.Back.{Line, record_lines, column_line, lines_back}
 use Rattle.rules.proofs.Rooms.{roomier}
 use Rattle.rules.specs.Claims.{All, SizedOption, Accepted, Fits}
 
-short : (limit n start : ℕ) (ls : List Bytes) → too_long limit n start ls ≡ none → All (λ l. length l ≤ limit) ls
+short : (limit n start : ℕ) (ls : List Bytes) → too_long limit n start ls ≡ None → All (λ l. length l ≤ limit) ls
 unfolding too_long
 short limit n start [] h = tt
 short limit n start (l ∷ ls) h = elim (test (leb (length l) limit)) [
@@ -65,7 +65,7 @@ accepted_good lim imposed room h i a = rw a.state at (reading_good lim imposed r
 -- reading the form of an accepted header, no version imposed and with the same room, is accepted with the same meaning
 pub house_reads_back : (lim : Limits) (imposed : Option Version) (room : ℕ) (h : Bytes) {v : Version} {rs : List Record} {c : Columns} → SizedOption imposed
     → Accepted v rs c (reading lim imposed room h) → Fits lim (header_meaning v rs c)
-    → (rs' : List Record) × Accepted v rs' c (reading lim none room (house_form (header_meaning v rs c))) × (header_meaning v rs' c ≡ header_meaning v rs c)
+    → (rs' : List Record) × Accepted v rs' c (reading lim None room (house_form (header_meaning v rs c))) × (header_meaning v rs' c ≡ header_meaning v rs c)
 unfolding house_form
 house_reads_back lim imposed room h {v} {rs} {c} i a f =
     (map (tidied v) xs, back (accepted_good lim imposed room h i a), house_meaning v rs c)
@@ -76,7 +76,7 @@ house_reads_back lim imposed room h {v} {rs} {c} i a f =
     fit : Fits lim (header_meaning v rs c) → All (λ l. length l ≤ lim.line) (write_record (fileformat v) ∷ (record_lines v xs ++ column_line c ∷ []))
     fit f = rw (house_lines_lem v rs c) at (short lim.line 0 0 (house_lines (header_meaning v rs c)) f.lines)
 
-    back : (Good v rs × GoodColumns c) × (2 + length rs + length c.samples ≤ room) → Accepted v (map (tidied v) xs) c (reading lim none room (house_form (header_meaning v rs c)))
+    back : (Good v rs × GoodColumns c) × (2 + length rs + length c.samples ≤ room) → Accepted v (map (tidied v) xs) c (reading lim None room (house_form (header_meaning v rs c)))
     back g =
         let e = arrange_all (Entered v) (all_keys rs) rs g.0.0.good in
         let n : length xs ≡ length rs = sym (length-map xs (tidied v)) ∙ house_count v rs in
@@ -91,7 +91,7 @@ house_reads_back lim imposed room h {v} {rs} {c} i a f =
 -- the form's own form is itself
 pub house_fixed : (lim : Limits) (imposed : Option Version) (room : ℕ) (h : Bytes) {v : Version} {rs : List Record} {c : Columns} → SizedOption imposed
     → Accepted v rs c (reading lim imposed room h) → Fits lim (header_meaning v rs c)
-    → (rs' : List Record) × Accepted v rs' c (reading lim none room (house_form (header_meaning v rs c))) × (house_form (header_meaning v rs' c) ≡ house_form (header_meaning v rs c))
+    → (rs' : List Record) × Accepted v rs' c (reading lim None room (house_form (header_meaning v rs c))) × (house_form (header_meaning v rs' c) ≡ house_form (header_meaning v rs c))
 house_fixed lim imposed room h i a f = let b = house_reads_back lim imposed room h i a f in (b.0, b.1, ap house_form b.2)
 
 -- an accepted reading with more room
@@ -100,9 +100,9 @@ more_room : (lim : Limits) (imposed : Option Version) (less more : ℕ) (h : Byt
 more_room lim imposed less more h r a = ap (λ (x : Reading). x.state) (roomier lim imposed less more h r a.number) ∙ a.state
 
 abbrev meant : State → Option Meaning
-meant State.empty = none
-meant (State.ready v rs) = none
-meant (done v rs c) = some (header_meaning v rs c)
+meant State.empty = None
+meant (State.ready v rs) = None
+meant (done v rs c) = Some (header_meaning v rs c)
 
 -- what is read of one text, with whatever room, means one thing
 one_meaning : (lim : Limits) (imposed : Option Version) (room room' : ℕ) (h : Bytes) {v v' : Version} {rs rs' : List Record} {c c' : Columns}
@@ -122,4 +122,4 @@ house_canonical lim imposed imposed' room room' h h' {v} {v'} {rs} {rs'} {c} {c'
     back e =
         let b = house_reads_back lim imposed room h i a f in
         let b' = house_reads_back lim imposed' room' h' i' a' f' in
-        sym b.2 ∙ one_meaning lim none room room' (house_form (header_meaning v' rs' c')) (rw e at b.1) b'.1 ∙ b'.2
+        sym b.2 ∙ one_meaning lim None room room' (house_form (header_meaning v' rs' c')) (rw e at b.1) b'.1 ∙ b'.2

@@ -2,7 +2,7 @@
 use mathlib.Core.Path.{◌≡◌, refl, sym, ap, ◌∙◌}
 use mathlib.Core.Bool.{true, false, ◌||◌}
 use mathlib.Core.List.{List, [], ◌∷◌}
-use mathlib.Core.Option.{some}
+use Rattle.std.specs.Prelude.{Some}
 use Rattle.values.specs.Bytes.{Bytes, ascii, same}
 use Rattle.values.proofs.Tests.{pass, fail, test, never, or_l, or_r, and_r, and_off, both}
 use Rattle.values.proofs.Lists.{some_is}
@@ -48,7 +48,7 @@ id_key v k field e = elim (test (names_id v k field)) [
 
 -- Rows of the table of known fields
 
-pub row_is : (name : Bytes) (rs : List KnownField) {r : KnownField} → row_named name rs ≡ some r → r.name ≡ name
+pub row_is : (name : Bytes) (rs : List KnownField) {r : KnownField} → row_named name rs ≡ Some r → r.name ≡ name
 unfolding row_named
 row_is name [] e = never cc
 row_is name (x ∷ rs) e = elim (test (same x.name name)) [

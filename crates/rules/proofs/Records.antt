@@ -4,7 +4,7 @@ use native.Mathlib.Omega.{arith}
 use mathlib.Core.Path.{◌≡◌, refl, sym, ap, ap₂, ◌∙◌}
 use mathlib.Core.Bool.{true, false, not, ◌&&◌, false≢true}
 use mathlib.Core.List.{List, [], ◌∷◌, ◌++◌, tail, map}
-use mathlib.Core.Option.{Option, none, some}
+use Rattle.std.specs.Prelude.{Option, None, Some}
 use lib.Dec.{eqb}
 use lib.ListN.{length, drop}
 use borrow.Author.Tests.{eqb-true}
@@ -56,8 +56,8 @@ GoodRecord v (text k t) = GoodText v k t
 -- What is read
 
 format_good : (v : Version) (a : Option Version) → OnSome Sized a → OnOk (GoodRecord v) (fileformat_read a)
-format_good v none h = tt
-format_good v (some w) h = h
+format_good v None h = tt
+format_good v (Some w) h = h
 
 map_good : (v : Version) (k x : Bytes) → GoodKey k → Pure x → OnOk (GoodMap v k) (read_map v k x)
 unfolding read_map
@@ -144,8 +144,8 @@ unfolding known_fields same
 first_field v k fs h = go (field_named v k (ascii "ID") fs) refl (id_given v k fs h)
   where
     go : (x : Option Field) → field_named v k (ascii "ID") fs ≡ x → is_some x ≡ true → First v k fs
-    go none e s = absurd (false≢true s)
-    go (some f) e s = record {
+    go None e s = absurd (false≢true s)
+    go (Some f) e s = record {
       id = write_known (known_value (kind_of k) (ascii "ID") (meaning_of f.value));
       rest = known_fields v k (tag v k fs) (tail (known (kind_of k))) (map (known_in v k fs) (tail (known (kind_of k)))) ++ other_fields v k (others v k fs);
       is =
@@ -159,8 +159,8 @@ unfolding always_map names_id same
 tag_none v k fs h = go (field_named v k (ascii "ID") fs) (on_named (λ f. Unit {0}) v k (ascii "ID") fs (units fs))
   where
     go : (x : Option Field) → OnSome (λ f. Unit {0} × (name_of v k f.key ≡ ascii "ID")) x → tag_in x ≡ 0
-    go none p = refl
-    go (some f) p =
+    go None p = refl
+    go (Some f) p =
         let e = sym (name_other v k f.key (rw (or_r (same k (ascii "META")) (same k (ascii "PEDIGREE")) h))) ∙ p.1 in
         rw e
 

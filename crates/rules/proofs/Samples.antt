@@ -4,7 +4,7 @@ use native.Mathlib.Omega.{arith}
 use mathlib.Core.Path.{◌≡◌, refl, sym, ap, ap₂, ◌∙◌}
 use mathlib.Core.Bool.{Bool, true, false, not, ◌&&◌, true≢false}
 use mathlib.Core.List.{List, [], ◌∷◌, ◌++◌, append_assoc, append-nil}
-use mathlib.Core.Option.{Option, none, some}
+use Rattle.std.specs.Prelude.{Option, None, Some}
 use borrow.Author.Tests.{eqb-true}
 use Rattle.values.specs.Bytes.{Bytes, LF, ascii, is, any, same, starts, TAB}
 use Rattle.values.specs.Utf8.{completes, followers, is_utf8}
@@ -99,9 +99,9 @@ after_good (n ∷ ns) (x ∷ xs) h = elim (test (same x n)) [
 
 formatted_good : (a : Option (List Bytes)) → OnSome (All GoodName) a → OnOk GoodColumns (formatted a)
 unfolding distinct
-formatted_good none h = tt
-formatted_good (some []) h = record { names = tt; once = refl; formatted = λ e. refl }
-formatted_good (some (x ∷ xs)) h = elim (test (same x (ascii "FORMAT"))) [
+formatted_good None h = tt
+formatted_good (Some []) h = record { names = tt; once = refl; formatted = λ e. refl }
+formatted_good (Some (x ∷ xs)) h = elim (test (same x (ascii "FORMAT"))) [
   | pass e ↦ rw (formatted, e) (judged_ok GoodColumns (unless (distinct xs) 23) _ (λ z. record { names = h.1; once = zero_unless (distinct xs) 22 z; formatted = λ q. absurd (true≢false q) }))
   | fail e ↦ rw (formatted, e) tt
 ]
@@ -190,8 +190,8 @@ after_in (n ∷ ns) (x ∷ xs) = elim (test (same x n)) [
 ]
   where
     more : (a : Option (List Bytes)) → OnSome (λ r. xs ≡ ns ++ r) a → x ≡ n → OnSome (λ r. x ∷ xs ≡ n ∷ ns ++ r) a
-    more none h e = tt
-    more (some r) h e = ap₂ ◌∷◌ e h
+    more None h e = tt
+    more (Some r) h e = ap₂ ◌∷◌ e h
 
 pub columns_in : (l : Bytes) → OnOk (λ c. write_columns c.format c.samples ≡ l) (read_columns l)
 unfolding read_columns write_columns
@@ -199,9 +199,9 @@ columns_in l = elim (split_in l) [ columns x xs q p ↦ rw q (go x xs p (after_c
   where
     go : (x : Bytes) (xs : List Bytes) → parted (x ∷ xs) ≡ l → (a : Option (List Bytes)) → OnSome (λ r. x ∷ xs ≡ column_names ++ r) a
         → OnOk (λ c. parted (columns_of c.format c.samples) ≡ l) (formatted a)
-    go x xs p none h = tt
-    go x xs p (some []) h = sym (ap parted h) ∙ p
-    go x xs p (some (y ∷ ys)) h = elim (test (same y (ascii "FORMAT"))) [
+    go x xs p None h = tt
+    go x xs p (Some []) h = sym (ap parted h) ∙ p
+    go x xs p (Some (y ∷ ys)) h = elim (test (same y (ascii "FORMAT"))) [
       | pass e ↦ rw (formatted, e) (judged_ok (λ c. parted (columns_of c.format c.samples) ≡ l) (unless (distinct ys) 23) _
           (λ z. ap (λ (w : Bytes). parted (column_names ++ w ∷ ys)) (sym (same_sound y (ascii "FORMAT") e)) ∙ sym (ap parted h) ∙ p))
       | fail e ↦ rw (formatted, e) tt

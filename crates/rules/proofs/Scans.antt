@@ -4,7 +4,7 @@ use native.Mathlib.Omega.{arith}
 use mathlib.Core.Path.{◌≡◌, refl, sym, ap, ◌∙◌}
 use mathlib.Core.Bool.{Bool, true, not, ◌||◌, ◌&&◌}
 use mathlib.Core.List.{List, [], ◌∷◌, tail}
-use mathlib.Core.Option.{none, some}
+use Rattle.std.specs.Prelude.{None, Some, Option}
 use lib.ListN.{length, drop, length-append}
 use lib.Seq.{drop-drop}
 use borrow.Author.Tests.{eqb-true}
@@ -14,10 +14,6 @@ use Rattle.values.specs.Field.{Field, written_field, read_key, read_field}
 use Rattle.values.specs.Places.{field_at, separator_at}
 use Rattle.values.specs.declared.cursor.Cursor.{Cursor}
 use Rattle.values.specs.declared.string.Text.{Text}
-use Rattle.values.specs.declared.field.FieldRead.{FieldRead}
-use Rattle.values.specs.declared.field.FieldRead.TheVariants as read
-use Rattle.values.specs.declared.field.Separator.{Separator}
-use Rattle.values.specs.declared.field.Separator.TheVariants as separator
 use Rattle.values.proofs.Tests.{pass, fail, test, never, and_r}
 use Rattle.values.proofs.Lists.{on_some}
 use Rattle.values.proofs.Fields.{tail_is, placed_comma, placed_other}
@@ -27,13 +23,13 @@ use Rattle.rules.proofs.Fields.{after_in, SeenAfter, was_more, was_done, was_wro
 
 -- The scan
 
-pub scan_none : (fuel : ℕ) (m : Bool) (bs : Bytes) → read_field m bs ≡ none → scan fuel m bs ≡ ([], 9)
+pub scan_none : (fuel : ℕ) (m : Bool) (bs : Bytes) → read_field m bs ≡ None → scan fuel m bs ≡ ([], 9)
 unfolding scan
 scan_none zero m bs e = refl
 scan_none (suc n) m bs e = rw (scan, e)
 
 -- a field that was read has bytes
-field_long : (m : Bool) (bs : Bytes) {f : Field} {r : Bytes} → read_field m bs ≡ some (f, r) → length r < length bs
+field_long : (m : Bool) (bs : Bytes) {f : Field} {r : Bytes} → read_field m bs ≡ Some (f, r) → length r < length bs
 unfolding written_field
 field_long m bs {f} {r} e =
     let t = ap length (on_some (FieldIn m bs) (field_in m bs) e).text ∙ length-append (written_field f) r in
@@ -47,7 +43,7 @@ some_fuel : (fuel : ℕ) → 0 < fuel → (n : ℕ) × (fuel ≡ suc n)
 some_fuel zero h = absurd (omega arith)
 some_fuel (suc n) h = (n, refl)
 
-module _ (m : Bool) (bs : Bytes) {f : Field} {r : Bytes} (e : read_field m bs ≡ some (f, r)) (fuel : ℕ) (h : length bs ≤ fuel) where
+module _ (m : Bool) (bs : Bytes) {f : Field} {r : Bytes} (e : read_field m bs ≡ Some (f, r)) (fuel : ℕ) (h : length bs ≤ fuel) where
   fuelled : (n : ℕ) × (fuel ≡ suc n)
   fuelled = some_fuel fuel (omega (arith, field_long m bs e))
 
@@ -85,23 +81,23 @@ pub record Left (m : Bool) (s : Bytes) (i : ℕ) (fs : List Field) : Type 0 wher
 pub left_all : (m : Bool) (s : Bytes) (at : ℕ) → Left m s at (fields_at m s at)
 left_all m s at = record { fuel = length (drop at s); enough = omega arith; are = refl }
 
-module _ {m : Bool} {s : Bytes} {i : ℕ} {fs : List Field} (g : Left m s i fs) {r : FieldRead} (a : r ≡ field_at m s i) where
-  pub left_unread : r ≡ read.Refused → fs ≡ []
+module _ {m : Bool} {s : Bytes} {i : ℕ} {fs : List Field} (g : Left m s i fs) {r : Option (ℕ × Text × Cursor)} (a : r ≡ field_at m s i) where
+  pub left_unread : r ≡ None → fs ≡ []
   unfolding field_at
   left_unread e = elim (see_field (read_field m (drop i s))) [
     | no_field f ↦ g.are ∙ ap (λ (x : Scan). x.0) (scan_none g.fuel m (drop i s) f)
     | a_field p f ↦ let z = rw f at (sym a ∙ e) in never cc
   ]
 
-  module _ {e : ℕ} {t : Text} {n : Cursor} (b : r ≡ read.Field e t n) where
+  module _ {e : ℕ} {t : Text} {n : Cursor} (b : r ≡ Some (e, t, n)) where
     pub left_told : FieldHere m s i e t n
     left_told = field_here m s i (sym a ∙ b)
 
     pub left_first : (rest : List Field) × (fs ≡ left_told.field ∷ rest)
     left_first = let f = scan_first m (drop i s) left_told.read g.fuel g.enough in (f.0, g.are ∙ f.1)
 
-    module _ {x : Separator} (d : x ≡ separator_at s n.at) where
-      pub left_last : x ≡ separator.Other → fs ≡ left_told.field ∷ []
+    module _ {x : Option Cursor} (d : x ≡ separator_at s n.at) where
+      pub left_last : x ≡ None → fs ≡ left_told.field ∷ []
       unfolding separator_at begins
       left_last o = g.are ∙ go (see_after (after (drop n.at s)))
         where
@@ -113,7 +109,7 @@ module _ {m : Bool} {s : Bytes} {i : ℕ} {fs : List Field} (g : Left m s i fs) 
           go (was_done w) = ap (λ (x : Scan). x.0) (scan_done m (drop i s) left_told.read g.fuel g.enough w)
           go (was_wrong w) = ap (λ (x : Scan). x.0) (scan_wrong m (drop i s) left_told.read g.fuel g.enough w)
 
-      module _ {y : Cursor} (o : x ≡ separator.Comma y) where
+      module _ {y : Cursor} (o : x ≡ Some y) where
         comma : (begins 44 (drop n.at s) ≡ true) × (y.at ≡ n.at + 1)
         unfolding separator_at
         comma = let q = placed_comma n.at (begins 44 (drop n.at s)) (sym d ∙ o) in (q.0, sym (ap (λ (c : Cursor). c.at) q.1))
@@ -144,7 +140,7 @@ module _ {m : Bool} {s : Bytes} {i : ℕ} {fs : List Field} (g : Left m s i fs) 
 -- Which fields those are
 
 -- no field begins with `>`, or with nothing
-closed_unread : (m : Bool) (bs : Bytes) → empty bs || begins 62 bs ≡ true → read_field m bs ≡ none
+closed_unread : (m : Bool) (bs : Bytes) → empty bs || begins 62 bs ≡ true → read_field m bs ≡ None
 unfolding read_field read_key before any begins
 closed_unread m [] e = refl
 closed_unread m (b ∷ x) e = let f : b ≡ 62 = eqb-true b 62 e in rw f

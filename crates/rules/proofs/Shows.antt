@@ -4,7 +4,7 @@ use native.Mathlib.Omega.{arith}
 use mathlib.Core.Path.{◌≡◌, refl, sym, ap, ap₂, ◌∙◌}
 use mathlib.Core.Bool.{Bool, true, false, ◌||◌, ◌&&◌, false≢true}
 use mathlib.Core.List.{List, [], ◌∷◌, ◌++◌, tail, append_assoc}
-use mathlib.Core.Option.{Option, none, some}
+use Rattle.std.specs.Prelude.{Option, None, Some}
 use lib.Dec.{eqb, leb}
 use lib.ListN.{length, take, drop, length-append, length-drop}
 use lib.Seq.{drop-drop, take-take, take-nil}
@@ -75,16 +75,16 @@ text_in l at f fs h =
 
 -- the field of a name and its text go together
 abbrev pub Both : Bytes → Option Field → Option (Bytes × Text) → Type 0
-Both l none none = Unit {0}
-Both l none (some p) = ⊥
-Both l (some f) none = ⊥
-Both l (some f) (some p) = TextIn l f p
+Both l None None = Unit {0}
+Both l None (Some p) = ⊥
+Both l (Some f) None = ⊥
+Both l (Some f) (Some p) = TextIn l f p
 
 named_no : (v : Version) (k n : Bytes) (at : ℕ) (f : Field) (fs : List Field) → same (name_of v k f.key) n ≡ false → text_named v k n at (f ∷ fs) ≡ text_named v k n (at + length (written_field f) + 1) fs
 unfolding text_named
 named_no v k n at f fs e = rw (e, text_named)
 
-named_yes : (v : Version) (k n : Bytes) (at : ℕ) (f : Field) (fs : List Field) → same (name_of v k f.key) n ≡ true → text_named v k n at (f ∷ fs) ≡ some (f.key, text_at (at + length f.key + 1) f.value)
+named_yes : (v : Version) (k n : Bytes) (at : ℕ) (f : Field) (fs : List Field) → same (name_of v k f.key) n ≡ true → text_named v k n at (f ∷ fs) ≡ Some (f.key, text_at (at + length f.key + 1) f.value)
 unfolding text_named
 named_yes v k n at f fs e = rw (e, text_named)
 
@@ -127,8 +127,8 @@ line_fields k (f ∷ fs) =
     (sym (drop-drop 2 (2 + length k) l) ∙ ap (λ (x : Bytes). drop 2 x) t.1, omega arith)
 
 abbrev pub shifted : ℕ → Option Part → Option Part
-shifted s none = none
-shifted s (some p) = some (s + p.0, s + p.1)
+shifted s None = None
+shifted s (Some p) = Some (s + p.0, s + p.1)
 
 pub drop_take : (a n : ℕ) (x : Bytes) → drop a (take n x) ≡ take (n - a) (drop a x)
 drop_take zero n x = let e : n - 0 ≡ n = omega arith in rw e
@@ -176,12 +176,12 @@ tag_fits v k fs = elim (test (always_map k)) [
 ]
   where
     small : (x : Option Field) → leb (tag_in_field x) 2 ≡ true
-    small none = refl
-    small (some f) = le-leb (tag_of f.key) 2 (tag_small f.key)
+    small None = refl
+    small (Some f) = le-leb (tag_of f.key) 2 (tag_small f.key)
 
 -- a map's ID in its line
 pub record IdIn (v : Version) (k : Bytes) (fs : List Field) (l : Bytes) (p : Bytes × Text) : Type 0 where
-  pub is : text_named v k (ascii "ID") (fields_start k) fs ≡ some p
+  pub is : text_named v k (ascii "ID") (fields_start k) fs ≡ Some p
   pub tagged : tag_of p.0 ≡ tag_of_id v k fs
   pub means : meaning p.1.quoted (part l p.1.start p.1.end) ≡ value_named v k (ascii "ID") fs
   pub ordered : p.1.start ≤ p.1.end
@@ -203,9 +203,9 @@ id_in_lem v k fs m = go (field_named v k (ascii "ID") fs) refl (text_named v k (
 
     go : (x : Option Field) → field_named v k (ascii "ID") fs ≡ x → (y : Option (Bytes × Text)) → text_named v k (ascii "ID") (fields_start k) fs ≡ y → is_some x ≡ true → Both l x y
         → (p : Bytes × Text) × IdIn v k fs l p
-    go none e y f s b = absurd (false≢true s)
-    go (some x) e none f s b = absurd b
-    go (some x) e (some p) f s b = (
+    go None e y f s b = absurd (false≢true s)
+    go (Some x) e None f s b = absurd b
+    go (Some x) e (Some p) f s b = (
       p,
       record {
         is = f;
@@ -224,10 +224,10 @@ shift_part s at (f ∷ fs) zero = let e : s + at + length (written_field f) ≡ 
 shift_part s at (f ∷ fs) (suc i) = let e : s + at + length (written_field f) + 1 ≡ s + (at + length (written_field f) + 1) = omega arith in rw e (shift_part s (at + length (written_field f) + 1) fs i)
 
 header_part : (h : Bytes) (s : ℕ) (l : Bytes) → part h s (s + length l) ≡ l → s + length l ≤ length h → (x : Option Field) (y : Option Part) → PartOf l x y → PartOf h x (shifted s y)
-header_part h s l p n none none b = tt
-header_part h s l p n none (some y) b = b
-header_part h s l p n (some f) none b = b
-header_part h s l p n (some f) (some y) b = (part_part h s l y.0 y.1 p b.1 ∙ b.0, omega (arith, b.1))
+header_part h s l p n None None b = tt
+header_part h s l p n None (Some y) b = b
+header_part h s l p n (Some f) None b = b
+header_part h s l p n (Some f) (Some y) b = (part_part h s l y.0 y.1 p b.1 ∙ b.0, omega (arith, b.1))
 
 -- The entry of a record: where its line stands, and what the line is when it is read again
 
@@ -242,8 +242,8 @@ entry_placed_lem counted v start l (fileformat w) = record { is_kind = refl; is_
 entry_placed_lem counted v start l (fields k fs) = go (text_named v k (ascii "ID") (fields_start k) fs)
   where
     go : (o : Option (Bytes × Text)) → Placed (map_kind (kind_of k)) start (length l) (with_counts (counts_of counted (fields k fs)) (map_entry (map_kind (kind_of k)) start (length l) o))
-    go none = record { is_kind = refl; is_start = refl; is_length = refl }
-    go (some p) = record { is_kind = refl; is_start = refl; is_length = refl }
+    go None = record { is_kind = refl; is_start = refl; is_length = refl }
+    go (Some p) = record { is_kind = refl; is_start = refl; is_length = refl }
 entry_placed_lem counted v start l (text k t) = record { is_kind = refl; is_start = refl; is_length = refl }
 
 placed_line : (h : Bytes) (kind start : ℕ) (l : Bytes) (e : Entry) → Placed kind start (length l) e → part h start (start + length l) ≡ l → line_in h e ≡ l
@@ -251,12 +251,12 @@ unfolding line_in
 placed_line h kind start l e p here = let m : start + length l - start ≡ length l = omega arith in rw (p.is_start, p.is_length) (rw m at here)
 
 -- a line that is read alone as a record of its kind
-pub alone : (v : Version) (l : Bytes) (r : Record) → is_utf8 l ≡ true → read_record v l ≡ ok r → read_alone v (record_kind r) l ≡ some r
+pub alone : (v : Version) (l : Bytes) (r : Record) → is_utf8 l ≡ true → read_record v l ≡ ok r → read_alone v (record_kind r) l ≡ Some r
 unfolding read_alone
 alone v l r u e =
-    ap (λ (q : Bool). elim q [ true ↦ of_kind (record_kind r) (read_record v l) | false ↦ none ]) u
+    ap (λ (q : Bool). elim q [ true ↦ of_kind (record_kind r) (read_record v l) | false ↦ None ]) u
     ∙ ap (of_kind (record_kind r)) e
-    ∙ ap (λ (q : Bool). elim q [ true ↦ some r | false ↦ none ]) (eq-eqb (record_kind r) (record_kind r) refl)
+    ∙ ap (λ (q : Bool). elim q [ true ↦ Some r | false ↦ None ]) (eq-eqb (record_kind r) (record_kind r) refl)
 
 -- an entry tells the counts that it was given
 pub tells_own : (counted : Bool) (r : Record) (e : Entry) → tells (with_counts (counts_of counted r) e) (counts_of counted r) ≡ true
@@ -265,15 +265,15 @@ tells_own counted r e = rw (eq-eqb (counts_of counted r).key_length (counts_of c
 
 -- an entry's line, read again
 pub placed_again : (counted : Bool) (h : Bytes) (v : Version) (start : ℕ) (l : Bytes) (r : Record) (e : Entry) → Placed (record_kind r) start (length l) e → tells e (counts_of counted r) ≡ true
-    → part h start (start + length l) ≡ l → is_utf8 l ≡ true → read_record v l ≡ ok r → entry_record counted h v e ≡ some r
+    → part h start (start + length l) ≡ l → is_utf8 l ≡ true → read_record v l ≡ ok r → entry_record counted h v e ≡ Some r
 unfolding entry_record
 placed_again counted h v start l r e p t here u q =
     ap₂ (λ (k : ℕ) (x : Bytes). counted_as counted e (read_alone v k x)) p.is_kind (placed_line h (record_kind r) start l e p here)
     ∙ ap (counted_as counted e) (alone v l r u q)
-    ∙ ap (λ (q : Bool). elim q [ true ↦ some r | false ↦ none ]) t
+    ∙ ap (λ (q : Bool). elim q [ true ↦ Some r | false ↦ None ]) t
 
-again_part : (counted : Bool) (h : Bytes) (v : Version) (i : ℕ) (e : Entry) (k : Bytes) (fs : List Field) → has_id e.kind ≡ true → entry_record counted h v e ≡ some (fields k fs)
-    → entry_field_part counted h v i (some e) ≡ nth_field_part (e.start + fields_start k) fs i
+again_part : (counted : Bool) (h : Bytes) (v : Version) (i : ℕ) (e : Entry) (k : Bytes) (fs : List Field) → has_id e.kind ≡ true → entry_record counted h v e ≡ Some (fields k fs)
+    → entry_field_part counted h v i (Some e) ≡ nth_field_part (e.start + fields_start k) fs i
 again_part counted h v i e k fs q r = rw (entry_field_part, q, r)
 
 -- an entry of a kind without an ID is well formed, if it tells nothing that its kind has not
@@ -295,7 +295,7 @@ module _ (lim : Limits) (h : Bytes) (v : Version) where
     l = write_record (fields k fs)
 
     abbrev e : Entry
-    e = with_counts (counts_of lim.counted (fields k fs)) (map_entry (map_kind (kind_of k)) start (length l) (some p))
+    e = with_counts (counts_of lim.counted (fields k fs)) (map_entry (map_kind (kind_of k)) start (length l) (Some p))
 
     map_placed : Placed (map_kind (kind_of k)) start (length l) e
     map_placed = record { is_kind = refl; is_start = refl; is_length = refl }
@@ -323,7 +323,7 @@ module _ (lim : Limits) (h : Bytes) (v : Version) where
         let m : start + p.1.end - (start + p.1.start) ≡ p.1.end - p.1.start = omega (arith, i.ordered) in
         rw (rw m at (part_part h start l p.1.start p.1.end at.here i.inside)) i.means
 
-    map_fields : read_record v l ≡ ok (fields k fs) → (n : ℕ) → PartOf h (nth fs n) (entry_field_part lim.counted h v n (some e))
+    map_fields : read_record v l ≡ ok (fields k fs) → (n : ℕ) → PartOf h (nth fs n) (entry_field_part lim.counted h v n (Some e))
     map_fields r n =
         let again = placed_again lim.counted h v start l (fields k fs) e map_placed (tells_own lim.counted (fields k fs) e) at.here at.utf8 r in
         rw (again_part lim.counted h v n e k fs (map_kind_lem (kind_of k)).0 again, shift_part start (fields_start k) fs n)

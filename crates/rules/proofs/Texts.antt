@@ -4,7 +4,7 @@ use native.Mathlib.Omega.{arith}
 use mathlib.Core.Path.{◌≡◌, refl, sym, ap, ◌∙◌}
 use mathlib.Core.Bool.{Bool, true, not, ◌||◌, ◌&&◌}
 use mathlib.Core.List.{List, [], ◌∷◌, ◌++◌, tail, append_assoc}
-use mathlib.Core.Option.{Option, none, some}
+use Rattle.std.specs.Prelude.{Option, None, Some}
 use lib.ListN.{length, drop}
 use lib.Seq.{drop-drop}
 use Rattle.values.specs.Bytes.{Bytes, ascii, is, empty, begins, before, from, same, starts}
@@ -113,8 +113,8 @@ value_in_lem v k x l h = elim (test (same k (ascii "fileformat"))) [
 ]
   where
     format : (a : Option Version) → same k (ascii "fileformat") ≡ true → OnOk (RecordIn v k l) (fileformat_read a)
-    format none e = tt
-    format (some w) e = let n = same_sound k (ascii "fileformat") e in (tt, tt, sym n, (x, h ∙ ap (λ (y : Bytes). ascii "##" ++ (y ++ 61 ∷ x)) n))
+    format None e = tt
+    format (Some w) e = let n = same_sound k (ascii "fileformat") e in (tt, tt, sym n, (x, h ∙ ap (λ (y : Bytes). ascii "##" ++ (y ++ 61 ∷ x)) n))
 
 line_in_lem : (v : Version) (l : Bytes) → OnOk (RecordIn v (key_in l) l) (read_record v l)
 unfolding read_record read_keyed
@@ -158,8 +158,8 @@ format_any u v l = elim (test (starts (ascii "##") l)) [
 ]
   where
     format : (a : Option Version) → OnOk (FormatIs (fileformat_read a)) (fileformat_read a)
-    format none = tt
-    format (some w) = refl
+    format None = tt
+    format (Some w) = refl
 
     any_ok : (a : Answer (List Field)) → OnOk (λ fs. Unit {0}) a
     any_ok (ok fs) = tt

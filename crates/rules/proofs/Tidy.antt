@@ -3,13 +3,11 @@ use Prim.Native.Nat.{ℕ, ◌-◌, ◌^◌}
 use mathlib.Core.Path.{◌≡◌, refl, ap, ap₂, ◌∙◌}
 use mathlib.Core.Bool.{Bool, true, false, false≢true}
 use mathlib.Core.List.{List, [], ◌∷◌, ◌++◌, map}
-use mathlib.Core.Option.{Option, none, some, or_else}
+use Rattle.std.specs.Prelude.{Option, None, Some}
 use Rattle.values.specs.Bytes.{Bytes, ascii, same}
 use Rattle.values.specs.Value.{meaning_of}
 use Rattle.values.specs.Field.{Field}
 use Rattle.values.specs.Integer.{is_plain, u64_read, decimal}
-use Rattle.values.specs.declared.integer.IntegerRead.{IntegerRead}
-use Rattle.values.specs.declared.integer.IntegerRead.TheVariants as integer
 use Rattle.values.proofs.Tests.{pass, fail, test, or_l, or_r, or_on, both}
 use Rattle.values.proofs.Lists.{OnSome}
 use Rattle.values.proofs.Integers.{read_bound}
@@ -27,19 +25,24 @@ use Rattle.rules.proofs.Checks.{named_yes, named_no, on_named}
 use Rattle.rules.proofs.Fields.{meaning_back}
 use Rattle.rules.specs.Claims.{All}
 
+-- the first of two that there is
+unfoldable or_else : {A : Type 0} → Option A → Option A → Option A
+or_else None y = y
+or_else (Some x) y = Some x
+
 -- What is known of a value, written and known again
 
-data SeenInteger (r : IntegerRead) : Type 0 where
-  was_value : (n : ℕ) (p : Bool) → r ≡ integer.Value n p → SeenInteger r
-  was_refused : r ≡ integer.Refused → SeenInteger r
+data SeenInteger (r : Option (ℕ × Bool)) : Type 0 where
+  was_value : (n : ℕ) (p : Bool) → r ≡ Some (n, p) → SeenInteger r
+  was_refused : r ≡ None → SeenInteger r
 
-see_integer : (r : IntegerRead) → SeenInteger r
-see_integer (integer.Value n p) = was_value n p refl
-see_integer integer.Refused = was_refused refl
+see_integer : (r : Option (ℕ × Bool)) → SeenInteger r
+see_integer (Some (n, p)) = was_value n p refl
+see_integer None = was_refused refl
 
 -- a value that is kept as it stands, or the number that it spells
 pub data SeenKnown (kind : Kind) (name t : Bytes) : Type 0 where
-  as_number : (n : ℕ) (p : Bool) → is_in name (numeric kind) ≡ true → u64_read t ≡ integer.Value n p → known_value kind name t ≡ number n → u64_read (decimal n) ≡ integer.Value n (is_plain (decimal n)) → SeenKnown kind name t
+  as_number : (n : ℕ) (p : Bool) → is_in name (numeric kind) ≡ true → u64_read t ≡ Some (n, p) → known_value kind name t ≡ number n → u64_read (decimal n) ≡ Some (n, is_plain (decimal n)) → SeenKnown kind name t
   as_word : known_value kind name t ≡ word t → SeenKnown kind name t
 
 pub see_known : (kind : Kind) (name t : Bytes) → SeenKnown kind name t
@@ -52,7 +55,7 @@ see_known kind name t = elim (test (is_in name (numeric kind))) [
   | fail e ↦ as_word (rw (known_value, e))
 ]
 
-known_number : (kind : Kind) (name t : Bytes) (n : ℕ) {p : Bool} → is_in name (numeric kind) ≡ true → u64_read t ≡ integer.Value n p → known_value kind name t ≡ number n
+known_number : (kind : Kind) (name t : Bytes) (n : ℕ) {p : Bool} → is_in name (numeric kind) ≡ true → u64_read t ≡ Some (n, p) → known_value kind name t ≡ number n
 unfolding known_value
 known_number kind name t n e q = rw (known_value, e, q)
 
@@ -70,16 +73,16 @@ module _ (v : Version) (k : Bytes) (tag : ℕ) where
   Named n = name_of v k (key_written tag n) ≡ n
 
   abbrev pub written_as : Bytes → Option Known → Option Field
-  written_as n none = none
-  written_as n (some x) = some (write_field v k (key_written tag n) (write_known x))
+  written_as n None = None
+  written_as n (Some x) = Some (write_field v k (key_written tag n) (write_known x))
 
   find_absent : (n : Bytes) (ns : List Bytes) (xs : List (Option Known)) (rest : List Field) → is_in n ns ≡ false → All Named ns
       → field_named v k n (known_fields v k tag ns xs ++ rest) ≡ field_named v k n rest
   unfolding known_fields is_in
   find_absent n [] xs rest h a = refl
   find_absent n (m ∷ ns) [] rest h a = refl
-  find_absent n (m ∷ ns) (none ∷ xs) rest h a = find_absent n ns xs rest (or_r (same m n) (is_in n ns) h) a.1
-  find_absent n (m ∷ ns) (some x ∷ xs) rest h a =
+  find_absent n (m ∷ ns) (None ∷ xs) rest h a = find_absent n ns xs rest (or_r (same m n) (is_in n ns) h) a.1
+  find_absent n (m ∷ ns) (Some x ∷ xs) rest h a =
       named_no v k n _ _ (rw a.0 (or_l (same m n) (is_in n ns) h)) ∙ find_absent n ns xs rest (or_r (same m n) (is_in n ns) h) a.1
 
   fresh_notin : (m : Bytes) (seen ns : List Bytes) → is_in m seen ≡ true → Fresh seen ns → is_in m ns ≡ false
@@ -100,19 +103,19 @@ module _ (v : Version) (k : Bytes) (tag : ℕ) where
   ]
     where
       here : (x : Option Known) → x ≡ g n → same m n ≡ true → field_named v k n (known_fields v k tag (m ∷ ns) (x ∷ map g ns) ++ rest) ≡ or_else (written_as n (g n)) (field_named v k n rest)
-      here none q e = find_absent n ns (map g ns) rest (fresh_notin n (m ∷ seen) ns (rw e) f.1) a.1 ∙ rw (← q)
-      here (some x) q e = named_yes v k n _ _ (rw a.0 e) ∙ rw (← q, same_sound m n e)
+      here None q e = find_absent n ns (map g ns) rest (fresh_notin n (m ∷ seen) ns (rw e) f.1) a.1 ∙ rw (← q)
+      here (Some x) q e = named_yes v k n _ _ (rw a.0 e) ∙ rw (← q, same_sound m n e)
 
       later : (x : Option Known) → same m n ≡ false → field_named v k n (known_fields v k tag ns (map g ns) ++ rest) ≡ or_else (written_as n (g n)) (field_named v k n rest)
           → field_named v k n (known_fields v k tag (m ∷ ns) (x ∷ map g ns) ++ rest) ≡ or_else (written_as n (g n)) (field_named v k n rest)
-      later none e ih = ih
-      later (some x) e ih = named_no v k n _ _ (rw a.0 e) ∙ ih
+      later None e ih = ih
+      later (Some x) e ih = named_no v k n _ _ (rw a.0 e) ∙ ih
 
   -- a field that no known one is
   abbrev pub Other : List Bytes → Bytes × Bytes → Type 0
   Other ns p = is_in (name_of v k p.0) ns ≡ false
 
-  find_other : (n : Bytes) (ns : List Bytes) (ps : List (Bytes × Bytes)) → is_in n ns ≡ true → All (Other ns) ps → field_named v k n (other_fields v k ps) ≡ none
+  find_other : (n : Bytes) (ns : List Bytes) (ps : List (Bytes × Bytes)) → is_in n ns ≡ true → All (Other ns) ps → field_named v k n (other_fields v k ps) ≡ None
   unfolding other_fields field_named
   find_other n ns [] h a = refl
   find_other n ns (p ∷ ps) h a = elim (test (same (name_of v k p.0) n)) [
@@ -126,9 +129,9 @@ module _ (v : Version) (k : Bytes) (tag : ℕ) where
   unfolding or_else
   find_known g n ns ps h f a o = find_present g n [] ns (other_fields v k ps) h f a ∙ rw (find_other n ns ps h o) (none_else (written_as n (g n)))
     where
-      none_else : (x : Option Field) → or_else x none ≡ x
-      none_else none = refl
-      none_else (some x) = refl
+      none_else : (x : Option Field) → or_else x None ≡ x
+      none_else None = refl
+      none_else (Some x) = refl
 
   pub others_yes : (f : Field) (fs : List Field) → is_in (name_of v k f.key) (known (kind_of k)) ≡ true → others v k (f ∷ fs) ≡ others v k fs
   unfolding others
@@ -144,8 +147,8 @@ module _ (v : Version) (k : Bytes) (tag : ℕ) where
   unfolding known_fields
   others_known [] xs rest a h = refl
   others_known (n ∷ ns) [] rest a h = refl
-  others_known (n ∷ ns) (none ∷ xs) rest a h = others_known ns xs rest a.1 h.1
-  others_known (n ∷ ns) (some x ∷ xs) rest a h = others_yes _ _ (rw a.0 h.0) ∙ others_known ns xs rest a.1 h.1
+  others_known (n ∷ ns) (None ∷ xs) rest a h = others_known ns xs rest a.1 h.1
+  others_known (n ∷ ns) (Some x ∷ xs) rest a h = others_yes _ _ (rw a.0 h.0) ∙ others_known ns xs rest a.1 h.1
 
   others_back : (ps : List (Bytes × Bytes)) → All (Other (known (kind_of k))) ps → others v k (other_fields v k ps) ≡ ps
   unfolding other_fields others
@@ -217,8 +220,8 @@ module _ (v : Version) (k : Bytes) (fs : List Field) where
   tag_named = go (field_named v k (ascii "ID") fs) (on_named (λ f. Unit {0}) v k (ascii "ID") fs (units fs))
     where
       go : (x : Option Field) → OnSome (λ f. Unit {0} × (name_of v k f.key ≡ ascii "ID")) x → name_of v k (name_of_tag (tag_in x)) ≡ ascii "ID"
-      go none h = name_plain v k (ascii "ID") refl
-      go (some f) h = rw (id_key v k f.key h.1) h.1
+      go None h = name_plain v k (ascii "ID") refl
+      go (Some f) h = rw (id_key v k f.key h.1) h.1
 
   -- the known field of a name, as it is written
   pub find_tidy : (n : Bytes) → is_in n (known kind) ≡ true → field_named v k n tidy ≡ written_as v k tag n (known_in n)
@@ -234,18 +237,18 @@ module _ (v : Version) (k : Bytes) (fs : List Field) where
   known_tidy n h = rw (find_tidy n h) (go (field_named v k n fs))
     where
       go : (x : Option Field) → known_of kind n (written_as v k tag n (known_of kind n x)) ≡ known_of kind n x
-      go none = refl
-      go (some f) =
+      go None = refl
+      go (Some f) =
           let t = write_known (known_value kind n (meaning_of f.value)) in
-          ap some (ap (known_value kind n) (meaning_back (is_written_quoted v k (key_written tag n) t) t) ∙ known_back kind n (meaning_of f.value))
+          ap Some (ap (known_value kind n) (meaning_back (is_written_quoted v k (key_written tag n) t) t) ∙ known_back kind n (meaning_of f.value))
 
   pub tag_tidy : tag_in (field_named v k (ascii "ID") tidy) ≡ tag
   unfolding same
   tag_tidy = rw (find_tidy (ascii "ID") (id_known kind)) (go (field_named v k (ascii "ID") fs) (on_named (λ f. Unit {0}) v k (ascii "ID") fs (units fs)))
     where
       go : (x : Option Field) → OnSome (λ f. Unit {0} × (name_of v k f.key ≡ ascii "ID")) x → tag_in (written_as v k (tag_in x) (ascii "ID") (known_of kind (ascii "ID") x)) ≡ tag_in x
-      go none h = refl
-      go (some f) h = ap tag_of (id_key v k f.key h.1)
+      go None h = refl
+      go (Some f) h = ap tag_of (id_key v k f.key h.1)
 
 -- a record as the house form writes it
 abbrev pub tidied : Version → Record → Record

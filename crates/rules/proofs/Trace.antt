@@ -4,7 +4,7 @@ use native.Mathlib.Omega.{arith}
 use mathlib.Core.Path.{◌≡◌, refl, sym, ap, subst, ◌∙◌}
 use mathlib.Core.Bool.{Bool, false}
 use mathlib.Core.List.{List, [], ◌∷◌, ◌++◌, append_assoc, append-nil}
-use mathlib.Core.Option.{Option}
+use Rattle.std.specs.Prelude.{Option}
 use lib.Dec.{leb}
 use lib.ListN.{length, drop, length-append, length-drop}
 use Rattle.values.specs.Bytes.{Bytes, ascii, starts, part}
@@ -59,7 +59,7 @@ pub record FirstLine (h : Bytes) (start : ℕ) (p : Bytes) (ps : List Bytes) : T
 pub first_line : (h : Bytes) (start : ℕ) (p : Bytes) (ps : List Bytes) → start ≤ length h → pieces (drop start h) ≡ p ∷ ps → FirstLine h start p ps
 unfolding pieces
 first_line h start p ps l e = elim (cut_first (drop start h)) [
-  | nothing n ↦ let z : ◌≡◌ {A = List Bytes} [] (p ∷ ps) = rw n at e in absurd (none z)
+  | nothing n ↦ let z : ◌≡◌ {A = List Bytes} [] (p ∷ ps) = rw n at e in absurd (None z)
   | cut p' r a q t ↦
       let f : p' ∷ pieces r ≡ p ∷ ps = sym q ∙ e in
       let i : p' ≡ p = cc in
@@ -77,8 +77,8 @@ first_line h start p ps l e = elim (cut_first (drop start h)) [
       }
 ]
   where
-    none : ◌≡◌ {A = List Bytes} [] (p ∷ ps) → ⊥
-    none z = never cc
+    None : ◌≡◌ {A = List Bytes} [] (p ∷ ps) → ⊥
+    None z = never cc
 
 -- the records that were added, their entries, and the column line
 pub record Traced (lim : Limits) (h : Bytes) (v : Version) (before : List Record) (w : Version) (after : List Record) (c : Columns) (entries : List Entry) : Type 0 where

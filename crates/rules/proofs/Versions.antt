@@ -4,13 +4,11 @@ use native.Mathlib.Omega.{arith}
 use mathlib.Core.Path.{◌≡◌, refl}
 use mathlib.Core.Bool.{Bool, false}
 use mathlib.Core.List.{◌∷◌, ◌++◌, tail}
-use mathlib.Core.Option.{Option, none, some}
+use Rattle.std.specs.Prelude.{Option, None, Some}
 use lib.ListN.{drop}
 use Rattle.values.specs.Bytes.{Bytes, ascii, is, begins, any, before, from, starts}
 use Rattle.values.specs.Utf8.{completes, followers}
 use Rattle.values.specs.Integer.{u32_read, decimal}
-use Rattle.values.specs.declared.integer.IntegerRead.{IntegerRead}
-use Rattle.values.specs.declared.integer.IntegerRead.TheVariants.{Value, Refused}
 use Rattle.values.proofs.Tests.{pass, fail, test}
 use Rattle.values.proofs.Lists.{OnSome, before_stop, from_stop}
 use Rattle.values.proofs.Integers.{read_bound}
@@ -19,10 +17,10 @@ use Rattle.rules.specs.Version.{Version, in_force, version_from, read_parts, rea
 use Rattle.rules.proofs.Pure.{Pure, pure_append, pure_join, pure_decimal}
 use Rattle.rules.specs.Claims.{Sized, SizedOption}
 
-version_of : (a b : IntegerRead) → ((n : ℕ) (p : Bool) → a ≡ Value n p → n ≤ 2 ^ 32 - 1) → ((n : ℕ) (p : Bool) → b ≡ Value n p → n ≤ 2 ^ 32 - 1) → OnSome Sized (version_from a b)
-version_of (Value a p) (Value b q) h k = record { major = h a p refl; minor = k b q refl }
-version_of (Value a p) Refused h k = tt
-version_of Refused b h k = tt
+version_of : (a b : Option (ℕ × Bool)) → ((n : ℕ) (p : Bool) → a ≡ Some (n, p) → n ≤ 2 ^ 32 - 1) → ((n : ℕ) (p : Bool) → b ≡ Some (n, p) → n ≤ 2 ^ 32 - 1) → OnSome Sized (version_from a b)
+version_of (Some (a, p)) (Some (b, q)) h k = record { major = h a p refl; minor = k b q refl }
+version_of (Some (a, p)) None h k = tt
+version_of None b h k = tt
 
 parts_sized : (bs : Bytes) → OnSome Sized (read_parts bs)
 unfolding read_parts
@@ -40,10 +38,10 @@ version_sized bs = elim (test (starts (ascii "VCFv") bs)) [
 ]
 
 pub force_sized : (imposed : Option Version) (v : Version) → SizedOption imposed → Sized v → Sized (in_force imposed v)
-force_sized none v h k = k
-force_sized (some w) v h k = h
+force_sized None v h k = k
+force_sized (Some w) v h k = h
 
-parts_back : (v : Version) → Sized v → read_parts (decimal v.major ++ 46 ∷ decimal v.minor) ≡ some v
+parts_back : (v : Version) → Sized v → read_parts (decimal v.major ++ 46 ∷ decimal v.minor) ≡ Some v
 unfolding read_parts begins
 parts_back v h =
     let lacks = decimal_lacks 46 v.major refl in
@@ -56,7 +54,7 @@ parts_back v h =
       integer_decimal false (2 ^ 32 - 1) v.minor h.minor,
     )
 
-pub version_back : (v : Version) → Sized v → read_version (write_version v) ≡ some v
+pub version_back : (v : Version) → Sized v → read_version (write_version v) ≡ Some v
 unfolding read_version write_version starts
 version_back v h = parts_back v h
 

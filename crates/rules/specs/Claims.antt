@@ -1,6 +1,5 @@
 -- What the theorems say of a header, an entry or a table, beside the rules themselves. Assumes nothing.
-use Rattle.std.specs.Prelude.{List, [], ◌∷◌, ◌++◌, ◌-◌, ◌^◌, ◌≤◌, ℕ, ◌+◌, zero, suc, ◌≡◌, length, drop, Bool, true, false, not}
-use Rattle.std.proofs.Math.Option.{Option, none, some}
+use Rattle.std.specs.Prelude.{List, [], ◌∷◌, ◌++◌, ◌-◌, ◌^◌, ◌≤◌, ℕ, ◌+◌, zero, suc, ◌≡◌, length, drop, Bool, true, false, not, Option, None, Some}
 use Rattle.rules.specs.Version.{Version}
 use Rattle.rules.specs.Record.{Record, fileformat, fields, text, key_of, read_record}
 use Rattle.rules.specs.Columns.{Columns}
@@ -30,8 +29,8 @@ pub record Sized (v : Version) : Type 0 where
 
 -- a version that may be imposed
 abbrev pub SizedOption : Option Version → Type 0
-SizedOption none = Unit {0}
-SizedOption (some v) = Sized v
+SizedOption None = Unit {0}
+SizedOption (Some v) = Sized v
 
 -- accepted, with these records
 pub record Accepted (v : Version) (rs : List Record) (c : Columns) (r : Reading) : Type 0 where
@@ -41,7 +40,7 @@ pub record Accepted (v : Version) (rs : List Record) (c : Columns) (r : Reading)
 -- a form within the limits
 pub record Fits (lim : Limits) (m : Meaning) : Type 0 where
   pub header : length (house_form m) ≤ lim.header
-  pub lines : too_long lim.line 0 0 (house_lines m) ≡ none
+  pub lines : too_long lim.line 0 0 (house_lines m) ≡ None
 
 -- a line of the header, at its place
 pub record LineAt (lim : Limits) (h : Bytes) (start : ℕ) (l : Bytes) : Type 0 where
@@ -66,16 +65,16 @@ Rows lim h v (e ∷ es) (r ∷ rs) = Row lim h v e r × Rows lim h v es rs
 
 -- number n of a list, from 0
 abbrev pub nth : {A : Type 0} → List A → ℕ → Option A
-nth [] n = none
-nth (x ∷ xs) zero = some x
+nth [] n = None
+nth (x ∷ xs) zero = Some x
 nth (x ∷ xs) (suc n) = nth xs n
 
 -- the i-th field and its part go together
 abbrev pub PartOf : Bytes → Option Field → Option Part → Type 0
-PartOf l none none = Unit {0}
-PartOf l none (some p) = ⊥
-PartOf l (some f) none = ⊥
-PartOf l (some f) (some p) = (part l p.0 p.1 ≡ written_field f) × (p.1 ≤ length l)
+PartOf l None None = Unit {0}
+PartOf l None (Some p) = ⊥
+PartOf l (Some f) None = ⊥
+PartOf l (Some f) (Some p) = (part l p.0 p.1 ≡ written_field f) × (p.1 ≤ length l)
 
 -- an entry of a map is well formed, and shows its line, its ID and each of its fields as written
 pub record ShowsMap (counted : Bool) (h : Bytes) (v : Version) (k : Bytes) (fs : List Field) (l : Bytes) (e : Entry) : Type 0 where
@@ -84,15 +83,15 @@ pub record ShowsMap (counted : Bool) (h : Bytes) (v : Version) (k : Bytes) (fs :
   pub line : line_in h e ≡ l
   pub tag : e.tag ≡ tag_in (field_named v k (ascii "ID") fs)
   pub id : id_meaning h e ≡ value_named v k (ascii "ID") fs
-  pub field : (i : ℕ) → PartOf h (nth fs i) (entry_field_part counted h v i (some e))
+  pub field : (i : ℕ) → PartOf h (nth fs i) (entry_field_part counted h v i (Some e))
 
 -- an entry of another kind is well formed and shows its line, and neither an ID nor a field
 pub record ShowsPlain (h : Bytes) (kind : ℕ) (l : Bytes) (e : Entry) : Type 0 where
   pub formed : well_formed (length h) e ≡ true
   pub is_kind : e.kind ≡ kind
   pub line : line_in h e ≡ l
-  pub id : id_part (some e) ≡ none
-  pub field : (counted : Bool) (w : Version) (i : ℕ) → entry_field_part counted h w i (some e) ≡ none
+  pub id : id_part (Some e) ≡ None
+  pub field : (counted : Bool) (w : Version) (i : ℕ) → entry_field_part counted h w i (Some e) ≡ None
 
 -- what is shown of a record's entry
 abbrev pub Shows : Bool → Bytes → Version → Bytes → Entry → Record → Type 0
@@ -102,13 +101,13 @@ Shows counted h v l e (text k t) = ShowsPlain h text_kind l e
 
 -- an entry's line, read again, is its record, with the counts that it tells; where there are any, its key and its number of fields are shown
 pub record Tells (counted : Bool) (h : Bytes) (v : Version) (e : Entry) (r : Record) : Type 0 where
-  pub again : entry_record counted h v e ≡ some r
-  pub key : counted ≡ true → (p : Part) × (entry_key_part true (some e) ≡ some (p, length (fields_of r))) × (part h p.0 p.1 ≡ key_of r)
+  pub again : entry_record counted h v e ≡ Some r
+  pub key : counted ≡ true → (p : Part) × (entry_key_part true (Some e) ≡ Some (p, length (fields_of r))) × (part h p.0 p.1 ≡ key_of r)
 
 -- entry n of the entries shows the record r: its line, and what the calls show of it
 pub record Shown (lim : Limits) (h : Bytes) (v : Version) (es : List Entry) (n : ℕ) (r : Record) : Type 0 where
   pub entry : Entry
-  pub is : nth es n ≡ some entry
+  pub is : nth es n ≡ Some entry
   pub start : ℕ
   pub line : Bytes
   pub there : LineAt lim h start line
@@ -119,7 +118,7 @@ pub record Shown (lim : Limits) (h : Bytes) (v : Version) (es : List Entry) (n :
 -- entry n of the entries is of a kind without an ID, and shows these bytes
 pub record ShownPlain (h : Bytes) (es : List Entry) (n kind : ℕ) (x : Bytes) : Type 0 where
   pub entry : Entry
-  pub is : nth es n ≡ some entry
+  pub is : nth es n ≡ Some entry
   pub shows : ShowsPlain h kind x entry
 
 -- these are the entries of the first k lines, in order, each line taken in the state that those before it leave

@@ -1,6 +1,5 @@
 -- Document 01, "Records": the column line and its sample names. Assumes nothing.
-use Rattle.std.specs.Prelude.{Bool, true, false, not, ◌&&◌, List, [], ◌∷◌}
-use Rattle.std.proofs.Math.Option.{Option, none, some}
+use Rattle.std.specs.Prelude.{Bool, true, false, not, ◌&&◌, List, [], ◌∷◌, Option, None, Some}
 use Rattle.values.specs.Bytes.{Bytes, ascii, is, same, TAB}
 use Rattle.rules.specs.Answer.{Answer, ok, refuse, unless, judged}
 use Rattle.rules.specs.Lines.{push}
@@ -21,9 +20,9 @@ column_names = ascii "#CHROM" ∷ ascii "POS" ∷ ascii "ID" ∷ ascii "REF" ∷
 
 -- what follows these columns, if they stand first
 unfoldable pub after_columns : List Bytes → List Bytes → Option (List Bytes)
-after_columns [] xs = some xs
-after_columns (n ∷ ns) [] = none
-after_columns (n ∷ ns) (x ∷ xs) = elim (same x n) [ true ↦ after_columns ns xs | false ↦ none ]
+after_columns [] xs = Some xs
+after_columns (n ∷ ns) [] = None
+after_columns (n ∷ ns) (x ∷ xs) = elim (same x n) [ true ↦ after_columns ns xs | false ↦ None ]
 
 unfoldable pub distinct : List Bytes → Bool
 distinct [] = true
@@ -31,9 +30,9 @@ distinct (x ∷ xs) = not (is_in x xs) && distinct xs
 
 -- a ninth column is FORMAT; what follows are sample names
 abbrev pub formatted : Option (List Bytes) → Answer Columns
-formatted none = refuse 22
-formatted (some []) = ok (record { format = false; samples = [] })
-formatted (some (x ∷ xs)) = elim (same x (ascii "FORMAT")) [
+formatted None = refuse 22
+formatted (Some []) = ok (record { format = false; samples = [] })
+formatted (Some (x ∷ xs)) = elim (same x (ascii "FORMAT")) [
   | true ↦ judged (unless (distinct xs) 23) (record { format = true; samples = xs })
   | false ↦ refuse 22
 ]

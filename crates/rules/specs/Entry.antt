@@ -1,6 +1,5 @@
 -- Document 01, "Entries", and document 02, §10: what an entry says, and which entries a line has. Assumes nothing.
-use Rattle.std.specs.Prelude.{ℕ, ◌+◌, ◌-◌, Bool, true, false, List, [], ◌∷◌, ◌++◌, length}
-use Rattle.std.proofs.Math.Option.{Option, none, some}
+use Rattle.std.specs.Prelude.{ℕ, ◌+◌, ◌-◌, Bool, true, false, List, [], ◌∷◌, ◌++◌, length, Option, None, Some}
 use Rattle.values.specs.Bytes.{Bytes, ascii, same, TAB}
 use Rattle.values.specs.Field.{Field, written_field}
 use Rattle.values.specs.Places.{text_at}
@@ -56,16 +55,16 @@ fields_start k = 2 + length k + 2
 
 -- the text of the field of this name, and its key; the fields stand at the place `at`, parted by `,`
 unfoldable pub text_named : Version → Bytes → Bytes → ℕ → List Field → Option (Bytes × Text)
-text_named v k name at [] = none
+text_named v k name at [] = None
 text_named v k name at (f ∷ fs) = elim (same (name_of v k f.key) name) [
-  | true ↦ some (f.key, text_at (at + length f.key + 1) f.value)
+  | true ↦ Some (f.key, text_at (at + length f.key + 1) f.value)
   | false ↦ text_named v k name (at + length (written_field f) + 1) fs
 ]
 
 -- with the ID's text, and the key that named it
 abbrev pub map_entry : ℕ → ℕ → ℕ → Option (Bytes × Text) → Entry
-map_entry kind start len none = plain_entry kind start len
-map_entry kind start len (some p) = record {
+map_entry kind start len None = plain_entry kind start len
+map_entry kind start len (Some p) = record {
   kind = kind;
   start = start;
   length = len;

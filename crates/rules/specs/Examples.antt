@@ -1,6 +1,5 @@
 -- Document 01, "Lines on both sides": the starred cases as one table, computed by the checker. Assumes nothing.
-use Rattle.std.specs.Prelude.{ℕ, ◌≡◌, refl, Bool, true, false, List, [], ◌∷◌, ◌++◌, map}
-use Rattle.std.proofs.Math.Option.{Option, none, some}
+use Rattle.std.specs.Prelude.{ℕ, ◌≡◌, refl, Bool, true, false, List, [], ◌∷◌, ◌++◌, map, Option, None, Some}
 use Prim.Native.String.{String}
 use Rattle.values.specs.Bytes.{Bytes, LF, ascii, begins, any, before, from, same, starts}
 use Rattle.values.specs.Utf8.{completes, followers}
@@ -52,7 +51,7 @@ answer c =
 
 -- as document 01 has them: no version imposed, and the program's table and buffer
 abbrev pub given : Bytes → Case
-given h = record { header = h; imposed = none; room = 4096; output = 65536 }
+given h = record { header = h; imposed = None; room = 4096; output = 65536 }
 
 -- refused, with what the program prints
 abbrev pub refused : ℕ → ℕ → ℕ → List Entry → String → Expected
@@ -154,15 +153,15 @@ pinned =
       refused 21 3 34 (W ++ bare_id (map_kind other) 21 12 8 3 ∷ []) "refused 21 line=3 offset=34",
     )
     -- room for one entry: the line's own check comes first, then 24
-    ∷ (record { header = F ++ COLS; imposed = none; room = 1; output = 0 }, refused 24 2 21 W "refused 24 line=2 offset=21")
+    ∷ (record { header = F ++ COLS; imposed = None; room = 1; output = 0 }, refused 24 2 21 W "refused 24 line=2 offset=21")
     -- an imposed version is in force, and the file's own is no part of the meaning
     ∷ (
-      record { header = F2 ++ COLS; imposed = some (version 4 10); room = 2; output = 99 },
+      record { header = F2 ++ COLS; imposed = Some (version 4 10); room = 2; output = 99 },
       accepted 2 60 (W ++ plain_entry columns_kind 21 38 ∷ []) (ascii "##fileformat=VCFv4.10\n" ++ COLS) "ok version=4.10 entries=2 samples=0",
     )
     -- a form that the output cannot hold
     ∷ (
-      record { header = cell; imposed = none; room = 3; output = 82 },
+      record { header = cell; imposed = None; room = 3; output = 82 },
       record { number = 28; line = 0; start = 0; entries = W ++ bare_id (map_kind other) 21 22 11 3 ∷ plain_entry columns_kind 44 38 ∷ []; form = []; printed = ascii "ok version=4.3 entries=3 samples=0\n" },
     )
     -- the form's order, quotes, Values, and a text that ends in CR
@@ -181,7 +180,7 @@ pinned_cases = refl
 -- Document 02, §10: the length of each entry's key and the number of its fields, in the second form and in the first
 
 abbrev pub counts_in : Limits → Bytes → List (ℕ × ℕ)
-counts_in lim h = map (λ (e : Entry). (e.key_length, e.field_count)) (reading lim none 99 h).entries
+counts_in lim h = map (λ (e : Entry). (e.key_length, e.field_count)) (reading lim None 99 h).entries
 
 abbrev pub keyed : Bytes
 keyed =

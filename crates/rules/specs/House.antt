@@ -1,6 +1,5 @@
 -- Document 01, "House form": how a meaning is written, and the house-form call. Assumes nothing.
-use Rattle.std.specs.Prelude.{ℕ, zero, suc, ◌+◌, Bool, true, false, not, ◌||◌, ◌&&◌, List, [], ◌∷◌, ◌++◌, map, leb, length}
-use Rattle.std.proofs.Math.Option.{Option, none, some}
+use Rattle.std.specs.Prelude.{ℕ, zero, suc, ◌+◌, Bool, true, false, not, ◌||◌, ◌&&◌, List, [], ◌∷◌, ◌++◌, map, leb, length, Option, None, Some}
 use Rattle.values.specs.Bytes.{Bytes, ascii, is, empty, begins, any, same, CLOSE, COMMA, EQUALS, GREATER, LESS, OPEN, QUOTE, TAB}
 use Rattle.values.specs.Integer.{decimal}
 use Rattle.values.specs.Value.{is_stop, value_of}
@@ -53,8 +52,8 @@ key_written tag name = elim (same name (ascii "ID")) [ true ↦ name_of_tag tag 
 unfoldable pub known_fields : Version → Bytes → ℕ → List Bytes → List (Option Known) → List Field
 known_fields v k tag [] xs = []
 known_fields v k tag (n ∷ ns) [] = []
-known_fields v k tag (n ∷ ns) (none ∷ xs) = known_fields v k tag ns xs
-known_fields v k tag (n ∷ ns) (some x ∷ xs) = write_field v k (key_written tag n) (write_known x) ∷ known_fields v k tag ns xs
+known_fields v k tag (n ∷ ns) (None ∷ xs) = known_fields v k tag ns xs
+known_fields v k tag (n ∷ ns) (Some x ∷ xs) = write_field v k (key_written tag n) (write_known x) ∷ known_fields v k tag ns xs
 
 -- then the rest as they stood
 unfoldable pub other_fields : Version → Bytes → List (Bytes × Bytes) → List Field
@@ -110,10 +109,10 @@ pub record HouseReading : Type 0 where
 
 -- the first line of the form that is too long: its number from 1 and its start
 unfoldable pub too_long : ℕ → ℕ → ℕ → List Bytes → Option (ℕ × ℕ)
-too_long limit n start [] = none
+too_long limit n start [] = None
 too_long limit n start (l ∷ ls) = elim (leb (length l) limit) [
   | true ↦ too_long limit (suc n) (start + length (write_line l)) ls
-  | false ↦ some (suc n, start)
+  | false ↦ Some (suc n, start)
 ]
 
 abbrev pub refused_form : ℕ → ℕ → ℕ → HouseReading
@@ -127,8 +126,8 @@ fitted room r form = elim (leb (length form) room) [
 ]
 
 abbrev pub lined : ℕ → Reading → Bytes → Option (ℕ × ℕ) → HouseReading
-lined room r form none = fitted room r form
-lined room r form (some p) = refused_form 2 p.0 p.1
+lined room r form None = fitted room r form
+lined room r form (Some p) = refused_form 2 p.0 p.1
 
 -- after an accepted reading: 27, form too long; 2, its first line too long; 28
 unfoldable pub form_answer : Limits → ℕ → Reading → Meaning → HouseReading

@@ -1,10 +1,7 @@
 -- Document 01, "Records": the known fields of each kind of map, and what their values may be. Assumes nothing.
-use Rattle.std.specs.Prelude.{ℕ, Bool, true, false, not, ◌||◌, ◌&&◌, List, [], ◌∷◌, ◌++◌, map, eqb}
-use Rattle.std.proofs.Math.Option.{Option, none, some}
+use Rattle.std.specs.Prelude.{ℕ, Bool, true, false, not, ◌||◌, ◌&&◌, List, [], ◌∷◌, ◌++◌, map, eqb, Option, None, Some}
 use Rattle.values.specs.Bytes.{Bytes, ascii, same}
 use Rattle.values.specs.Integer.{u64_read}
-use Rattle.values.specs.declared.integer.IntegerRead.{IntegerRead}
-use Rattle.values.specs.declared.integer.IntegerRead.TheVariants as integer
 use Rattle.rules.specs.Version.{Version, v4_3, v4_4, v4_5, earlier, at_version}
 
 pub data Kind : Type 0 where
@@ -108,8 +105,8 @@ numeric kind = names (those (λ (r : KnownField). is_numeric r.reads) (rows kind
 
 -- the row of this name
 unfoldable pub row_named : Bytes → List KnownField → Option KnownField
-row_named name [] = none
-row_named name (r ∷ rs) = elim (same r.name name) [ true ↦ some r | false ↦ row_named name rs ]
+row_named name [] = None
+row_named name (r ∷ rs) = elim (same r.name name) [ true ↦ Some r | false ↦ row_named name rs ]
 
 -- PEDIGREE before 4.3: Child and Derived also name the ID
 unfoldable pub names_id : Version → Bytes → Bytes → Bool
@@ -168,12 +165,12 @@ letters v kind = at_version common_letters (letter_pages kind) v
 unfoldable pub types : Kind → List Bytes
 types kind = (ascii "Integer" ∷ ascii "Float" ∷ ascii "Character" ∷ ascii "String" ∷ []) ++ elim (is_info kind) [ true ↦ ascii "Flag" ∷ [] | false ↦ [] ]
 
-abbrev pub count_or : Option Number → IntegerRead → Option Number
-count_or n (integer.Value c p) = some (count c)
-count_or n integer.Refused = n
+abbrev pub count_or : Option Number → Option (ℕ × Bool) → Option Number
+count_or n (Some (c, p)) = Some (count c)
+count_or n None = n
 
 abbrev pub letter_in : List Bytes → Bytes → Option Number
-letter_in ls t = elim (is_in t ls) [ true ↦ some (letter t) | false ↦ none ]
+letter_in ls t = elim (is_in t ls) [ true ↦ Some (letter t) | false ↦ None ]
 
 -- Number: a count, or one of the letters
 unfoldable pub read_number : Version → Kind → Bytes → Option Number

@@ -1,13 +1,10 @@
 -- Document 01, "Records": a map, `<`, fields parted by `,`, then `>` as the last byte of the line; and its refusals in their order. Assumes nothing.
-use Rattle.std.specs.Prelude.{ℕ, zero, suc, Bool, true, false, not, ◌||◌, ◌&&◌, length, drop}
+use Rattle.std.specs.Prelude.{ℕ, zero, suc, Bool, true, false, not, ◌||◌, ◌&&◌, length, drop, Option, None, Some}
 use mathlib.Core.List.{List, [], ◌∷◌, tail, map}
-use Rattle.std.proofs.Math.Option.{Option, none, some}
 use Rattle.values.specs.Bytes.{Bytes, ascii, is, empty, begins, same, COMMA, GREATER, LESS}
 use Rattle.values.specs.Integer.{u64_read}
 use Rattle.values.specs.Value.{meaning_of}
 use Rattle.values.specs.Field.{Field, read_field}
-use Rattle.values.specs.declared.integer.IntegerRead.{IntegerRead}
-use Rattle.values.specs.declared.integer.IntegerRead.TheVariants as integer
 use Rattle.rules.specs.Answer.{Answer, refuse, unless, first, judged}
 use Rattle.rules.specs.Version.{Version, v4_3, since}
 use Rattle.rules.specs.Known.{Kind, kind_of, is_in, always_map, Reads, KnownField, any_text, a_number, a_type, an_integer, rows, required, row_named, name_of, types, read_number}
@@ -33,8 +30,8 @@ Scan = List Field × ℕ
 unfoldable pub scan : ℕ → Bool → Bytes → Scan
 scan zero meta bs = ([], 9)
 scan (suc n) meta bs = elim (read_field meta bs) [
-  | none ↦ ([], 9)
-  | some p ↦ elim (after p.1) [
+  | None ↦ ([], 9)
+  | Some p ↦ elim (after p.1) [
     | more r ↦ let s = scan n meta r in (p.0 ∷ s.0, s.1)
     | done ↦ (p.0 ∷ [], 0)
     | wrong ↦ (p.0 ∷ [], 8)
@@ -59,12 +56,12 @@ read_fields meta needed bs = elim (not needed && (empty bs || begins GREATER bs)
 ]
 
 abbrev pub is_some : {A : Type 0} → Option A → Bool
-is_some none = false
-is_some (some a) = true
+is_some None = false
+is_some (Some a) = true
 
-abbrev pub is_value : IntegerRead → Bool
-is_value (integer.Value n p) = true
-is_value integer.Refused = false
+abbrev pub is_value : Option (ℕ × Bool) → Bool
+is_value (Some (n, p)) = true
+is_value None = false
 
 -- 11 to 13: a bad Number or Type, a bad IDX or length
 abbrev pub misread : Version → Kind → Bytes → Reads → ℕ
@@ -75,8 +72,8 @@ misread v kind t an_integer = unless (is_value (u64_read t)) 13
 
 -- of a known field's value; the others are not read
 abbrev pub value_refusal : Version → Kind → Bytes → Option KnownField → ℕ
-value_refusal v kind t none = 0
-value_refusal v kind t (some r) = misread v kind t r.reads
+value_refusal v kind t None = 0
+value_refusal v kind t (Some r) = misread v kind t r.reads
 
 -- the known field that a field key names in a map under the key k
 abbrev pub known_named : Version → Bytes → Bytes → Option KnownField
@@ -94,17 +91,17 @@ check_fields v k seen (f ∷ fs) = first (
 
 -- the field of this name
 unfoldable pub field_named : Version → Bytes → Bytes → List Field → Option Field
-field_named v k name [] = none
-field_named v k name (f ∷ fs) = elim (same (name_of v k f.key) name) [ true ↦ some f | false ↦ field_named v k name fs ]
+field_named v k name [] = None
+field_named v k name (f ∷ fs) = elim (same (name_of v k f.key) name) [ true ↦ Some f | false ↦ field_named v k name fs ]
 
 -- the first field with this key
 unfoldable pub field_keyed : Bytes → List Field → Option Field
-field_keyed key [] = none
-field_keyed key (f ∷ fs) = elim (same f.key key) [ true ↦ some f | false ↦ field_keyed key fs ]
+field_keyed key [] = None
+field_keyed key (f ∷ fs) = elim (same f.key key) [ true ↦ Some f | false ↦ field_keyed key fs ]
 
 abbrev pub meaning_of_field : Option Field → Bytes
-meaning_of_field none = []
-meaning_of_field (some f) = meaning_of f.value
+meaning_of_field None = []
+meaning_of_field (Some f) = meaning_of f.value
 
 -- the meaning of the value of this name
 abbrev pub value_named : Version → Bytes → Bytes → List Field → Bytes

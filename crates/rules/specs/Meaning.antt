@@ -1,12 +1,9 @@
 -- Document 01, "House form": the meaning of a header, unescaped and defined from the lines as read. Assumes nothing.
-use Rattle.std.specs.Prelude.{ℕ, Bool, true, false, List, [], ◌∷◌, ◌++◌, map}
-use Rattle.std.proofs.Math.Option.{Option, none, some}
+use Rattle.std.specs.Prelude.{ℕ, Bool, true, false, List, [], ◌∷◌, ◌++◌, map, Option, None, Some}
 use Rattle.values.specs.Bytes.{Bytes, ascii, same}
 use Rattle.values.specs.Integer.{u64_read}
 use Rattle.values.specs.Value.{meaning_of}
 use Rattle.values.specs.Field.{Field}
-use Rattle.values.specs.declared.integer.IntegerRead.{IntegerRead}
-use Rattle.values.specs.declared.integer.IntegerRead.TheVariants as integer
 use Rattle.rules.specs.Version.{Version}
 use Rattle.rules.specs.Known.{Kind, kind_of, is_in, is_typed, typed_keys, known, numeric, name_of, tag_of}
 use Rattle.rules.specs.Map.{field_named}
@@ -30,20 +27,20 @@ pub record Meaning : Type 0 where
   pub format : Bool
   pub samples : List Bytes
 
-abbrev pub number_or_word : Bytes → IntegerRead → Known
-number_or_word t (integer.Value n p) = number n
-number_or_word t integer.Refused = word t
+abbrev pub number_or_word : Bytes → Option (ℕ × Bool) → Known
+number_or_word t (Some (n, p)) = number n
+number_or_word t None = word t
 
 unfoldable pub known_value : Kind → Bytes → Bytes → Known
 known_value kind name t = elim (is_in name (numeric kind)) [ true ↦ number_or_word t (u64_read t) | false ↦ word t ]
 
 abbrev pub known_of : Kind → Bytes → Option Field → Option Known
-known_of kind name none = none
-known_of kind name (some f) = some (known_value kind name (meaning_of f.value))
+known_of kind name None = None
+known_of kind name (Some f) = Some (known_value kind name (meaning_of f.value))
 
 abbrev pub tag_in : Option Field → ℕ
-tag_in none = 0
-tag_in (some f) = tag_of f.key
+tag_in None = 0
+tag_in (Some f) = tag_of f.key
 
 -- the fields that no known field's name is
 unfoldable pub others : Version → Bytes → List Field → List (Bytes × Bytes)

@@ -1,6 +1,5 @@
 -- Document 01, "Refusal numbers": for each number the smallest header that is refused by it, with its place, computed by the checker. Assumes nothing.
-use Rattle.std.specs.Prelude.{ℕ, ◌≡◌, refl, Bool, true, false, List, [], ◌∷◌, ◌++◌, map}
-use Rattle.std.proofs.Math.Option.{none}
+use Rattle.std.specs.Prelude.{ℕ, ◌≡◌, refl, Bool, true, false, List, [], ◌∷◌, ◌++◌, map, None}
 use Prim.Native.String.{String}
 use Rattle.values.specs.Bytes.{Bytes, ascii, same}
 use Rattle.rules.specs.Sizes.{Limits, limits}
@@ -31,7 +30,7 @@ abbrev pub placed : HouseReading → Place
 placed r = (r.number, r.line, r.start)
 
 abbrev pub place_of : Call → Place
-place_of c = placed (house c.limits none c.entries c.output c.header)
+place_of c = placed (house c.limits None c.entries c.output c.header)
 
 abbrev pub numbered : List (Call × Place)
 numbered =
@@ -121,7 +120,7 @@ formed =
     )
     ∷ []
 
-pub formed_cases : map (λ (c : Bytes × Bytes). (house limits none 9 999 c.0).form) formed ≡ map (λ (c : Bytes × Bytes). c.1) formed
+pub formed_cases : map (λ (c : Bytes × Bytes). (house limits None 9 999 c.0).form) formed ≡ map (λ (c : Bytes × Bytes). c.1) formed
 unfolding opened
 formed_cases = refl
 
@@ -182,7 +181,7 @@ with_lines p q = joined (F ∷ p ∷ q ∷ COLS ∷ [])
 
 abbrev pub may_and_stays : Bytes → Bytes → Bool × Bool
 may_and_stays p q =
-    (may_change (line_of p) (line_of q), same (house limits none 9 999 (with_lines p q)).form (house limits none 9 999 (with_lines q p)).form)
+    (may_change (line_of p) (line_of q), same (house limits None 9 999 (with_lines p q)).form (house limits None 9 999 (with_lines q p)).form)
 
 pub neighbours_cases : map (λ (c : (String × String) × (Bool × Bool)). may_and_stays (ascii c.0.0) (ascii c.0.1)) neighbours ≡ map (λ (c : (String × String) × (Bool × Bool)). c.1) neighbours
 unfolding opened may_change joined

@@ -1,6 +1,5 @@
 -- Document 01, "Lines" and "Refusal numbers": the line machine, and the reading of a whole header. Assumes nothing.
-use Rattle.std.specs.Prelude.{ℕ, suc, ◌+◌, Bool, true, false, List, [], ◌∷◌, ◌++◌, leb, length}
-use Rattle.std.proofs.Math.Option.{Option}
+use Rattle.std.specs.Prelude.{ℕ, suc, ◌+◌, Bool, true, false, List, [], ◌∷◌, ◌++◌, leb, length, Option}
 use Rattle.values.specs.Bytes.{Bytes, ascii, same, starts}
 use Rattle.values.specs.Utf8.{is_utf8}
 use Rattle.rules.specs.Answer.{Answer, ok, refuse, ◌>>=◌, first, judged}

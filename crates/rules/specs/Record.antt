@@ -1,7 +1,6 @@
 -- Document 01, "Records": `##`, a key of one byte or more up to the first `=`, a value. Assumes nothing.
-use Rattle.std.specs.Prelude.{Bool, true, false, not, ◌||◌, ◌&&◌, drop}
+use Rattle.std.specs.Prelude.{Bool, true, false, not, ◌||◌, ◌&&◌, drop, Option, None, Some}
 use mathlib.Core.List.{List, tail}
-use Rattle.std.proofs.Math.Option.{Option, none, some}
 use Rattle.values.specs.Bytes.{Bytes, ascii, is, empty, begins, before, from, same, starts, EQUALS, LESS}
 use Rattle.values.specs.Field.{Field}
 use Rattle.rules.specs.Answer.{Answer, ok, refuse, ◌>>=◌}
@@ -28,8 +27,8 @@ abbrev pub is_map : Version → Bytes → Bytes → Bool
 is_map v k x = is_typed k || (always_map k || looks_map v x)
 
 abbrev pub fileformat_read : Option Version → Answer Record
-fileformat_read none = refuse 7
-fileformat_read (some v) = ok (fileformat v)
+fileformat_read None = refuse 7
+fileformat_read (Some v) = ok (fileformat v)
 
 unfoldable pub read_record_value : Version → Bytes → Bytes → Answer Record
 read_record_value v k x = elim (same k (ascii "fileformat")) [

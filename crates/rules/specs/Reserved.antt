@@ -1,7 +1,6 @@
 -- Document 02, §2: the Number and Type that each version's text gives to its reserved IDs of INFO and FORMAT. Assumes nothing.
 use Prim.Native.String.{String}
-use Rattle.std.specs.Prelude.{Bool, true, false, ◌&&◌, List, [], ◌∷◌, ◌++◌, map, eqb}
-use Rattle.std.proofs.Math.Option.{Option, none, some}
+use Rattle.std.specs.Prelude.{Bool, true, false, ◌&&◌, List, [], ◌∷◌, ◌++◌, map, eqb, Option, None, Some}
 use Rattle.values.specs.Bytes.{Bytes, ascii, same}
 use Rattle.rules.specs.Version.{Version, v4_3, v4_4, v4_5, at_version}
 use Rattle.rules.specs.Known.{Kind, INFO, FILTER, FORMAT, ALT, contig, other, Number, count, letter}
@@ -107,8 +106,8 @@ abbrev pub reserved_rows : Version → Kind → List ReservedRow
 reserved_rows v kind = at_version [] (reserved_pages kind) v
 
 unfoldable pub look_row : Bytes → List ReservedRow → Option ReservedRow
-look_row id [] = none
-look_row id (r ∷ rs) = elim (same r.id id) [ true ↦ some r | false ↦ look_row id rs ]
+look_row id [] = None
+look_row id (r ∷ rs) = elim (same r.id id) [ true ↦ Some r | false ↦ look_row id rs ]
 
 -- the row of an ID, if it has one
 unfoldable pub reserved : Version → Kind → Bytes → Option ReservedRow
@@ -121,10 +120,10 @@ same_number (letter s) (count b) = false
 same_number (letter s) (letter t) = same s t
 
 abbrev pub is_number : Number → Option Number → Bool
-is_number n none = false
-is_number n (some m) = same_number n m
+is_number n None = false
+is_number n (Some m) = same_number n m
 
 -- what a definition asks; without a definition, nothing
 abbrev pub declares : Option ReservedRow → Option Number → Bytes → Bool
-declares none n t = true
-declares (some r) n t = is_number r.number n && same r.type t
+declares None n t = true
+declares (Some r) n t = is_number r.number n && same r.type t

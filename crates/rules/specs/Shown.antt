@@ -1,6 +1,5 @@
 -- Document 01, "Entries" and refusal 29, and document 02, §10: which entries are well formed, and what the calls show of one. Assumes nothing.
-use Rattle.std.specs.Prelude.{ℕ, suc, ◌+◌, Bool, true, false, not, ◌||◌, ◌&&◌, List, [], ◌∷◌, eqb, leb, length, take, drop}
-use Rattle.std.proofs.Math.Option.{Option, none, some}
+use Rattle.std.specs.Prelude.{ℕ, suc, ◌+◌, Bool, true, false, not, ◌||◌, ◌&&◌, List, [], ◌∷◌, eqb, leb, length, take, drop, Option, None, Some}
 use Rattle.values.specs.Bytes.{Bytes}
 use Rattle.values.specs.Utf8.{is_utf8}
 use Rattle.values.specs.Value.{meaning}
@@ -49,19 +48,19 @@ id_meaning h e = meaning e.quoted (id_in h e)
 
 -- it must be a record of this kind
 abbrev pub of_kind : ℕ → Answer Record → Option Record
-of_kind kind (refuse n) = none
-of_kind kind (ok r) = elim (eqb (record_kind r) kind) [ true ↦ some r | false ↦ none ]
+of_kind kind (refuse n) = None
+of_kind kind (ok r) = elim (eqb (record_kind r) kind) [ true ↦ Some r | false ↦ None ]
 
 unfoldable pub read_alone : Version → ℕ → Bytes → Option Record
-read_alone v kind l = elim (is_utf8 l) [ true ↦ of_kind kind (read_record v l) | false ↦ none ]
+read_alone v kind l = elim (is_utf8 l) [ true ↦ of_kind kind (read_record v l) | false ↦ None ]
 
 -- and have the counts that the entry tells
 unfoldable pub tells : Entry → Counts → Bool
 tells e c = eqb c.key_length e.key_length && eqb c.field_count e.field_count
 
 abbrev pub counted_as : Bool → Entry → Option Record → Option Record
-counted_as counted e none = none
-counted_as counted e (some r) = elim (tells e (counts_of counted r)) [ true ↦ some r | false ↦ none ]
+counted_as counted e None = None
+counted_as counted e (Some r) = elim (tells e (counts_of counted r)) [ true ↦ Some r | false ↦ None ]
 
 -- the record on an entry's line
 unfoldable pub entry_record : Bool → Bytes → Version → Entry → Option Record
@@ -71,36 +70,36 @@ entry_record counted h v e = counted_as counted e (read_alone v e.kind (line_in 
 
 -- the entry call
 abbrev pub entry_part : Option Entry → Option Part
-entry_part none = none
-entry_part (some e) = some (e.start, e.start + e.length)
+entry_part None = None
+entry_part (Some e) = Some (e.start, e.start + e.length)
 
 -- the ID call
 abbrev pub id_part : Option Entry → Option Part
-id_part none = none
-id_part (some e) = elim (has_id e.kind) [ true ↦ some (e.start + e.offset, e.start + e.offset + e.id_length) | false ↦ none ]
+id_part None = None
+id_part (Some e) = elim (has_id e.kind) [ true ↦ Some (e.start + e.offset, e.start + e.offset + e.id_length) | false ↦ None ]
 
 -- field i of the fields that stand at the place `at`, parted by `,`: key through value
 unfoldable pub nth_field_part : ℕ → List Field → ℕ → Option Part
-nth_field_part at [] i = none
-nth_field_part at (f ∷ fs) ℕ.zero = some (at, at + length (written_field f))
+nth_field_part at [] i = None
+nth_field_part at (f ∷ fs) ℕ.zero = Some (at, at + length (written_field f))
 nth_field_part at (f ∷ fs) (suc i) = nth_field_part (at + length (written_field f) + 1) fs i
 
 -- a record whose line stands at start
 abbrev pub record_field_part : ℕ → ℕ → Option Record → Option Part
-record_field_part start i none = none
-record_field_part start i (some (fileformat v)) = none
-record_field_part start i (some (text k t)) = none
-record_field_part start i (some (fields k fs)) = nth_field_part (start + fields_start k) fs i
+record_field_part start i None = None
+record_field_part start i (Some (fileformat v)) = None
+record_field_part start i (Some (text k t)) = None
+record_field_part start i (Some (fields k fs)) = nth_field_part (start + fields_start k) fs i
 
 -- the field call: field i, from 0, of the entry's line under the version given
 abbrev pub entry_field_part : Bool → Bytes → Version → ℕ → Option Entry → Option Part
-entry_field_part counted h v i none = none
-entry_field_part counted h v i (some e) = elim (has_id e.kind) [ true ↦ record_field_part e.start i (entry_record counted h v e) | false ↦ none ]
+entry_field_part counted h v i None = None
+entry_field_part counted h v i (Some e) = elim (has_id e.kind) [ true ↦ record_field_part e.start i (entry_record counted h v e) | false ↦ None ]
 
 -- the key call, which reads no line: the key after `##`, and the number of fields
 abbrev pub entry_key_part : Bool → Option Entry → Option (Part × ℕ)
-entry_key_part counted none = none
-entry_key_part counted (some e) = elim (counted && (leb e.kind 8 && leb (2 + e.key_length) e.length)) [
-  | true ↦ some ((e.start + 2, e.start + 2 + e.key_length), e.field_count)
-  | false ↦ none
+entry_key_part counted None = None
+entry_key_part counted (Some e) = elim (counted && (leb e.kind 8 && leb (2 + e.key_length) e.length)) [
+  | true ↦ Some ((e.start + 2, e.start + 2 + e.key_length), e.field_count)
+  | false ↦ None
 ]

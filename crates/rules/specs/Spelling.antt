@@ -1,12 +1,9 @@
 -- Document 02, §4 and §10: how the numbers of an entry's line were spelled. Assumes nothing.
-use Rattle.std.specs.Prelude.{ℕ, Bool, true, false, not, ◌||◌, ◌&&◌, List, [], ◌∷◌, leb}
-use Rattle.std.proofs.Math.Option.{Option, none, some}
+use Rattle.std.specs.Prelude.{ℕ, Bool, true, false, not, ◌||◌, ◌&&◌, List, [], ◌∷◌, leb, Option, None, Some}
 use Rattle.values.specs.Bytes.{Bytes}
 use Rattle.values.specs.Integer.{u64_read}
 use Rattle.values.specs.Value.{meaning_of}
 use Rattle.values.specs.Field.{Field}
-use Rattle.values.specs.declared.integer.IntegerRead.{IntegerRead}
-use Rattle.values.specs.declared.integer.IntegerRead.TheVariants as integer
 use Rattle.rules.specs.Version.{Version}
 use Rattle.rules.specs.Known.{Reads, KnownField, any_text, a_number, a_type, an_integer}
 use Rattle.rules.specs.Map.{known_named}
@@ -15,9 +12,9 @@ use Rattle.rules.specs.Entry.{Entry}
 use Rattle.rules.specs.Shown.{has_id, entry_record}
 
 -- a number that is not plainly spelled; what is no number, a letter too, is not spelled oddly
-abbrev pub is_odd : IntegerRead → Bool
-is_odd (integer.Value n plain) = not plain
-is_odd integer.Refused = false
+abbrev pub is_odd : Option (ℕ × Bool) → Bool
+is_odd (Some (n, plain)) = not plain
+is_odd None = false
 
 -- Number, IDX and length are read as numbers
 abbrev pub odd_read : Bytes → Reads → Bool
@@ -28,8 +25,8 @@ odd_read t an_integer = is_odd (u64_read t)
 
 -- of a known field's value; the others are not read
 abbrev pub odd_value : Bytes → Option KnownField → Bool
-odd_value t none = false
-odd_value t (some r) = odd_read t r.reads
+odd_value t None = false
+odd_value t (Some r) = odd_read t r.reads
 
 -- a field of a map under the key k, by what its value means
 abbrev pub is_odd_field : Version → Bytes → Field → Bool
@@ -43,15 +40,15 @@ has_odd v k (f ∷ fs) = is_odd_field v k f || has_odd v k fs
 
 -- none but maps have numbers
 abbrev pub record_odd : Version → Option Record → Option Bool
-record_odd v none = none
-record_odd v (some (fileformat w)) = some false
-record_odd v (some (text k t)) = some false
-record_odd v (some (fields k fs)) = some (has_odd v k fs)
+record_odd v None = None
+record_odd v (Some (fileformat w)) = Some false
+record_odd v (Some (text k t)) = Some false
+record_odd v (Some (fields k fs)) = Some (has_odd v k fs)
 
 -- kinds 2 to 7 are read again, and where keys and fields are counted kinds 1 and 8 too
 abbrev pub is_read_again : Bool → ℕ → Bool
 is_read_again counted kind = has_id kind || (counted && leb kind 8)
 
 abbrev pub entry_odd : Bool → Bytes → Version → Option Entry → Option Bool
-entry_odd counted h v none = none
-entry_odd counted h v (some e) = elim (is_read_again counted e.kind) [ true ↦ record_odd v (entry_record counted h v e) | false ↦ some false ]
+entry_odd counted h v None = None
+entry_odd counted h v (Some e) = elim (is_read_again counted e.kind) [ true ↦ record_odd v (entry_record counted h v e) | false ↦ Some false ]

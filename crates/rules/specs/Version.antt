@@ -1,11 +1,8 @@
 -- Document 01, "Lines" and "Records": versions. Assumes nothing.
-use Rattle.std.specs.Prelude.{ℕ, Bool, true, false, not, ◌||◌, ◌&&◌, eqb, ltb, drop}
+use Rattle.std.specs.Prelude.{ℕ, Bool, true, false, not, ◌||◌, ◌&&◌, eqb, ltb, drop, Option, None, Some}
 use mathlib.Core.List.{List, [], ◌∷◌, ◌++◌, tail}
-use Rattle.std.proofs.Math.Option.{Option, none, some}
 use Rattle.values.specs.Bytes.{Bytes, ascii, is, begins, before, from, starts, POINT}
 use Rattle.values.specs.Integer.{u32_read, decimal}
-use Rattle.values.specs.declared.integer.IntegerRead.{IntegerRead}
-use Rattle.values.specs.declared.integer.IntegerRead.TheVariants.{Value, Refused}
 
 pub record Version : Type 0 where
   pub major : ℕ
@@ -38,24 +35,24 @@ at_version before (p ∷ ps) v = elim (since p.0 v) [ true ↦ p.1 | false ↦ a
 
 -- the file's version, or the one that the caller imposed
 abbrev pub in_force : Option Version → Version → Version
-in_force none v = v
-in_force (some w) v = w
+in_force None v = v
+in_force (Some w) v = w
 
-abbrev pub version_from : IntegerRead → IntegerRead → Option Version
-version_from (Value a p) (Value b q) = some (version a b)
-version_from (Value a p) Refused = none
-version_from Refused b = none
+abbrev pub version_from : Option (ℕ × Bool) → Option (ℕ × Bool) → Option Version
+version_from (Some (a, p)) (Some (b, q)) = Some (version a b)
+version_from (Some (a, p)) None = None
+version_from None b = None
 
 -- one digit or more, `.`, one digit or more, nothing after
 unfoldable pub read_parts : Bytes → Option Version
 read_parts bs = elim (begins POINT (from (is POINT) bs)) [
   | true ↦ version_from (u32_read (before (is POINT) bs)) (u32_read (tail (from (is POINT) bs)))
-  | false ↦ none
+  | false ↦ None
 ]
 
 -- `VCFv`, then the parts
 unfoldable pub read_version : Bytes → Option Version
-read_version bs = elim (starts (ascii "VCFv") bs) [ true ↦ read_parts (drop 4 bs) | false ↦ none ]
+read_version bs = elim (starts (ascii "VCFv") bs) [ true ↦ read_parts (drop 4 bs) | false ↦ None ]
 
 unfoldable pub write_version : Version → Bytes
 write_version v = ascii "VCFv" ++ (decimal v.major ++ POINT ∷ decimal v.minor)

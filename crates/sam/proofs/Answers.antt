@@ -1,4 +1,5 @@
 -- The answer to a call, by what its two walks tell; and that there is one. Assumes nothing.
+use Rattle.std.specs.Prelude.{Result, Ok, Err}
 use Prim.Native.Nat.{ℕ, ◌*◌, ◌^◌, ◌≤◌, ◌<◌}
 use native.Mathlib.Omega.{arith}
 use mathlib.Core.Path.{◌≡◌, refl, sym, ap, subst, ◌∙◌}
@@ -13,9 +14,6 @@ use Rattle.sam.specs.Lines.{sam_number}
 use Rattle.sam.specs.Answers.{contigs_answer_means, contigs_mean, ContigsCall, refused_answer, WalkedAs, Walks}
 use Rattle.sam.specs.declared.refusal.SamRefusal.{SamRefusal}
 use Rattle.sam.specs.declared.refusal.SamRefusal.TheVariants.{LineTooLong, InvalidUtf8, InvalidTag, InvalidSequence, DuplicateSequence, OutputTooSmall}
-use Rattle.sam.specs.declared.contigs.Walked.{Walked}
-use Rattle.sam.specs.declared.contigs.Walked.TheVariants as walked
-use Rattle.sam.specs.declared.contigs.ContigsOutcome.TheVariants as outcome
 use Rattle.sam.specs.declared.contigs.ContigsAnswer.{ContigsAnswer}
 
 number_positive : (x : SamRefusal) → 0 < sam_number x
@@ -42,31 +40,31 @@ call_as : (sam out : Bytes) {d : Contigs} → contigs_fitting (length out) sam �
 call_as sam out f r a b = record { answer = a ∙ ap contigs_mean (sym f); output = b ∙ ap (λ (y : Contigs). sets out 0 (contig_lines y.contigs)) (sym f) }
 
 -- w is what the first walk told
-module _ (sam : Bytes) {no : Bytes} {w : Walked} {no' : Bytes} (m : Walks sam no w no') where
-  pub call_refused : {x : SamRefusal} {line start : ℕ} → w ≡ walked.Refused x line start → (out : Bytes) {r : ContigsAnswer} → r ≡ refused_answer x line start → ContigsCall sam out r out
+module _ (sam : Bytes) {no : Bytes} {w : Result (ℕ × ℕ × ℕ) (SamRefusal × ℕ × ℕ)} {no' : Bytes} (m : Walks sam no w no') where
+  pub call_refused : {x : SamRefusal} {line start : ℕ} → w ≡ Err (x, line, start) → (out : Bytes) {r : ContigsAnswer} → r ≡ refused_answer x line start → ContigsCall sam out r out
   unfolding contig_lines write_lines
   call_refused {x} {line} {start} e out {r} a =
-      let t : read_contigs sam ≡ refused (sam_number x) line start = subst (λ (y : Walked). WalkedAs sam no y no') e m.is in
+      let t : read_contigs sam ≡ refused (sam_number x) line start = subst (λ (y : Result (ℕ × ℕ × ℕ) (SamRefusal × ℕ × ℕ)). WalkedAs sam no y no') e m.is in
       call_as sam out (fits_all (length out) sam (rw t (omega arith)) ∙ t) r (ap contigs_answer_means a) refl
 
-  module _ {n k size : ℕ} (e : w ≡ walked.Whole n k size) where
-    whole : WalkedAs sam no (walked.Whole n k size) no'
-    whole = subst (λ (y : Walked). WalkedAs sam no y no') e m.is
+  module _ {n k size : ℕ} (e : w ≡ Ok (n, k, size)) where
+    whole : WalkedAs sam no (Ok (n, k, size)) no'
+    whole = subst (λ (y : Result (ℕ × ℕ × ℕ) (SamRefusal × ℕ × ℕ)). WalkedAs sam no y no') e m.is
 
     pub call_short : (out : Bytes) → length out < size → {r : ContigsAnswer} → r ≡ refused_answer OutputTooSmall 0 0 → ContigsCall sam out r out
     unfolding onward contig_lines write_lines
     call_short out h {r} a = call_as sam out (fits_not (length out) sam (rw whole.1 (omega (arith, whole.3.place)))) r (ap contigs_answer_means a) refl
 
-    pub call_whole : (out : Bytes) → length out * 1 < 2 ^ 63 → size ≤ length out → {w' : Walked} {out' : Bytes} → Walks sam out w' out'
-        → ContigsCall sam out (record { outcome = outcome.Accepted; line = n; start = length sam; contigs = k; length = size }) out'
+    pub call_whole : (out : Bytes) → length out * 1 < 2 ^ 63 → size ≤ length out → {w' : Result (ℕ × ℕ × ℕ) (SamRefusal × ℕ × ℕ)} {out' : Bytes} → Walks sam out w' out'
+        → ContigsCall sam out (record { outcome = (Ok tt); line = n; start = length sam; contigs = k; length = size }) out'
     unfolding onward
     call_whole out b h {w'} {out'} v =
         let s : length (contig_lines whole.0) ≡ size = omega (arith, whole.3.place) in
         call_as sam out (fits_all (length out) sam (rw whole.1 (omega arith)) ∙ whole.1) _ (rw (s, whole.2)) (again w' v.is)
       where
-        again : (w : Walked) → WalkedAs sam out w out' → out' ≡ sets out 0 (contig_lines whole.0)
-        again (walked.Whole n k next) v = v.3.output ∙ ap (λ (y : Contigs). sets out 0 (contig_lines y.contigs)) (sym v.1 ∙ whole.1)
-        again (walked.Refused x line start) v =
+        again : (w : Result (ℕ × ℕ × ℕ) (SamRefusal × ℕ × ℕ)) → WalkedAs sam out w out' → out' ≡ sets out 0 (contig_lines whole.0)
+        again (Ok (n, k, next)) v = v.3.output ∙ ap (λ (y : Contigs). sets out 0 (contig_lines y.contigs)) (sym v.1 ∙ whole.1)
+        again (Err (x, line, start)) v =
             let z : 0 ≡ sam_number x = ap (λ (y : Contigs). y.number) (sym whole.1 ∙ v) in
             absurd (omega (arith, number_positive x))
 

@@ -4,7 +4,7 @@ use native.Mathlib.Omega.{arith}
 use mathlib.Core.Path.{◌≡◌, refl, sym, ap, ap₂, ◌∙◌}
 use mathlib.Core.Bool.{false}
 use mathlib.Core.List.{List, [], ◌∷◌, ◌++◌, map, append_assoc, append-nil, map-append}
-use mathlib.Core.Option.{Option, none}
+use Rattle.std.specs.Prelude.{Option, None}
 use lib.ListN.{length}
 use Rattle.values.specs.Bytes.{Bytes, ascii, same, CR, LF}
 use Rattle.values.specs.Integer.{decimal}
@@ -82,7 +82,7 @@ line_other l e = rw (e, write_line)
 
 module _ (id : Bytes) (n : ℕ) (m u : Bytes) where
   abbrev optional : List Field
-  optional = known_fields v4_5 KEY 0 (ascii "md5" ∷ ascii "URL" ∷ ascii "IDX" ∷ []) (word_of (given m) ∷ word_of (given u) ∷ none ∷ [])
+  optional = known_fields v4_5 KEY 0 (ascii "md5" ∷ ascii "URL" ∷ ascii "IDX" ∷ []) (word_of (given m) ∷ word_of (given u) ∷ None ∷ [])
 
   abbrev these : List Field
   these = write_field v4_5 KEY (ascii "ID") id ∷ write_field v4_5 KEY (ascii "length") (decimal n) ∷ optional
@@ -94,8 +94,8 @@ module _ (id : Bytes) (n : ℕ) (m u : Bytes) where
   optional_text_lem : write_more optional ≡ optional_text (ascii "md5") m ++ optional_text (ascii "URL") u
   unfolding same known_fields write_more
   optional_text_lem =
-      optional_more (ascii "md5") refl m (ascii "URL" ∷ ascii "IDX" ∷ []) (word_of (given u) ∷ none ∷ [])
-      ∙ ap (optional_text (ascii "md5") m ++◌) (optional_more (ascii "URL") refl u (ascii "IDX" ∷ []) (none ∷ []) ∙ append-nil (optional_text (ascii "URL") u))
+      optional_more (ascii "md5") refl m (ascii "URL" ∷ ascii "IDX" ∷ []) (word_of (given u) ∷ None ∷ [])
+      ∙ ap (optional_text (ascii "md5") m ++◌) (optional_more (ascii "URL") refl u (ascii "IDX" ∷ []) (None ∷ []) ∙ append-nil (optional_text (ascii "URL") u))
 
   fields_text_lem : write_fields these ≡ texts
   unfolding write_fields write_more

@@ -1,4 +1,5 @@
 -- What a call promises leaves one outcome. Assumes nothing.
+use Rattle.std.specs.Prelude.{Result, Ok, Err, ⊤}
 use Prim.Native.Nat.{ℕ}
 use mathlib.Core.Path.{◌≡◌, refl, sym, ap, ◌∙◌}
 use mathlib.Core.Bool.{true, false}
@@ -6,34 +7,33 @@ use lib.Dec.{eqb}
 use Rattle.values.specs.Bytes.{Bytes}
 use Rattle.sam.specs.Answers.{contigs_number, ContigsMeaning, contigs_answer_means, ContigsCall}
 use Rattle.sam.specs.declared.refusal.SamRefusal.TheVariants.{LineTooLong, InvalidUtf8, InvalidTag, InvalidSequence, DuplicateSequence, OutputTooSmall}
-use Rattle.sam.specs.declared.contigs.ContigsOutcome.{ContigsOutcome}
-use Rattle.sam.specs.declared.contigs.ContigsOutcome.TheVariants.{Accepted, Refused}
 use Rattle.sam.specs.declared.contigs.ContigsAnswer.{ContigsAnswer}
+use Rattle.sam.specs.declared.refusal.SamRefusal.{SamRefusal}
 
 -- the outcome of a number
-abbrev outcome_of : ℕ → ContigsOutcome
+abbrev outcome_of : ℕ → Result ⊤ SamRefusal
 outcome_of n = elim (eqb n 0) [
-  | true ↦ Accepted
+  | true ↦ Ok tt
   | false ↦ elim (eqb n 2) [
-    | true ↦ Refused LineTooLong
+    | true ↦ Err LineTooLong
     | false ↦ elim (eqb n 3) [
-      | true ↦ Refused InvalidUtf8
+      | true ↦ Err InvalidUtf8
       | false ↦ elim (eqb n 41) [
-        | true ↦ Refused InvalidTag
-        | false ↦ elim (eqb n 42) [ true ↦ Refused InvalidSequence | false ↦ elim (eqb n 43) [ true ↦ Refused DuplicateSequence | false ↦ Refused OutputTooSmall ] ]
+        | true ↦ Err InvalidTag
+        | false ↦ elim (eqb n 42) [ true ↦ Err InvalidSequence | false ↦ elim (eqb n 43) [ true ↦ Err DuplicateSequence | false ↦ Err OutputTooSmall ] ]
       ]
     ]
   ]
 ]
 
-outcome_back : (x : ContigsOutcome) → outcome_of (contigs_number x) ≡ x
-outcome_back Accepted = refl
-outcome_back (Refused LineTooLong) = refl
-outcome_back (Refused InvalidUtf8) = refl
-outcome_back (Refused InvalidTag) = refl
-outcome_back (Refused InvalidSequence) = refl
-outcome_back (Refused DuplicateSequence) = refl
-outcome_back (Refused OutputTooSmall) = refl
+outcome_back : (x : Result ⊤ SamRefusal) → outcome_of (contigs_number x) ≡ x
+outcome_back (Ok tt) = refl
+outcome_back (Err LineTooLong) = refl
+outcome_back (Err InvalidUtf8) = refl
+outcome_back (Err InvalidTag) = refl
+outcome_back (Err InvalidSequence) = refl
+outcome_back (Err DuplicateSequence) = refl
+outcome_back (Err OutputTooSmall) = refl
 
 -- two answers that tell the same are the same
 pub told_injective : (a b : ContigsAnswer) → contigs_answer_means a ≡ contigs_answer_means b → a ≡ b

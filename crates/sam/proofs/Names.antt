@@ -4,12 +4,12 @@ use native.Mathlib.Omega.{arith}
 use mathlib.Core.Path.{◌≡◌, refl, sym, ap, ap₂, subst, ◌∙◌}
 use mathlib.Core.Bool.{Bool, true, false, not, ◌||◌, true≢false, false≢true}
 use mathlib.Core.List.{List, [], ◌∷◌, ◌++◌}
-use mathlib.Core.Option.{Option, none, some}
+use Rattle.std.specs.Prelude.{Option, None, Some, Result, Ok, Err}
 use lib.ListN.{length, drop, take}
 use Rattle.values.specs.Bytes.{Bytes, ascii, same}
 use Rattle.values.specs.Hash.{wide_step}
 use Rattle.values.specs.Marks.{is_met, meet}
-use Rattle.values.proofs.Tests.{pass, fail, test, not_true, not_false}
+use Rattle.values.proofs.Tests.{pass, fail, test}
 use Rattle.values.proofs.Sames.{same_sound}
 use Rattle.values.proofs.Markings.{meet_length, meet_own, meet_kept, none_met}
 use Rattle.rules.specs.Answer.{Answer, ◌>>=◌, unless, judged}
@@ -24,8 +24,6 @@ use Rattle.sam.specs.Contigs.{Contig, read_sequence}
 use Rattle.sam.specs.Lines.{tags_at, value_in, sequence_means, contig_in, names, names_in, name_hash, again, mark_if, doubts_of, Doubted, mark_again, is_repeated, ReadsNamed}
 use Rattle.sam.specs.declared.refusal.SamRefusal.{SamRefusal}
 use Rattle.sam.specs.declared.refusal.SamRefusal.TheVariants.{DuplicateSequence}
-use Rattle.sam.specs.declared.sequence.SequenceRead.{SequenceRead}
-use Rattle.sam.specs.declared.sequence.SequenceRead.TheVariants as read
 use Rattle.sam.proofs.Sequences.{tags_stand}
 
 -- The line at a place
@@ -46,7 +44,7 @@ turn {h} {at} i f b =
 
 -- its name, if it is an `@SQ` line
 module _ (p : Bytes) (ps : List Bytes) where
-  pub names_skip : tags_of (line_of p) ≡ none → names (p ∷ ps) ≡ names ps
+  pub names_skip : tags_of (line_of p) ≡ None → names (p ∷ ps) ≡ names ps
   unfolding names
   names_skip e = rw (names, e)
 
@@ -54,9 +52,9 @@ module _ (p : Bytes) (ps : List Bytes) where
   unfolding names value_in
   names_more e = rw (names, tags_stand (line_of p) e)
 
-pub none_tags : (x : Option (List Bytes)) → is_some x ≡ false → x ≡ none
-none_tags none e = refl
-none_tags (some ts) e = absurd (true≢false e)
+pub none_tags : (x : Option (List Bytes)) → is_some x ≡ false → x ≡ None
+none_tags None e = refl
+none_tags (Some ts) e = absurd (true≢false e)
 
 -- Looking for a name
 
@@ -105,72 +103,47 @@ module _ (earlier : Bytes) (ds ms : List ℕ) (name : Bytes) {h : ℕ} (eh : h �
   doubt_is : is_met ds (name_hash name) ≡ d
   doubt_is = ap (is_met ds) (sym eh) ∙ sym ed
 
-  module _ (n : not d ≡ true) where
-    pub name_clear : false ≡ is_repeated earlier ds ms name
+  pub name_clear : d ≡ false → d ≡ is_repeated earlier ds ms name
+  unfolding is_repeated
+  name_clear n = rw (doubt_is, n)
+
+  module _ (t : d ≡ true) {i : ℕ} (ei : i ≡ wide_step h 1) {q : Bool} (eq : q ≡ is_met ms i) where
+    again_is : is_met ms (again name) ≡ q
+    again_is = sym (eq ∙ rw (ei, eh))
+
+    pub name_new : q ≡ false → q ≡ is_repeated earlier ds ms name
     unfolding is_repeated
-    name_clear = rw (doubt_is, not_true d n)
+    name_new n = rw (doubt_is, t, again_is, n)
 
-    pub clear_marks : ms ≡ mark_again ds ms name
-    clear_marks = rw (doubt_is, not_true d n)
+    pub name_looked : q ≡ true → {r : Bool} → r ≡ is_in name (names_in earlier) → r ≡ is_repeated earlier ds ms name
+    unfolding is_repeated
+    name_looked n g = g ∙ rw (doubt_is, t, again_is, n)
 
-  module _ (t : not d ≡ false) {i : ℕ} (ei : i ≡ wide_step h 1) where
-    pub doubt_marks : {ns : List ℕ} → ns ≡ meet ms i → ns ≡ mark_again ds ms name
-    doubt_marks e = e ∙ rw (doubt_is, not_false d t, ei, eh)
-
-    module _ {q : Bool} (eq : q ≡ is_met ms i) where
-      again_is : is_met ms (again name) ≡ q
-      again_is = sym (eq ∙ rw (ei, eh))
-
-      pub name_new : not q ≡ true → false ≡ is_repeated earlier ds ms name
-      unfolding is_repeated
-      name_new n = rw (doubt_is, not_false d t, again_is, not_true q n)
-
-      pub name_looked : not q ≡ false → {r : Bool} → r ≡ is_in name (names_in earlier) → r ≡ is_repeated earlier ds ms name
-      unfolding is_repeated
-      name_looked n g = g ∙ rw (doubt_is, not_false d t, again_is, not_false q n)
-
-pub ruleset repeats = (name_clear, clear_marks, doubt_marks, name_new, name_looked)
+pub ruleset repeats = (name_clear, name_new, name_looked)
 
 -- r is what was read of the line alone
-module _ (earlier : Bytes) (ds ms : List ℕ) (l : Bytes) {r : SequenceRead} (a : sequence_means l r ≡ read_sequence l (tags_at l 4)) where
-  pub named_refused : {x : SamRefusal} → r ≡ read.Refused x → {ms' : List ℕ} → ReadsNamed earlier ds ms l (read.Refused x) ms'
+module _ (earlier : Bytes) (ds ms : List ℕ) (l : Bytes) {r : Result ℕ SamRefusal} (a : sequence_means l r ≡ read_sequence l (tags_at l 4)) where
+  pub named_refused : {x : SamRefusal} → r ≡ Err x → {ms' : List ℕ} → ReadsNamed earlier ds ms l (Err x) ms'
   named_refused {x} e = record {
     alone = (r, a);
     is = ap (λ (y : Answer Contig). y >>= λ c. judged (unless (not (is_repeated earlier ds ms c.id)) 43) c) (sym (ap (sequence_means l) e) ∙ a);
     marks = λ n k. cc;
   }
 
-  module _ {n : ℕ} (e : r ≡ read.Contig n) {v : Bytes} (b : v ≡ value_in (ascii "SN") l) {q : Bool} (c : q ≡ is_repeated earlier ds ms v) where
+  module _ {n : ℕ} (e : r ≡ Ok n) {v : Bytes} (b : v ≡ value_in (ascii "SN") l) {q : Bool} (c : q ≡ is_repeated earlier ds ms v) where
     told : (read_sequence l (tags_at l 4) >>= λ c. judged (unless (not (is_repeated earlier ds ms c.id)) 43) c) ≡ judged (unless (not q) 43) (contig_in l n)
     unfolding contig_in
     told = ap (λ (y : Answer Contig). y >>= λ c. judged (unless (not (is_repeated earlier ds ms c.id)) 43) c) (sym a ∙ ap (sequence_means l) e) ∙ rw (← b, ← c)
 
-    pub named_twice : q ≡ true → {ms' : List ℕ} → ReadsNamed earlier ds ms l (read.Refused DuplicateSequence) ms'
+    pub named_twice : q ≡ true → {ms' : List ℕ} → ReadsNamed earlier ds ms l (Err DuplicateSequence) ms'
     named_twice k = record { alone = (r, a); is = sym (told ∙ rw k); marks = λ n k. cc }
 
-    pub named_fresh : q ≡ false → {ms' : List ℕ} → ms' ≡ mark_again ds ms v → ReadsNamed earlier ds ms l (read.Contig n) ms'
+    pub named_fresh : q ≡ false → {ms' : List ℕ} → ms' ≡ mark_again ds ms v → ReadsNamed earlier ds ms l (Ok n) ms'
     named_fresh k m = record { alone = (r, a); is = sym (told ∙ rw k); marks = λ n k. m ∙ ap (mark_again ds ms) b }
 
 pub ruleset namings = (named_refused, named_twice, named_fresh)
 
 -- Names put in doubt
-
--- what answers the needs of `doubt_name`
-module _ (ms ds : List ℕ) (name : Bytes) {h : ℕ} (eh : h ≡ name_hash name) where
-  pub name_met : {ns : List ℕ} → ns ≡ meet ms h → ns ≡ meet ms (name_hash name)
-  name_met e = e ∙ ap (meet ms) eh
-
-  module _ {q : Bool} (eq : q ≡ is_met ms h) where
-    met_is : is_met ms (name_hash name) ≡ q
-    met_is = ap (is_met ms) (sym eh) ∙ sym eq
-
-    pub doubt_kept : not q ≡ true → ds ≡ mark_if (is_met ms (name_hash name)) ds (name_hash name)
-    doubt_kept n = rw (met_is, not_true q n)
-
-    pub doubt_more : not q ≡ false → {es : List ℕ} → es ≡ meet ds h → es ≡ mark_if (is_met ms (name_hash name)) ds (name_hash name)
-    doubt_more n e = e ∙ rw (met_is, not_false q n, eh)
-
-pub ruleset doubts = (name_met, doubt_kept, doubt_more)
 
 pub mark_length : (b : Bool) (ms : List ℕ) (hash : ℕ) → length (mark_if b ms hash) ≡ length ms
 mark_length true ms hash = meet_length ms hash

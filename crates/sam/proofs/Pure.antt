@@ -4,15 +4,13 @@ use native.Mathlib.Omega.{arith}
 use mathlib.Core.Path.{◌≡◌, refl}
 use mathlib.Core.Bool.{Bool, true, false, false≢true}
 use mathlib.Core.List.{List, [], ◌∷◌}
-use mathlib.Core.Option.{Option, none, some}
+use Rattle.std.specs.Prelude.{Option, None, Some}
 use lib.Dec.{leb}
 use lib.ListN.{length}
 use borrow.Author.Tests.{eqb-true, leb-true, leb-false, lt-leb}
 use Rattle.values.specs.Bytes.{Bytes, ascii, is, any, same, LF, TAB}
 use Rattle.values.specs.Utf8.{is_utf8}
 use Rattle.values.specs.Integer.{integer_read}
-use Rattle.values.specs.declared.integer.IntegerRead.{IntegerRead}
-use Rattle.values.specs.declared.integer.IntegerRead.TheVariants as integer
 use Rattle.values.proofs.Tests.{pass, fail, test, both, and_l, and_r, and_off}
 use Rattle.values.proofs.Lists.{OnSome, on_some}
 use Rattle.values.proofs.Integers.{read_bound}
@@ -93,18 +91,18 @@ pub record GoodContig (c : Contig) : Type 0 where
 
 from_good : (sn : Option Bytes) (n : Option ℕ) (m u : Option Bytes) → OnSome (λ t. Pure t) sn → OnSome (λ k. k ≤ 2147483647) n → OnSome (λ t. Pure t) m → OnSome (λ t. Pure t) u
     → OnOk (λ c. GoodContig c) (contig_from sn n m u)
-from_good none n m u a b c d = tt
-from_good (some sn) none m u a b c d = tt
-from_good (some sn) (some n) m u a b c d = record { id = a; size = b; md5 = c; url = d }
+from_good None n m u a b c d = tt
+from_good (Some sn) None m u a b c d = tt
+from_good (Some sn) (Some n) m u a b c d = record { id = a; size = b; md5 = c; url = d }
 
 size_small : (x : Option Bytes) → OnSome (λ k. k ≤ 2147483647) (size_read x)
-size_small none = tt
-size_small (some t) = go (integer_read false 2147483647 t) (λ n p e. read_bound false 2147483647 t e)
+size_small None = tt
+size_small (Some t) = go (integer_read false 2147483647 t) (λ n p e. read_bound false 2147483647 t e)
   where
-    go : (r : IntegerRead) → ((n : ℕ) (p : Bool) → r ≡ integer.Value n p → n ≤ 2147483647) → OnSome (λ k. k ≤ 2147483647) (size_from r)
-    go (integer.Value zero p) f = tt
-    go (integer.Value (suc n) p) f = f (suc n) p refl
-    go integer.Refused f = tt
+    go : (r : Option (ℕ × Bool)) → ((n : ℕ) (p : Bool) → r ≡ Some (n, p) → n ≤ 2147483647) → OnSome (λ k. k ≤ 2147483647) (size_from r)
+    go (Some (zero, p)) f = tt
+    go (Some (suc n, p)) f = f (suc n) p refl
+    go None f = tt
 
 contig_good : (ts : List Bytes) → are_tags ts ≡ true → Pures ts → OnOk (λ c. GoodContig c) (contig_of ts)
 unfolding contig_of
@@ -115,7 +113,7 @@ contig_good ts a p =
 abbrev GoodTags : List Bytes → Type 0
 GoodTags ts = (are_tags ts ≡ true) × Pures ts
 
-pub sequence_good : (l : Bytes) (ts : List Bytes) → any (is LF) l ≡ false → tags_of l ≡ some ts → OnOk (λ c. GoodContig c) (read_sequence l ts)
+pub sequence_good : (l : Bytes) (ts : List Bytes) → any (is LF) l ≡ false → tags_of l ≡ Some ts → OnOk (λ c. GoodContig c) (read_sequence l ts)
 unfolding read_sequence
 sequence_good l ts n e =
     bind_ok GoodTags (λ c. GoodContig c) (judged verdict ts) contig_of (judged_ok GoodTags verdict ts given) (λ ts h. contig_good ts h.0 h.1)

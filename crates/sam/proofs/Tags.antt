@@ -4,12 +4,13 @@ use native.Mathlib.Omega.{arith}
 use mathlib.Core.Path.{◌≡◌, refl, sym, ap, ap₂, ◌∙◌}
 use mathlib.Core.Bool.{Bool, true, false, not, ◌||◌, ◌&&◌, false≢true}
 use mathlib.Core.List.{List, [], ◌∷◌}
-use mathlib.Core.Option.{none, some}
+use Rattle.std.specs.Prelude.{None, Some}
 use lib.Dec.{eqb, leb}
 use lib.ListN.{length, get_or, drop, take, replicate, length-replicate}
-use borrow.Author.Tests.{le-leb, lt-leb, leb-true, ne_eqb, eqb-true, eqb-false}
+use borrow.Author.Tests.{le-leb, lt-leb, leb-true, eqb-true, eqb-false}
+use Rattle.std.specs.Char.{is_ascii_alphabetic, is_ascii_alphanumeric}
 use Rattle.values.specs.Bytes.{Bytes, is, before, same, TAB}
-use Rattle.values.proofs.Tests.{pass, fail, test, both, and_l, and_r, and_on, and_off, not_true, not_false}
+use Rattle.values.proofs.Tests.{pass, fail, test, both, and_l, and_r, and_on, not_true, not_false}
 use Rattle.values.specs.Bits.{bit_at, set_bit}
 use Rattle.values.proofs.Lists.{there, past, stands, rest}
 use Rattle.values.proofs.Sames.{same_self, differ}
@@ -23,38 +24,21 @@ use Rattle.sam.specs.Lines.{tags_at, name_number, or_nothing, given}
 -- Letters and digits
 
 module _ (b : ℕ) where
-  pub letter_below : b < 65 → false ≡ is_letter b
+  letter_is : is_ascii_alphabetic b ≡ is_letter b
   unfolding is_letter
-  letter_below h = rw (is_letter, lt-leb 65 b h, lt-leb 97 b (omega arith))
+  letter_is = refl
 
-  pub letter_large : 65 ≤ b → b ≤ 90 → true ≡ is_letter b
-  unfolding is_letter
-  letter_large h l = rw (is_letter, le-leb 65 b h, le-leb b 90 l)
-
-  pub letter_between : 90 < b → b < 97 → false ≡ is_letter b
-  unfolding is_letter
-  letter_between h l = rw (is_letter, lt-leb b 90 h, lt-leb 97 b l, and_off (leb 65 b) {b = false} refl)
-
-  pub letter_small : 97 ≤ b → leb b 122 ≡ is_letter b
-  unfolding is_letter
-  letter_small h = rw (is_letter, lt-leb b 90 (omega arith), le-leb 97 b h, and_off (leb 65 b) {b = false} refl)
-
-  module _ {q : Bool} (a : q ≡ is_letter b) where
-    pub is_either : q ≡ true → true ≡ is_letter_or_digit b
-    unfolding is_letter_or_digit
-    is_either e = rw (is_letter_or_digit, ← a, e)
-
-    pub is_neither : q ≡ false → b < 48 → false ≡ is_letter_or_digit b
-    unfolding is_letter_or_digit
-    is_neither e h = rw (is_letter_or_digit, ← a, e, lt-leb 48 b h)
-
-    pub is_digit_lem : q ≡ false → 48 ≤ b → leb b 57 ≡ is_letter_or_digit b
-    unfolding is_letter_or_digit
-    is_digit_lem e h = rw (is_letter_or_digit, ← a, e, le-leb 48 b h)
-
-pub ruleset letters = (letter_below, letter_large, letter_between, letter_small)
-
-pub ruleset characters = (is_either, is_neither, is_digit_lem)
+  letter_or_digit_is : is_ascii_alphanumeric b ≡ is_letter_or_digit b
+  unfolding is_letter_or_digit is_letter
+  letter_or_digit_is = turned (leb 48 b && leb b 57) (leb 65 b && leb b 90) (leb 97 b && leb b 122)
+    where
+      turned : (x y z : Bool) → ((x || y) || z) ≡ ((y || z) || x)
+      turned true true z = refl
+      turned true false true = refl
+      turned true false false = refl
+      turned false true z = refl
+      turned false false true = refl
+      turned false false false = refl
 
 -- One tag
 
@@ -78,17 +62,18 @@ module _ (t : Bytes) (long : 4 ≤ length t) where
       go (a ∷ b ∷ c ∷ []) h = absurd (omega arith)
       go (a ∷ b ∷ c ∷ d ∷ v) h = refl
 
-  pub tag_parted : (get_or t 2 0 ≡ 58 → ⊥) → false ≡ is_tag t
-  tag_parted n = sym (parts ∙ rw (ne_eqb (get_or t 2 0) 58 n, and_off (is_letter_or_digit (get_or t 1 0)) {b = false} refl) (and_off (is_letter (get_or t 0 0)) {b = false} refl))
+  module _ {q : Bool} (a : q ≡ is_ascii_alphabetic (get_or t 0 0)) where
+    pub tag_first : q ≡ false → q ≡ is_tag t
+    tag_first e = sym (parts ∙ rw (← letter_is (get_or t 0 0), ← a, e))
 
-  module _ (m : get_or t 2 0 ≡ 58) {q : Bool} (a : q ≡ is_letter (get_or t 0 0)) where
-    pub tag_first : not q ≡ true → false ≡ is_tag t
-    tag_first e = sym (parts ∙ rw (← a, not_true q e))
+    module _ (e : q ≡ true) {p : Bool} (b : p ≡ is_ascii_alphanumeric (get_or t 1 0)) where
+      pub tag_second : p ≡ false → p ≡ is_tag t
+      tag_second f = sym (parts ∙ rw (← letter_is (get_or t 0 0), ← a, e, ← letter_or_digit_is (get_or t 1 0), ← b, f))
 
-    pub tag_second : not q ≡ false → {p : Bool} → p ≡ is_letter_or_digit (get_or t 1 0) → p ≡ is_tag t
-    tag_second e {p} b = sym (parts ∙ rw (← a, not_false q e, ← b, m) (and_on p))
+      pub tag_third : p ≡ true → eqb (get_or t 2 0) 58 ≡ is_tag t
+      tag_third f = sym (parts ∙ rw (← letter_is (get_or t 0 0), ← a, e, ← letter_or_digit_is (get_or t 1 0), ← b, f))
 
-pub ruleset tag_bytes = (tag_short, tag_parted, tag_first, tag_second)
+pub ruleset tag_bytes = (tag_short, tag_first, tag_second, tag_third)
 
 -- The tags of a line
 
@@ -110,7 +95,7 @@ module _ (l : Bytes) (at : ℕ) {end : ℕ} (a : end ≡ at + length (before (is
   tags_first : (ts : List Bytes) × (tags_at l at ≡ before (is TAB) (drop at l) ∷ ts)
   tags_first = elim (stands l end) [ there h ↦ (tags_at l (end + 1), tags_more h) | past h ↦ ([], tags_last h) ]
 
-pub tagged_hit : (name t : Bytes) (ts : List Bytes) → same (tag_name t) name ≡ true → tagged name (t ∷ ts) ≡ some (tag_value t)
+pub tagged_hit : (name t : Bytes) (ts : List Bytes) → same (tag_name t) name ≡ true → tagged name (t ∷ ts) ≡ Some (tag_value t)
 unfolding tagged
 tagged_hit name t ts e = rw (tagged, e)
 
@@ -141,13 +126,13 @@ module _ {l name : Bytes} {start at : ℕ} (g : Looking l name start at) {end : 
   pub look_found : q ≡ true → {v : Bytes} → v ≡ take (length t - 3) (drop 3 t) → v ≡ or_nothing (tagged name (tags_at l start))
   look_found e f =
       let w = tags_first l at a g.inside in
-      let k : tagged name (tags_at l at) ≡ some (tag_value (before (is TAB) (drop at l))) = rw w.1 (tagged_hit name _ w.0 (named ∙ e)) in
+      let k : tagged name (tags_at l at) ≡ Some (tag_value (before (is TAB) (drop at l))) = rw w.1 (tagged_hit name _ w.0 (named ∙ e)) in
       f ∙ rest t 3 ∙ ap tag_value is_here ∙ ap or_nothing (sym (g.still ∙ k))
 
   pub look_ended : q ≡ false → length l ≤ end → take 0 l ≡ or_nothing (tagged name (tags_at l start))
   unfolding tagged
   look_ended e h =
-      let k : tagged name (tags_at l at) ≡ none = rw (tags_last l at a g.inside h) (tagged_miss name (before (is TAB) (drop at l)) [] (named ∙ e)) in
+      let k : tagged name (tags_at l at) ≡ None = rw (tags_last l at a g.inside h) (tagged_miss name (before (is TAB) (drop at l)) [] (named ∙ e)) in
       ap or_nothing (sym (g.still ∙ k))
 
   pub look_next : q ≡ false → end < length l → Looking l name start (end + 1)
@@ -161,7 +146,7 @@ pub ruleset looks = (look_none, look_all, look_found, look_ended, look_next, tag
 -- Good tags
 
 -- a tag's value has a byte
-tag_full : (t : Bytes) → is_tag t ≡ true → given (tag_value t) ≡ some (tag_value t)
+tag_full : (t : Bytes) → is_tag t ≡ true → given (tag_value t) ≡ Some (tag_value t)
 unfolding is_tag
 tag_full [] h = absurd (false≢true h)
 tag_full (a ∷ []) h = absurd (false≢true h)

@@ -5,7 +5,7 @@ use native.Mathlib.Omega.{arith}
 use mathlib.Core.Path.{◌≡◌, refl, sym, ap, ap₂, subst, ◌∙◌}
 use mathlib.Core.Bool.{Bool, true, false, not}
 use mathlib.Core.List.{List, [], ◌∷◌, ◌++◌, map, map-append}
-use mathlib.Core.Option.{Option, none, some}
+use Rattle.std.specs.Prelude.{Option, None, Some, Ok}
 use lib.Dec.{leb}
 use lib.ListN.{length, drop, take, length-map}
 use lib.Seq.{sets, sets-eq, take-append_seam}
@@ -48,7 +48,6 @@ use Rattle.rules.proofs.House.{lines_fit}
 use Rattle.sam.specs.Tags.{tags_of}
 use Rattle.sam.specs.Contigs.{Contig, read_sequence, ids, add_contig, read_line, Contigs, read_lines, read_contigs, word_of, contig_says, contig_record, contig_line, contig_lines, contigs_fitting}
 use Rattle.sam.specs.Answers.{contigs_number, ContigsMeaning, ContigsCall}
-use Rattle.sam.specs.declared.contigs.ContigsOutcome.TheVariants as outcome
 use Rattle.sam.specs.declared.contigs.ContigsAnswer.{ContigsAnswer}
 use Rattle.sam.specs.Claims.{records, format_line, between, IsColumnLine, FitsBetween}
 use Rattle.sam.proofs.ContigLines.{lines_append}
@@ -60,7 +59,7 @@ abbrev KEY : Bytes
 KEY = ascii "contig"
 
 abbrev fields_of : Bytes → ℕ → Option Bytes → Option Bytes → List Field
-fields_of id n m u = known_fields v4_5 KEY 0 (known contig) (some (word id) ∷ some (number n) ∷ word_of m ∷ word_of u ∷ none ∷ []) ++ other_fields v4_5 KEY []
+fields_of id n m u = known_fields v4_5 KEY 0 (known contig) (Some (word id) ∷ Some (number n) ∷ word_of m ∷ word_of u ∷ None ∷ []) ++ other_fields v4_5 KEY []
 
 -- keys and values, each as a field is written
 abbrev Fits : Bytes × Bytes → Type 0
@@ -103,10 +102,10 @@ good_map id n m u p small = go m u
     URL t h = fits_key (ascii "URL") t refl refl refl refl refl h
 
     go : (m u : Option Bytes) → OnSome (λ t. Pure t) m → OnSome (λ t. Pure t) u → GoodMap v4_5 KEY (fields_of id n m u)
-    go none none a b = made ((ascii "ID", id) ∷ (ascii "length", decimal n) ∷ []) (ID, (size, tt)) (refl, (refl, tt)) refl refl
-    go none (some u) a b = made ((ascii "ID", id) ∷ (ascii "length", decimal n) ∷ (ascii "URL", u) ∷ []) (ID, (size, (URL u b, tt))) (refl, (refl, (refl, tt))) refl refl
-    go (some m) none a b = made ((ascii "ID", id) ∷ (ascii "length", decimal n) ∷ (ascii "md5", m) ∷ []) (ID, (size, (md5 m a, tt))) (refl, (refl, (refl, tt))) refl refl
-    go (some m) (some u) a b =
+    go None None a b = made ((ascii "ID", id) ∷ (ascii "length", decimal n) ∷ []) (ID, (size, tt)) (refl, (refl, tt)) refl refl
+    go None (Some u) a b = made ((ascii "ID", id) ∷ (ascii "length", decimal n) ∷ (ascii "URL", u) ∷ []) (ID, (size, (URL u b, tt))) (refl, (refl, (refl, tt))) refl refl
+    go (Some m) None a b = made ((ascii "ID", id) ∷ (ascii "length", decimal n) ∷ (ascii "md5", m) ∷ []) (ID, (size, (md5 m a, tt))) (refl, (refl, (refl, tt))) refl refl
+    go (Some m) (Some u) a b =
         made ((ascii "ID", id) ∷ (ascii "length", decimal n) ∷ (ascii "md5", m) ∷ (ascii "URL", u) ∷ []) (ID, (size, (md5 m a, (URL u b, tt)))) (refl, (refl, (refl, (refl, tt)))) refl refl
 
 -- its record is one that may be entered
@@ -129,18 +128,18 @@ size_back n h =
 
 -- the known values of a contig line without IDX
 abbrev says : Known → Known → Option Known → Option Known → Saying
-says a b x y = lists 0 (some a ∷ some b ∷ x ∷ y ∷ none ∷ []) []
+says a b x y = lists 0 (Some a ∷ Some b ∷ x ∷ y ∷ None ∷ []) []
 
 alike : {a a' b b' : Known} {x x' y y' : Option Known} → a ≡ a' → b ≡ b' → x ≡ x' → y ≡ y' → says a b x y ≡ says a' b' x' y'
 alike e f g h = rw (e, f, g, h)
 
 says_as : (id : Bytes) (n : ℕ) → n ≤ 2147483647 → (m u : Option Bytes) → saying v4_5 (fields KEY (fields_of id n m u)) ≡ says (word id) (number n) (word_of m) (word_of u)
 unfolding same is_in names_id name_of kind_of known_fields other_fields field_named others saying
-says_as id n small none none = alike (word_back (ascii "ID") refl id) (size_back n small) refl refl
-says_as id n small none (some u) = alike (word_back (ascii "ID") refl id) (size_back n small) refl (ap some (word_back (ascii "URL") refl u))
-says_as id n small (some m) none = alike (word_back (ascii "ID") refl id) (size_back n small) (ap some (word_back (ascii "md5") refl m)) refl
-says_as id n small (some m) (some u) =
-    alike (word_back (ascii "ID") refl id) (size_back n small) (ap some (word_back (ascii "md5") refl m)) (ap some (word_back (ascii "URL") refl u))
+says_as id n small None None = alike (word_back (ascii "ID") refl id) (size_back n small) refl refl
+says_as id n small None (Some u) = alike (word_back (ascii "ID") refl id) (size_back n small) refl (ap Some (word_back (ascii "URL") refl u))
+says_as id n small (Some m) None = alike (word_back (ascii "ID") refl id) (size_back n small) (ap Some (word_back (ascii "md5") refl m)) refl
+says_as id n small (Some m) (Some u) =
+    alike (word_back (ascii "ID") refl id) (size_back n small) (ap Some (word_back (ascii "md5") refl m)) (ap Some (word_back (ascii "URL") refl u))
 
 contig_says_lem : (c : Contig) → GoodContig c → saying v4_5 (contig_record c) ≡ contig_says c
 unfolding contig_record record_of kind_of same
@@ -182,9 +181,9 @@ line_sound : (cs : List Contig) (l : Bytes) → any (is LF) l ≡ false → Soun
 unfolding read_line
 line_sound cs l n s = go (tags_of l) refl
   where
-    go : (x : Option (List Bytes)) → tags_of l ≡ x → OnOk (λ cs. Sound cs) (elim x [ none ↦ ok cs | some ts ↦ read_sequence l ts >>= add_contig cs ])
-    go none e = s
-    go (some ts) e =
+    go : (x : Option (List Bytes)) → tags_of l ≡ x → OnOk (λ cs. Sound cs) (elim x [ None ↦ ok cs | Some ts ↦ read_sequence l ts >>= add_contig cs ])
+    go None e = s
+    go (Some ts) e =
         bind_ok (λ c. GoodContig c) (λ cs. Sound cs) (read_sequence l ts) (add_contig cs) (sequence_good l ts n e)
         (λ c g. judged_ok (λ cs. Sound cs) (unless (not (is_in c.id (ids cs))) 43) (cs ++ c ∷ [])
         (λ z. sound_more cs c s g (not_true (is_in c.id (ids cs)) (zero_unless (not (is_in c.id (ids cs))) 42 z))))
@@ -236,12 +235,12 @@ module _ (lim : Limits) (room : ℕ) {l : Bytes} {c : Columns} (k : IsColumnLine
   whole = ap (λ (ls : List Bytes). write_line format_line ++ write_lines ls) these ∙ ap (write_line format_line ++◌) (lines_append (map (λ (c : Contig). contig_line c) cs) l)
 
   -- it is accepted, with a record for each contig in file order
-  pub contigs_accepted : Accepted v4_5 (records cs) c (reading lim none room (between l (contig_lines cs)))
+  pub contigs_accepted : Accepted v4_5 (records cs) c (reading lim None room (between l (contig_lines cs)))
   contigs_accepted =
       let e = entered_all cs (sound sam).good in
       let n : length (records cs) ≡ length cs = length-map cs (λ (c : Contig). contig_record c) in
-      subst (λ (h : Bytes). Accepted v4_5 (records cs) c (reading lim none room h)) whole
-      (subst (λ (rs : List Record). Accepted v4_5 rs c (reading lim none room (write_lines text))) (tidied_all cs (sound sam).good)
+      subst (λ (h : Bytes). Accepted v4_5 (records cs) c (reading lim None room h)) whole
+      (subst (λ (rs : List Record). Accepted v4_5 rs c (reading lim None room (write_lines text))) (tidied_all cs (sound sam).good)
       (lines_back lim room v4_5 c columns_fine (records cs) (record { major = omega arith; minor = omega arith }) e
       (clear v4_5 [] (map (tidied v4_5) (records cs)) (apart_tidied v4_5 (records cs) (sound sam).apart) (units (map (tidied v4_5) (records cs))))
       (lines_fit lim v4_5 (records cs) c e columns_fine (rw these f.lines)) (rw whole f.header) (rw n f.table)))
@@ -257,7 +256,7 @@ contigs_kept sam = go (read_contigs sam).contigs (sound sam).good
 -- The same of a call
 
 -- an accepted call wrote these lines
-pub lines_written : (sam out : Bytes) {r : ContigsAnswer} {out' : Bytes} → ContigsCall sam out r out' → r.outcome ≡ outcome.Accepted
+pub lines_written : (sam out : Bytes) {r : ContigsAnswer} {out' : Bytes} → ContigsCall sam out r out' → r.outcome ≡ Ok tt
     → take r.length out' ≡ contig_lines (read_contigs sam).contigs
 unfolding contigs_fitting
 lines_written sam out {r} {out'} call a = elim (test (leb (length lines) (length out))) [
@@ -278,6 +277,6 @@ lines_written sam out {r} {out'} call a = elim (test (leb (length lines) (length
 
 -- so that what it wrote is accepted between a fileformat line and a column line
 pub written_accepted : (lim : Limits) (room : ℕ) {l : Bytes} {c : Columns} → IsColumnLine l c → (sam out : Bytes) {r : ContigsAnswer} {out' : Bytes} → ContigsCall sam out r out'
-    → r.outcome ≡ outcome.Accepted → FitsBetween lim room l c (read_contigs sam).contigs
-    → Accepted v4_5 (records (read_contigs sam).contigs) c (reading lim none room (between l (take r.length out')))
+    → r.outcome ≡ Ok tt → FitsBetween lim room l c (read_contigs sam).contigs
+    → Accepted v4_5 (records (read_contigs sam).contigs) c (reading lim None room (between l (take r.length out')))
 written_accepted lim room k sam out call a f = rw (lines_written sam out call a) (contigs_accepted lim room k sam f)

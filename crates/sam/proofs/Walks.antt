@@ -5,7 +5,7 @@ use native.Mathlib.Omega.{arith}
 use mathlib.Core.Path.{◌≡◌, refl, sym, ap, ap₂, subst, ◌∙◌}
 use mathlib.Core.Bool.{Bool, true, false, not, false≢true}
 use mathlib.Core.List.{List, [], ◌∷◌, ◌++◌, append_assoc, append-nil, map-append}
-use mathlib.Core.Option.{none}
+use Rattle.std.specs.Prelude.{None, Result, Ok, Err}
 use lib.ListN.{length, drop, take, length-append, length-drop, take-append-drop}
 use lib.Seq.{take-add, take-append_seam}
 use Rattle.values.specs.Bytes.{Bytes, ascii, same}
@@ -29,9 +29,6 @@ use Rattle.sam.specs.Contigs.{Contig, ids, add_contig, read_line, refused, read_
 use Rattle.sam.specs.Lines.{value_in, contig_in, sequence_means, names, names_in, name_hash, again, Doubted, mark_again, is_repeated, ReadsNamed}
 use Rattle.sam.specs.Answers.{Walks}
 use Rattle.sam.specs.declared.refusal.SamRefusal.{SamRefusal}
-use Rattle.sam.specs.declared.sequence.SequenceRead.{SequenceRead}
-use Rattle.sam.specs.declared.sequence.SequenceRead.TheVariants as read
-use Rattle.sam.specs.declared.contigs.Walked.TheVariants as walked
 use Rattle.sam.proofs.ContigLines.{lines_snoc}
 use Rattle.sam.proofs.Sequences.{tags_stand}
 use Rattle.sam.proofs.Names.{Turn, turn, names_skip, names_more, none_tags, mark_length, mark_kept}
@@ -47,7 +44,7 @@ module _ (n start : ℕ) (cs : List Contig) (p : Bytes) (ps : List Bytes) where
   unfolding read_lines
   lines_taken e = rw (read_lines, e, add-one)
 
-line_skipped : (cs : List Contig) (l : Bytes) → tags_of l ≡ none → read_line cs l ≡ ok cs
+line_skipped : (cs : List Contig) (l : Bytes) → tags_of l ≡ None → read_line cs l ≡ ok cs
 unfolding read_line
 line_skipped cs l e = rw (read_line, e)
 
@@ -56,7 +53,7 @@ abbrev Alike : List Contig → Bytes → List ℕ → List ℕ → Answer Contig
 Alike cs e ds ms y = (y >>= add_contig cs) ≡ ((y >>= λ c. judged (unless (not (is_repeated e ds ms c.id)) 43) c) >>= λ c. ok (cs ++ c ∷ []))
 
 line_added : (cs : List Contig) (l e : Bytes) (ds ms : List ℕ) → is_repeated e ds ms (value_in (ascii "SN") l) ≡ is_in (value_in (ascii "SN") l) (ids cs) → is_some (tags_of l) ≡ true
-    → (r : SequenceRead) (ms' : List ℕ) → ReadsNamed e ds ms l r ms' → read_line cs l ≡ (sequence_means l r >>= λ c. ok (cs ++ c ∷ []))
+    → (r : Result ℕ SamRefusal) (ms' : List ℕ) → ReadsNamed e ds ms l r ms' → read_line cs l ≡ (sequence_means l r >>= λ c. ok (cs ++ c ∷ []))
 unfolding read_line contig_in
 line_added cs l e ds ms same_as t r ms' d =
     rw (read_line, tags_stand l t) (subst (λ (y : Answer Contig). Alike cs e ds ms y) d.alone.1 (go d.alone.0) ∙ ap (λ (y : Answer Contig). y >>= λ c. ok (cs ++ c ∷ [])) (sym d.is))
@@ -65,9 +62,9 @@ line_added cs l e ds ms same_as t r ms' d =
     held true c = refl
     held false c = refl
 
-    go : (s : SequenceRead) → Alike cs e ds ms (sequence_means l s)
-    go (read.Contig n) = rw same_as (held (is_in (value_in (ascii "SN") l) (ids cs)) (contig_in l n))
-    go (read.Refused x) = refl
+    go : (s : Result ℕ SamRefusal) → Alike cs e ds ms (sequence_means l s)
+    go (Ok n) = rw same_as (held (is_in (value_in (ascii "SN") l) (ids cs)) (contig_in l n))
+    go (Err x) = refl
 
 names_append : (ps qs : List Bytes) → names (ps ++ qs) ≡ names ps ++ names qs
 unfolding names
@@ -126,7 +123,7 @@ module _ {sam : Bytes} {ds ms₀ : List ℕ} {out₀ : Bytes} {ms : List ℕ} {o
   pub walk_output : length out ≡ length out₀
   walk_output = g.size
 
-  pub walk_end : length sam ≤ at → Walks sam out₀ (walked.Whole lines contigs next) out
+  pub walk_end : length sam ≤ at → Walks sam out₀ (Ok (lines, contigs, next)) out
   unfolding read_lines
   walk_end h =
       let e : at ≡ length sam = omega (arith, g.inside) in
@@ -167,7 +164,7 @@ module _ {sam : Bytes} {ds ms₀ : List ℕ} {out₀ : Bytes} {ms : List ℕ} {o
       pub walk_skip : q ≡ false → Walking sam ds ms₀ out₀ ms out r.next (lines + 1) contigs next
       unfolding names
       walk_skip e =
-          let z : tags_of (line_of w.piece) ≡ none = none_tags (tags_of (line_of w.piece)) (rw (← w.line) (sym a ∙ e)) in
+          let z : tags_of (line_of w.piece) ≡ None = none_tags (tags_of (line_of w.piece)) (rw (← w.line) (sym a ∙ e)) in
           record {
             inside = f.inside (omega arith);
             few = omega (arith, g.few, f.moves i);
@@ -185,7 +182,7 @@ module _ {sam : Bytes} {ds ms₀ : List ℕ} {out₀ : Bytes} {ms : List ℕ} {o
             text = g.text;
           }
 
-      module _ (e : q ≡ true) {x : Bytes} (c : x ≡ take (at - 0) (drop 0 sam)) {n : SequenceRead} {ms' : List ℕ} (d : ReadsNamed x ds ms t n ms') where
+      module _ (e : q ≡ true) {x : Bytes} (c : x ≡ take (at - 0) (drop 0 sam)) {n : Result ℕ SamRefusal} {ms' : List ℕ} (d : ReadsNamed x ds ms t n ms') where
         sequence : is_some (tags_of (line_of w.piece)) ≡ true
         sequence = rw (← w.line) (sym a ∙ e)
 
@@ -217,13 +214,13 @@ module _ {sam : Bytes} {ds ms₀ : List ℕ} {out₀ : Bytes} {ms : List ℕ} {o
         read_as : read_line g.cs (line_of w.piece) ≡ (sequence_means t n >>= λ c. ok (g.cs ++ c ∷ []))
         read_as = rw (← w.line) (line_added g.cs t x ds ms alike (sym a ∙ e) n ms' d)
 
-        pub walk_stop : {y : SamRefusal} → n ≡ read.Refused y → Walks sam out₀ (walked.Refused y (lines + 1) at) out
+        pub walk_stop : {y : SamRefusal} → n ≡ Err y → Walks sam out₀ (Err (y, lines + 1, at)) out
         walk_stop k = record {
           is = g.whole ∙ ap (read_lines lines at g.cs) w.is ∙ lines_refused lines at g.cs w.piece w.left
-              (read_as ∙ ap (λ (m : SequenceRead). sequence_means t m >>= λ c. ok (g.cs ++ c ∷ [])) k);
+              (read_as ∙ ap (λ (m : Result ℕ SamRefusal). sequence_means t m >>= λ c. ok (g.cs ++ c ∷ [])) k);
         }
 
-        module _ {m : ℕ} (k : n ≡ read.Contig m) where
+        module _ {m : ℕ} (k : n ≡ Ok m) where
           still : (y : Bytes) → is_in y (ids (g.cs ++ contig_in t m ∷ [])) ≡ true → is_met ds (name_hash y) ≡ true → is_met ms' (again y) ≡ true
           unfolding is_in contig_in
           still y j o = rw (d.marks m k) (go (test (is_in y (ids g.cs))))
@@ -248,7 +245,7 @@ module _ {sam : Bytes} {ds ms₀ : List ℕ} {out₀ : Bytes} {ms : List ℕ} {o
             size = puts_length v ∙ g.size;
             cs = g.cs ++ contig_in t m ∷ [];
             count = length-append g.cs (contig_in t m ∷ []) ∙ ap (◌+ 1) g.count;
-            whole = taken (read_as ∙ ap (λ (m : SequenceRead). sequence_means t m >>= λ c. ok (g.cs ++ c ∷ [])) k);
+            whole = taken (read_as ∙ ap (λ (m : Result ℕ SamRefusal). sequence_means t m >>= λ c. ok (g.cs ++ c ∷ [])) k);
             before = g.before ++ w.piece ∷ [];
             stand = stood;
             said = names_append g.before (w.piece ∷ []) ∙ ap (names g.before ++◌) (names_more w.piece [] sequence ∙ rw (← w.line)) ∙ ap (◌++ name ∷ []) g.said

@@ -1,20 +1,16 @@
 -- What a call for the contigs of a SAM header answers. Assumes nothing.
-use Rattle.std.specs.Prelude.{ℕ, ◌≡◌, List, length}
+use Rattle.std.specs.Prelude.{ℕ, ◌≡◌, List, length, Result, Ok, Err, ⊤}
 use Rattle.std.proofs.lemmas.List.Edits.{sets}
 use Rattle.values.specs.Bytes.{Bytes}
 use Rattle.values.specs.Written.{Wrote}
 use Rattle.sam.specs.Contigs.{Contig, Contigs, refused, read_contigs, contig_lines, contigs_fitting}
 use Rattle.sam.specs.Lines.{sam_number}
 use Rattle.sam.specs.declared.refusal.SamRefusal.{SamRefusal}
-use Rattle.sam.specs.declared.contigs.Walked.{Walked}
-use Rattle.sam.specs.declared.contigs.Walked.TheVariants as walked
-use Rattle.sam.specs.declared.contigs.ContigsOutcome.{ContigsOutcome}
-use Rattle.sam.specs.declared.contigs.ContigsOutcome.TheVariants as outcome
 use Rattle.sam.specs.declared.contigs.ContigsAnswer.{ContigsAnswer}
 
-abbrev pub contigs_number : ContigsOutcome → ℕ
-contigs_number outcome.Accepted = 0
-contigs_number (outcome.Refused x) = sam_number x
+abbrev pub contigs_number : Result ⊤ SamRefusal → ℕ
+contigs_number (Ok tt) = 0
+contigs_number (Err x) = sam_number x
 
 -- the number, the place, how many contigs, and how many bytes were written
 pub record ContigsMeaning : Type 0 where
@@ -38,16 +34,16 @@ pub record ContigsCall (sam out : Bytes) (r : ContigsAnswer) (out' : Bytes) : Ty
 -- How the code comes to it
 
 abbrev pub refused_answer : SamRefusal → ℕ → ℕ → ContigsAnswer
-refused_answer x line start = record { outcome = outcome.Refused x; line = line; start = start; contigs = 0; length = 0 }
+refused_answer x line start = record { outcome = Err x; line = line; start = start; contigs = 0; length = 0 }
 
 abbrev pub accepted : ℕ → ℕ → List Contig → Contigs
 accepted n size cs = record { number = 0; line = n; start = size; contigs = cs }
 
 -- all lines were read, and the contigs' were written; or one was refused
-abbrev pub WalkedAs : Bytes → Bytes → Walked → Bytes → Type 0
-WalkedAs sam out (walked.Whole n k next) out' =
+abbrev pub WalkedAs : Bytes → Bytes → Result (ℕ × ℕ × ℕ) (SamRefusal × ℕ × ℕ) → Bytes → Type 0
+WalkedAs sam out (Ok (n, k, next)) out' =
     (cs : List Contig) × (read_contigs sam ≡ accepted n (length sam) cs) × (length cs ≡ k) × Wrote out 0 (contig_lines cs) next out'
-WalkedAs sam out (walked.Refused x line start) out' = read_contigs sam ≡ refused (sam_number x) line start
+WalkedAs sam out (Err (x, line, start)) out' = read_contigs sam ≡ refused (sam_number x) line start
 
-pub record Walks (sam out : Bytes) (r : Walked) (out' : Bytes) : Type 0 where
+pub record Walks (sam out : Bytes) (r : Result (ℕ × ℕ × ℕ) (SamRefusal × ℕ × ℕ)) (out' : Bytes) : Type 0 where
   pub is : WalkedAs sam out r out'

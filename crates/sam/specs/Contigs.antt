@@ -1,11 +1,8 @@
 -- Document 02, §14: the contigs of a SAM header, and the lines that are written of them. Assumes nothing.
-use Rattle.std.specs.Prelude.{ℕ, zero, suc, ◌+◌, true, false, not, List, [], ◌∷◌, ◌++◌, map, leb, length}
-use Rattle.std.proofs.Math.Option.{Option, none, some}
+use Rattle.std.specs.Prelude.{ℕ, zero, suc, ◌+◌, true, false, not, List, [], ◌∷◌, ◌++◌, map, leb, length, Option, None, Some, Bool}
 use Rattle.values.specs.Bytes.{Bytes, ascii}
 use Rattle.values.specs.Utf8.{is_utf8}
 use Rattle.values.specs.Integer.{integer_read}
-use Rattle.values.specs.declared.integer.IntegerRead.{IntegerRead}
-use Rattle.values.specs.declared.integer.IntegerRead.TheVariants as integer
 use Rattle.rules.specs.Answer.{Answer, ok, refuse, ◌>>=◌, unless, first, judged}
 use Rattle.rules.specs.Sizes.{limits}
 use Rattle.rules.specs.Lines.{pieces, line_of, write_lines}
@@ -24,20 +21,20 @@ pub record Contig : Type 0 where
   pub url : Option Bytes
 
 -- LN: decimal digits only, from 1 to 2147483647
-abbrev pub size_from : IntegerRead → Option ℕ
-size_from (integer.Value zero p) = none
-size_from (integer.Value (suc n) p) = some (suc n)
-size_from integer.Refused = none
+abbrev pub size_from : Option (ℕ × Bool) → Option ℕ
+size_from (Some (zero, p)) = None
+size_from (Some (suc n, p)) = Some (suc n)
+size_from None = None
 
 abbrev pub size_read : Option Bytes → Option ℕ
-size_read none = none
-size_read (some t) = size_from (integer_read false 2147483647 t)
+size_read None = None
+size_read (Some t) = size_from (integer_read false 2147483647 t)
 
 -- 42: SN or LN missing or out of range; M5 and UR are optional
 abbrev pub contig_from : Option Bytes → Option ℕ → Option Bytes → Option Bytes → Answer Contig
-contig_from none n m5 ur = refuse 42
-contig_from (some sn) none m5 ur = refuse 42
-contig_from (some sn) (some n) m5 ur = ok (record { id = sn; size = n; md5 = m5; url = ur })
+contig_from None n m5 ur = refuse 42
+contig_from (Some sn) None m5 ur = refuse 42
+contig_from (Some sn) (Some n) m5 ur = ok (record { id = sn; size = n; md5 = m5; url = ur })
 
 unfoldable pub contig_of : List Bytes → Answer Contig
 contig_of ts = contig_from (tagged (ascii "SN") ts) (size_read (tagged (ascii "LN") ts)) (tagged (ascii "M5") ts) (tagged (ascii "UR") ts)
@@ -55,7 +52,7 @@ add_contig cs c = judged (unless (not (is_in c.id (ids cs))) 43) (cs ++ c ∷ []
 
 -- one more line; every line but an `@SQ` line is skipped unread
 unfoldable pub read_line : List Contig → Bytes → Answer (List Contig)
-read_line cs l = elim (tags_of l) [ none ↦ ok cs | some ts ↦ read_sequence l ts >>= add_contig cs ]
+read_line cs l = elim (tags_of l) [ None ↦ ok cs | Some ts ↦ read_sequence l ts >>= add_contig cs ]
 
 -- number, 0 if accepted; line from 1; start; the contigs in file order, none if refused
 pub record Contigs : Type 0 where
@@ -79,12 +76,12 @@ unfoldable pub read_contigs : Bytes → Contigs
 read_contigs sam = read_lines 0 0 [] (pieces sam)
 
 abbrev pub word_of : Option Bytes → Option Known
-word_of none = none
-word_of (some t) = some (word t)
+word_of None = None
+word_of (Some t) = Some (word t)
 
 -- a contig line has ID, length, md5 and URL, and no IDX
 abbrev pub contig_says : Contig → Saying
-contig_says c = lists 0 (some (word c.id) ∷ some (number c.size) ∷ word_of c.md5 ∷ word_of c.url ∷ none ∷ []) []
+contig_says c = lists 0 (Some (word c.id) ∷ Some (number c.size) ∷ word_of c.md5 ∷ word_of c.url ∷ None ∷ []) []
 
 -- in house form
 unfoldable pub contig_record : Contig → Record

@@ -1,12 +1,10 @@
 -- What the code finds in an `@SQ` line and in the lines before it. Bytes by their numbers: `,` 44, `0` 48, `A` 65. Assumes nothing.
-use Rattle.std.specs.Prelude.{ℕ, ◌+◌, ◌-◌, ◌*◌, ◌≡◌, Bool, true, false, not, ◌&&◌, List, [], ◌∷◌, ◌++◌, leb, length, get_or, drop}
-use Rattle.std.proofs.Math.Option.{Option, none, some}
+use Rattle.std.specs.Prelude.{ℕ, ◌+◌, ◌-◌, ◌*◌, ◌≡◌, Bool, true, false, not, ◌&&◌, List, [], ◌∷◌, ◌++◌, leb, length, get_or, drop, Option, None, Some, Result, Ok, Err}
 use Rattle.values.specs.Bytes.{Bytes, ascii}
 use Rattle.values.specs.Integer.{integer_read, decimal}
 use Rattle.values.specs.Field.{written_field}
 use Rattle.values.specs.Hash.{wide_basis, wide_step, wide_from}
 use Rattle.values.specs.Marks.{is_met, meet}
-use Rattle.values.specs.declared.integer.IntegerRead.{IntegerRead}
 use Rattle.rules.specs.Answer.{Answer, ok, refuse, ◌>>=◌, unless, judged}
 use Rattle.rules.specs.Lines.{pieces, line_of}
 use Rattle.rules.specs.Known.{is_in}
@@ -16,8 +14,6 @@ use Rattle.sam.specs.Tags.{tags_of, tagged}
 use Rattle.sam.specs.Contigs.{Contig, read_sequence}
 use Rattle.sam.specs.declared.refusal.SamRefusal.{SamRefusal}
 use Rattle.sam.specs.declared.refusal.SamRefusal.TheVariants.{LineTooLong, InvalidUtf8, InvalidTag, InvalidSequence, DuplicateSequence, OutputTooSmall}
-use Rattle.sam.specs.declared.sequence.SequenceRead.{SequenceRead}
-use Rattle.sam.specs.declared.sequence.SequenceRead.TheVariants as read
 
 -- the number of documents 01 and 02 for each case
 abbrev pub sam_number : SamRefusal → ℕ
@@ -37,33 +33,33 @@ unfoldable pub name_number : Bytes → ℕ
 name_number t = (get_or t 0 0 - 65) * 75 + (get_or t 1 0 - 48)
 
 abbrev pub or_nothing : Option Bytes → Bytes
-or_nothing none = []
-or_nothing (some t) = t
+or_nothing None = []
+or_nothing (Some t) = t
 
 -- a value that is there: a tag's has one byte or more
 abbrev pub given : Bytes → Option Bytes
-given [] = none
-given (b ∷ bs) = some (b ∷ bs)
+given [] = None
+given (b ∷ bs) = Some (b ∷ bs)
 
 -- the value of the tag of this name, no bytes if there is none
 unfoldable pub value_in : Bytes → Bytes → Bytes
 value_in name l = or_nothing (tagged name (tags_at l 4))
 
-unfoldable pub size_in : Bytes → IntegerRead
+unfoldable pub size_in : Bytes → Option (ℕ × Bool)
 size_in l = integer_read false 2147483647 (value_in (ascii "LN") l)
 
 -- the contig of an `@SQ` line whose LN is n
 unfoldable pub contig_in : Bytes → ℕ → Contig
 contig_in l n = record { id = value_in (ascii "SN") l; size = n; md5 = given (value_in (ascii "M5") l); url = given (value_in (ascii "UR") l) }
 
-abbrev pub sequence_means : Bytes → SequenceRead → Answer Contig
-sequence_means l (read.Contig n) = ok (contig_in l n)
-sequence_means l (read.Refused x) = refuse (sam_number x)
+abbrev pub sequence_means : Bytes → Result ℕ SamRefusal → Answer Contig
+sequence_means l (Ok n) = ok (contig_in l n)
+sequence_means l (Err x) = refuse (sam_number x)
 
 -- the SN of each `@SQ` line
 unfoldable pub names : List Bytes → List Bytes
 names [] = []
-names (p ∷ ps) = elim (tags_of (line_of p)) [ none ↦ names ps | some ts ↦ or_nothing (tagged (ascii "SN") ts) ∷ names ps ]
+names (p ∷ ps) = elim (tags_of (line_of p)) [ None ↦ names ps | Some ts ↦ or_nothing (tagged (ascii "SN") ts) ∷ names ps ]
 
 abbrev pub names_in : Bytes → List Bytes
 names_in sam = names (pieces sam)
@@ -98,10 +94,10 @@ unfoldable pub is_repeated : Bytes → List ℕ → List ℕ → Bytes → Bool
 is_repeated earlier ds ms name = is_met ds (name_hash name) && (is_met ms (again name) && is_in name (names_in earlier))
 
 -- an `@SQ` line was read, held against the earlier ones, and its SN was marked
-pub record ReadsNamed (earlier : Bytes) (ds ms : List ℕ) (l : Bytes) (r : SequenceRead) (ms' : List ℕ) : Type 0 where
-  pub alone : (s : SequenceRead) × (sequence_means l s ≡ read_sequence l (tags_at l 4))
+pub record ReadsNamed (earlier : Bytes) (ds ms : List ℕ) (l : Bytes) (r : Result ℕ SamRefusal) (ms' : List ℕ) : Type 0 where
+  pub alone : (s : Result ℕ SamRefusal) × (sequence_means l s ≡ read_sequence l (tags_at l 4))
   pub is : sequence_means l r ≡ (read_sequence l (tags_at l 4) >>= λ c. judged (unless (not (is_repeated earlier ds ms c.id)) 43) c)
-  pub marks : (n : ℕ) → r ≡ read.Contig n → ms' ≡ mark_again ds ms (value_in (ascii "SN") l)
+  pub marks : (n : ℕ) → r ≡ Ok n → ms' ≡ mark_again ds ms (value_in (ascii "SN") l)
 
 -- a contig line up to its length
 unfoldable pub opened_text : Bytes → ℕ → Bytes

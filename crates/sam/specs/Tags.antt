@@ -1,6 +1,5 @@
 -- Document 02, §14: the `@SQ` lines of a SAM header and their tags. Assumes nothing.
-use Rattle.std.specs.Prelude.{ℕ, Bool, true, false, not, ◌||◌, ◌&&◌, List, [], ◌∷◌, leb, take, drop}
-use Rattle.std.proofs.Math.Option.{Option, none, some}
+use Rattle.std.specs.Prelude.{ℕ, Bool, true, false, not, ◌||◌, ◌&&◌, List, [], ◌∷◌, leb, take, drop, Option, None, Some}
 use Rattle.values.specs.Bytes.{Bytes, ascii, is, same}
 use Rattle.values.specs.Integer.{is_digit}
 use Rattle.rules.specs.Map.{is_some}
@@ -37,8 +36,8 @@ tag_value t = drop 3 t
 
 -- the value of the first tag of this name
 unfoldable pub tagged : Bytes → List Bytes → Option Bytes
-tagged name [] = none
-tagged name (t ∷ ts) = elim (same (tag_name t) name) [ true ↦ some (tag_value t) | false ↦ tagged name ts ]
+tagged name [] = None
+tagged name (t ∷ ts) = elim (same (tag_name t) name) [ true ↦ Some (tag_value t) | false ↦ tagged name ts ]
 
 -- each is a tag, and none after it has its name
 unfoldable pub are_tags : List Bytes → Bool

@@ -6,7 +6,6 @@ ghost use Rattle.sam.specs.Lines.{names_in, name_hash, mark_if, doubts_of, mark_
 
 use crate::refusal::SamRefusal;
 use crate::sequence;
-use crate::sequence::SequenceRead;
 use lines::line;
 use values::{bytes, hash, marks};
 
@@ -15,15 +14,14 @@ fn is_among(earlier: &[u8], name: &[u8]) -> bool
     ensures { result ≡ is_in name.now (names_in earlier.now) }
 {
     let mut at: usize = 0;
+    // Kept: no plainer: each line tells where the next one begins.
     while at < earlier.len() {
         let start = at;
         let found = line::next_line(earlier, start);
         let text = bytes::part(earlier, start, found.end);
         at = found.next;
-        if sequence::is_sequence(text) {
-            if bytes::same(sequence::name_of(text), name) {
-                return true;
-            }
+        if sequence::is_sequence(text) && bytes::same(sequence::name_of(text), name) {
+            return true;
         }
     }
     false
@@ -42,26 +40,27 @@ fn is_repeated(earlier: &[u8], doubts: &[u64], marks: &mut [u64], name: &[u8]) -
     ensures marks { marks.new ≡ mark_again doubts.now marks.old name.now }
 {
     let hash = name_hash(name);
-    if !marks::is_met(doubts, hash) {
-        return false;
-    }
-    if !marks::meet_hash(marks, hash::wide_step(hash, 1)) {
-        return false;
-    }
-    is_among(earlier, name)
+    marks::is_met(doubts, hash)
+        && marks::meet_hash(marks, hash::wide_step(hash, 1))
+        && is_among(earlier, name)
 }
 
 // An `@SQ` line beside the lines before it, whose names in doubt are marked.
-pub fn read_named(earlier: &[u8], doubts: &[u64], marks: &mut [u64], line: &[u8]) -> SequenceRead
+pub fn read_named(
+    earlier: &[u8],
+    doubts: &[u64],
+    marks: &mut [u64],
+    line: &[u8],
+) -> Result<u64, SamRefusal>
     ensures { ReadsNamed earlier.now doubts.now marks.old line.now result marks.new }
 {
     match sequence::read_sequence(line) {
-        SequenceRead::Refused(x) => SequenceRead::Refused(x),
-        SequenceRead::Contig(size) => {
+        Err(x) => Err(x),
+        Ok(size) => {
             if is_repeated(earlier, doubts, marks, sequence::name_of(line)) {
-                return SequenceRead::Refused(SamRefusal::DuplicateSequence);
+                return Err(SamRefusal::DuplicateSequence);
             }
-            SequenceRead::Contig(size)
+            Ok(size)
         }
     }
 }
@@ -72,10 +71,9 @@ fn doubt_name(name: &[u8], marks: &mut [u64], doubts: &mut [u64])
     ensures doubts { doubts.new ≡ mark_if (is_met marks.old (name_hash name.now)) doubts.old (name_hash name.now) }
 {
     let hash = name_hash(name);
-    if !marks::meet_hash(marks, hash) {
-        return;
+    if marks::meet_hash(marks, hash) {
+        marks::meet_hash(doubts, hash);
     }
-    marks::meet_hash(doubts, hash);
 }
 
 // Each name that stands twice is put in doubt, and few others.
@@ -83,6 +81,7 @@ pub fn doubt_names(sam: &[u8], marks: &mut [u64], doubts: &mut [u64])
     ensures { doubts.new ≡ doubts_of marks.old doubts.old (names_in sam.now) }
 {
     let mut at: usize = 0;
+    // Kept: no plainer: each line tells where the next one begins.
     while at < sam.len() {
         let start = at;
         let found = line::next_line(sam, start);

@@ -9,18 +9,10 @@ ghost use Rattle.sam.specs.Lines.{tags_at, value_in, size_in, sequence_means};
 use crate::refusal::SamRefusal;
 use crate::tag;
 use entries::limits::Limits;
-use values::integer::IntegerRead;
 use values::{bytes, integer, utf8};
 
 // The largest LN of the SAM specification.
 const LARGEST: u64 = 2147483647;
-
-// The contig of a line by its length; the other values are the line's.
-#[derive(Clone, Copy)]
-pub enum SequenceRead {
-    Contig(u64),
-    Refused(SamRefusal),
-}
 
 // Whether the line's first tab-parted field is `@SQ`.
 pub fn is_sequence(line: &[u8]) -> bool
@@ -40,33 +32,34 @@ pub fn name_of(line: &[u8]) -> &[u8]
 }
 
 // The LN of an `@SQ` line whose tags are good.
-fn read_size(line: &[u8]) -> IntegerRead
+fn read_size(line: &[u8]) -> Option<(u64, bool)>
     ensures { result ≡ size_in line.now }
 {
     integer::integer(tag::find_tag(line, tag::TAGS_START, b"LN"), false, LARGEST)
 }
 
 // An `@SQ` line, apart from those before it.
-pub fn read_sequence(line: &[u8]) -> SequenceRead
+// The contig's length.
+pub fn read_sequence(line: &[u8]) -> Result<u64, SamRefusal>
     ensures { sequence_means line.now result ≡ read_sequence line.now (tags_at line.now 4) }
 {
     if Limits::FIRST.line < line.len() {
-        return SequenceRead::Refused(SamRefusal::LineTooLong);
+        return Err(SamRefusal::LineTooLong);
     }
     if !utf8::utf8(line) {
-        return SequenceRead::Refused(SamRefusal::InvalidUtf8);
+        return Err(SamRefusal::InvalidUtf8);
     }
     if !tag::are_tags(line) {
-        return SequenceRead::Refused(SamRefusal::InvalidTag);
+        return Err(SamRefusal::InvalidTag);
     }
     if name_of(line).len() == 0 {
-        return SequenceRead::Refused(SamRefusal::InvalidSequence);
+        return Err(SamRefusal::InvalidSequence);
     }
-    let IntegerRead::Value(size, _) = read_size(line) else {
-        return SequenceRead::Refused(SamRefusal::InvalidSequence);
+    let Some((size, _)) = read_size(line) else {
+        return Err(SamRefusal::InvalidSequence);
     };
     if size == 0 {
-        return SequenceRead::Refused(SamRefusal::InvalidSequence);
+        return Err(SamRefusal::InvalidSequence);
     }
-    SequenceRead::Contig(size)
+    Ok(size)
 }

@@ -1,53 +1,20 @@
 // The tags of an `@SQ` line, tab-parted, which stand from its fifth byte on.
 ghost use Rattle.std.specs.Prelude.{◌≡◌, true};
-ghost use Rattle.sam.specs.Tags.{is_letter, is_letter_or_digit, is_tag, tagged, are_tags};
+ghost use Rattle.sam.specs.Tags.{is_tag, tagged, are_tags};
 ghost use Rattle.sam.specs.Lines.{or_nothing, tags_at, name_number};
 
 use values::{bits, bytes};
 
 pub const TAGS_START: usize = 4;
 
-fn is_letter(b: u8) -> bool
-    ensures { result ≡ is_letter b }
-{
-    if b < b'A' {
-        return false;
-    }
-    if b <= b'Z' {
-        return true;
-    }
-    if b < b'a' {
-        return false;
-    }
-    b <= b'z'
-}
-
-fn is_letter_or_digit(b: u8) -> bool
-    ensures { result ≡ is_letter_or_digit b }
-{
-    if is_letter(b) {
-        return true;
-    }
-    if b < b'0' {
-        return false;
-    }
-    b <= b'9'
-}
-
 // A letter, a letter or digit, `:` and one byte or more.
 fn is_tag(t: &[u8]) -> bool
     ensures { result ≡ is_tag t.now }
 {
-    if t.len() < 4 {
-        return false;
+    match t {
+        [a, b, c, _, ..] => a.is_ascii_alphabetic() && b.is_ascii_alphanumeric() && *c == b':',
+        _ => false,
     }
-    if t[2] != b':' {
-        return false;
-    }
-    if !is_letter(t[0]) {
-        return false;
-    }
-    is_letter_or_digit(t[1])
 }
 
 // A number of its own for each name that a tag can have, below 58 * 75.
@@ -66,6 +33,7 @@ pub fn find_tag<'a>(line: &'a [u8], start: usize, name: &[u8]) -> &'a [u8]
         return &line[..0];
     }
     let mut at = start;
+    // Kept: a walk by the library's `split` at a tab is some 5 % slower than by `find`, which looks at two bytes in a turn.
     loop {
         let end = bytes::find(line, at, b'\t');
         let tag = bytes::part(line, at, end);
@@ -88,6 +56,7 @@ pub fn are_tags(line: &[u8]) -> bool
     }
     let mut met = [0u64; 68];
     let mut at: usize = TAGS_START;
+    // Kept: as in `find_tag`.
     loop {
         let end = bytes::find(line, at, b'\t');
         let tag = bytes::part(line, at, end);

@@ -1,9 +1,11 @@
 -- A header added to a sheet: what each way of the code answers, and that it is one answer. Assumes nothing.
+use Rattle.season.specs.declared.merge.SeasonRefusal.{SeasonRefusal}
+use Rattle.season.specs.declared.merge.SeasonRefusal.TheVariants as merging
 use Prim.Native.Nat.{ℕ}
 use mathlib.Core.Path.{◌≡◌, refl, sym, ap, ap₂, ◌∙◌}
 use mathlib.Core.Bool.{Bool, true, false, true≢false, false≢true}
 use mathlib.Core.List.{List, []}
-use mathlib.Core.Option.{Option, none}
+use Rattle.std.specs.Prelude.{Option, None, Ok, Err, Result}
 use Rattle.values.specs.Bytes.{Bytes}
 use Rattle.rules.specs.Version.{Version}
 use Rattle.rules.specs.Reading.{Reading}
@@ -15,31 +17,12 @@ use Rattle.entries.specs.declared.form.Form.{Form}
 use Rattle.entries.specs.Tables.{first_entries, entries_in}
 use Rattle.header.proofs.Answers.{answer_injective}
 use Rattle.header.proofs.Callers.{read_refused, read_accepted, read_kept}
-use Rattle.header.specs.declared.parser.Outcome.{Outcome}
-use Rattle.header.specs.declared.parser.Outcome.TheVariants as outcome
 use Rattle.header.specs.declared.parser.ReadAnswer.{ReadAnswer}
 use Rattle.header.specs.Parsers.{AnswerMeaning, read_into, ReadCall}
-use Rattle.season.specs.declared.merge.MergeOutcome.TheVariants as merging
 use Rattle.season.specs.declared.merge.MergeAnswer.{MergeAnswer}
-use Rattle.season.specs.declared.add.AddOutcome.{AddOutcome}
-use Rattle.season.specs.declared.add.AddOutcome.TheVariants as adding
 use Rattle.season.specs.declared.add.AddAnswer.{AddAnswer}
 use Rattle.season.specs.Sheet.{accepted_entries, tally_of, tally, sums, passes}
 use Rattle.season.specs.Answers.{merge_answer, merged_by, merge_outcome, add_number, add_says, is_added, AddMeaning, add_answer_means, add_means_by, AddCall, answer_by}
-
--- what answers the needs of `number`
-pub number_told : (a : AddOutcome) {o : Outcome} → a ≡ adding.Added o → {x : Refusal} → o ≡ outcome.Refused x → {r : ℕ} → r ≡ number x → r ≡ add_number a
-number_told a e f q = q ∙ rw (e, f)
-
--- what answers the needs of `answer`
-module _ (a : ReadAnswer) (m : MergeAnswer) where
-  pub answer_added : m.outcome ≡ merging.Merged → record { outcome = adding.Added a.outcome; line = a.line; start = a.start; entries = a.entries; sheet = m.sheet } ≡ answer_by a m.outcome m.sheet
-  answer_added e = rw e
-
-  pub answer_over : m.outcome ≡ merging.TotalTooLarge → record { outcome = adding.TotalTooLarge; line = 0; start = 0; entries = a.entries; sheet = m.sheet } ≡ answer_by a m.outcome m.sheet
-  answer_over e = rw e
-
-pub ruleset tellings = (answer_added, answer_over)
 
 -- what answers the needs of `add`
 module _ {form : Form} {imposed : Option Version} {h : Bytes} {t₀ : List ℕ} {a : ReadAnswer} {t : List ℕ} (call : ReadCall form imposed h t₀ a t) where
@@ -47,7 +30,7 @@ module _ {form : Form} {imposed : Option Version} {h : Bytes} {t₀ : List ℕ} 
   read = read_into form imposed t₀ h
 
   answers_by : (over : Bool) (s : List ℕ) → add_answer_means (answer_by a (merge_outcome over) (merged_by over s (tally read)).sheet) ≡ add_means_by over s read
-  answers_by true s = ap (λ (x : AnswerMeaning). record { number = 30; line = 0; start = 0; entries = x.entries; accepted = none; added = false; sheet = s }) call.answer
+  answers_by true s = ap (λ (x : AnswerMeaning). record { number = 30; line = 0; start = 0; entries = x.entries; accepted = None; added = false; sheet = s }) call.answer
   answers_by false s = ap (λ (x : AnswerMeaning). record { number = x.number; line = x.line; start = x.start; entries = x.entries; accepted = x.accepted; added = true; sheet = sums s (tally read) }) call.answer
 
   answers : (s : List ℕ) {n : List ℕ} → n ≡ tally read → {m : MergeAnswer} → m ≡ merge_answer s n → {r : AddAnswer} → r ≡ answer_by a m.outcome m.sheet → AddCall form imposed h t₀ s r t
@@ -56,7 +39,7 @@ module _ {form : Form} {imposed : Option Version} {h : Bytes} {t₀ : List ℕ} 
     table = call.table;
   }
 
-  pub add_refused : (s : List ℕ) {x : Refusal} → a.outcome ≡ outcome.Refused x → {n : List ℕ} → n ≡ tally_of (number x) [] → {m : MergeAnswer} → m ≡ merge_answer s n → {r : AddAnswer} → r ≡ answer_by a m.outcome m.sheet → AddCall form imposed h t₀ s r t
+  pub add_refused : (s : List ℕ) {x : Refusal} → a.outcome ≡ Err x → {n : List ℕ} → n ≡ tally_of (number x) [] → {m : MergeAnswer} → m ≡ merge_answer s n → {r : AddAnswer} → r ≡ answer_by a m.outcome m.sheet → AddCall form imposed h t₀ s r t
   add_refused s {x} o e = answers s (e ∙ refused_tally)
     where
       refused_tally : tally_of (number x) [] ≡ tally read
@@ -65,20 +48,20 @@ module _ {form : Form} {imposed : Option Version} {h : Bytes} {t₀ : List ℕ} 
           ap (tally_of (number x)) (sym (ap (λ (i : ℕ). accepted_entries i read.entries) k.1))
           ∙ sym (ap (λ (i : ℕ). tally_of i (accepted_entries i read.entries)) (read_refused call o))
 
-  pub add_accepted : (s : List ℕ) {f : FileFormat} {i : ℕ} → a.outcome ≡ outcome.Accepted f i → {kept : List ℕ} → kept ≡ first_entries form t a.entries → {n : List ℕ} → n ≡ tally_of 0 (entries_in form kept) → {m : MergeAnswer} → m ≡ merge_answer s n → {r : AddAnswer} → r ≡ answer_by a m.outcome m.sheet → AddCall form imposed h t₀ s r t
+  pub add_accepted : (s : List ℕ) {f : FileFormat} {i : ℕ} → a.outcome ≡ Ok (f, i) → {kept : List ℕ} → kept ≡ first_entries form t a.entries → {n : List ℕ} → n ≡ tally_of 0 (entries_in form kept) → {m : MergeAnswer} → m ≡ merge_answer s n → {r : AddAnswer} → r ≡ answer_by a m.outcome m.sheet → AddCall form imposed h t₀ s r t
   add_accepted s o k e = answers s (e ∙ ap (tally_of 0) (read_kept call o k) ∙ sym (ap (λ (i : ℕ). tally_of i (accepted_entries i read.entries)) (read_accepted call o)))
 
 pub ruleset adds = (add_refused, add_accepted)
 
 -- One answer
 
-outcome_one : (x y : AddOutcome) → add_number x ≡ add_number y → add_says x ≡ add_says y → is_added x ≡ is_added y → x ≡ y
-outcome_one (adding.Added o) (adding.Added p) e f g =
+outcome_one : (x y : Result (Result (FileFormat × ℕ) Refusal) SeasonRefusal) → add_number x ≡ add_number y → add_says x ≡ add_says y → is_added x ≡ is_added y → x ≡ y
+outcome_one (Ok o) (Ok p) e f g =
     let a = answer_injective (record { outcome = o; line = 0; start = 0; entries = 0 }) (record { outcome = p; line = 0; start = 0; entries = 0 }) (ap₂ (λ (n : ℕ) (v : Option (Version × ℕ)). record { number = n; line = 0; start = 0; entries = 0; accepted = v }) e f) in
-    ap (λ (x : ReadAnswer). adding.Added x.outcome) a
-outcome_one (adding.Added o) adding.TotalTooLarge e f g = absurd (true≢false g)
-outcome_one adding.TotalTooLarge (adding.Added p) e f g = absurd (false≢true g)
-outcome_one adding.TotalTooLarge adding.TotalTooLarge e f g = refl
+    ap (λ (x : ReadAnswer). Ok x.outcome) a
+outcome_one (Ok o) (Err merging.TotalTooLarge) e f g = absurd (true≢false g)
+outcome_one (Err merging.TotalTooLarge) (Ok p) e f g = absurd (false≢true g)
+outcome_one (Err merging.TotalTooLarge) (Err merging.TotalTooLarge) e f g = refl
 
 -- two answers that tell the same are the same, so what `add` promises is one answer
 pub told_add_injective : (a b : AddAnswer) → add_answer_means a ≡ add_answer_means b → a ≡ b

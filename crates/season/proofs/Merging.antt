@@ -1,5 +1,6 @@
 -- Two sheets as one, a turn of the loop on plain values. Assumes nothing.
-use Prim.Native.Nat.{ℕ, suc, ◌+◌, ◌-◌, ◌^◌, ◌≤◌, ◌<◌}
+use Rattle.std.specs.Prelude.{Option, Some, None, Ok, Err}
+use Prim.Native.Nat.{ℕ, suc, ◌+◌, ◌≤◌, ◌<◌}
 use native.Mathlib.Omega.{arith}
 use mathlib.Core.Path.{◌≡◌, refl, sym, ap, ap₂, ◌∙◌}
 use mathlib.Core.Bool.{Bool, false, ◌||◌}
@@ -7,15 +8,12 @@ use mathlib.Core.List.{List, ◌∷◌, ◌++◌, append-nil}
 use lib.Dec.{ltb}
 use lib.ListN.{length, get_or, set, length-set, drop, replicate, length-replicate}
 use lib.Seq.{sets, sets-eq}
-use borrow.Author.Tests.{lt-ltb, le-ltb}
 use Rattle.values.proofs.Tests.{pass, fail, test, never}
 use Rattle.values.proofs.Lists.{here, drop_past}
 use Rattle.season.specs.Sheet.{sums, passes}
 use Rattle.season.specs.Answers.{total_by, total_of, merge_answer, merged_by}
-use Rattle.season.specs.declared.merge.Total.{Total}
-use Rattle.season.specs.declared.merge.Total.TheVariants as totals
 use Rattle.season.specs.declared.merge.MergeAnswer.{MergeAnswer}
-use Rattle.season.specs.declared.merge.MergeOutcome.TheVariants.{Merged, TotalTooLarge}
+use Rattle.season.specs.declared.merge.SeasonRefusal.TheVariants.{TotalTooLarge}
 use Rattle.season.proofs.Sums.{sums_length}
 
 -- no total before place i passes, and the sums up to there are written
@@ -39,16 +37,6 @@ merge_start {s} {n} l m =
       whole = sets-eq (sums s n) (replicate 39 0) 0 (omega (arith, k, length-replicate {0} {A = ℕ} 39 0)) ∙ ap (sums s n ++◌) (drop_past (replicate 39 0) (0 + length (sums s n)) (omega (arith, k, length-replicate {0} {A = ℕ} 39 0))) ∙ append-nil (sums s n);
     }
 
--- what answers the needs of `total`
-module _ (a b : ℕ) where
-  pub total_over : 18446744073709551615 - a < b → totals.TooLarge ≡ total_of a b
-  total_over h = rw (lt-ltb 18446744073709551615 (a + b) (omega (arith, h)))
-
-  pub total_sum : a < 2 ^ 64 → b ≤ 18446744073709551615 - a → totals.Sum (a + b) ≡ total_of a b
-  total_sum z h = rw (le-ltb 18446744073709551615 (a + b) (omega (arith, z, h)))
-
-pub ruleset totalling = (total_over, total_sum)
-
 module _ {s n xs : List ℕ} {i : ℕ} (g : Merging s n xs i) where
   module _ (l : i < 39) where
     abbrev a : ℕ
@@ -65,18 +53,18 @@ module _ {s n xs : List ℕ} {i : ℕ} (g : Merging s n xs i) where
     unfolding passes
     here_passes e = g.passing ∙ ap passes pairs ∙ ap (◌|| passes (sums (drop (i + 1) s) (drop (i + 1) n))) e
 
-    module _ (r : Total) (e : r ≡ total_of a b) where
-      pub merge_over : r ≡ totals.TooLarge → ◌≡◌ {A = MergeAnswer} (record { outcome = TotalTooLarge; sheet = s }) (merge_answer s n)
+    module _ (r : Option ℕ) (e : r ≡ total_of a b) where
+      pub merge_over : r ≡ None → ◌≡◌ {A = MergeAnswer} (record { outcome = (Err TotalTooLarge); sheet = s }) (merge_answer s n)
       merge_over f = elim (test (ltb 18446744073709551615 (a + b))) [
         | pass q ↦ sym (ap (λ (x : Bool). merged_by x s n) (here_passes q))
-        | fail q ↦ let z : totals.TooLarge ≡ totals.Sum (a + b) = sym f ∙ e ∙ ap (λ (x : Bool). total_by x (a + b)) q in never cc
+        | fail q ↦ let z : None ≡ Some (a + b) = sym f ∙ e ∙ ap (λ (x : Bool). total_by x (a + b)) q in never cc
       ]
 
-      module _ {m : ℕ} (f : r ≡ totals.Sum m) where
+      module _ {m : ℕ} (f : r ≡ Some m) where
         sum_is : (m ≡ a + b) × (ltb 18446744073709551615 (a + b) ≡ false)
         sum_is = elim (test (ltb 18446744073709551615 (a + b))) [
-          | pass q ↦ let z : totals.Sum m ≡ totals.TooLarge = sym f ∙ e ∙ ap (λ (x : Bool). total_by x (a + b)) q in never cc
-          | fail q ↦ let z : totals.Sum m ≡ totals.Sum (a + b) = sym f ∙ e ∙ ap (λ (x : Bool). total_by x (a + b)) q in (cc, q)
+          | pass q ↦ let z : Some m ≡ None = sym f ∙ e ∙ ap (λ (x : Bool). total_by x (a + b)) q in never cc
+          | fail q ↦ let z : Some m ≡ Some (a + b) = sym f ∙ e ∙ ap (λ (x : Bool). total_by x (a + b)) q in (cc, q)
         ]
 
         pub merge_more : Merging s n (set xs i m) (i + 1)
@@ -89,7 +77,7 @@ module _ {s n xs : List ℕ} {i : ℕ} (g : Merging s n xs i) where
           whole = ap (λ (j : ℕ). sets (set xs i m) j (sums (drop (i + 1) s) (drop (i + 1) n))) k ∙ ap (λ (x : ℕ). sets xs i (x ∷ sums (drop (i + 1) s) (drop (i + 1) n))) sum_is.0 ∙ sym (ap (sets xs i) pairs) ∙ g.whole;
         }
 
-  pub merge_end : 39 ≤ i → ◌≡◌ {A = MergeAnswer} (record { outcome = Merged; sheet = xs }) (merge_answer s n)
+  pub merge_end : 39 ≤ i → ◌≡◌ {A = MergeAnswer} (record { outcome = (Ok tt); sheet = xs }) (merge_answer s n)
   unfolding sums passes
   merge_end l =
       let d = drop_past s i (omega (arith, g.long)) in

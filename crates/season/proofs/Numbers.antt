@@ -4,7 +4,7 @@ use native.Mathlib.Omega.{arith}
 use mathlib.Core.Path.{◌≡◌, refl, sym, ap, ap₂, ◌∙◌}
 use mathlib.Core.Bool.{Bool, true, false, not, ◌&&◌, ◌||◌}
 use mathlib.Core.List.{List, [], ◌∷◌, ◌++◌, map, tail}
-use mathlib.Core.Option.{Option, none, some}
+use Rattle.std.specs.Prelude.{Option, None, Some}
 use lib.Dec.{eqb, leb}
 use lib.ListN.{length, take, drop, get_or}
 use lib.Seq.{length-take-le}
@@ -86,8 +86,8 @@ fields_low meta needed bs = elim (test (not needed && (is_empty bs || begins GRE
     closing wrong = omega arith
 
 value_low : (v : Version) (kind : Kind) (t : Bytes) (o : Option KnownField) → value_refusal v kind t o ≤ 27
-value_low v kind t none = omega arith
-value_low v kind t (some r) = misread_low r.reads
+value_low v kind t None = omega arith
+value_low v kind t (Some r) = misread_low r.reads
   where
     misread_low : (x : Reads) → misread v kind t x ≤ 27
     misread_low any_text = omega arith
@@ -147,8 +147,8 @@ value_read_low v k x = elim (test (same k (ascii "fileformat"))) [
 ]
   where
     format : (o : Option Version) → Low (fileformat_read o)
-    format none = omega arith
-    format (some w) = tt
+    format None = omega arith
+    format (Some w) = tt
 
 record_low : (v : Version) (l : Bytes) → Low (read_record v l)
 unfolding read_record read_keyed
@@ -166,9 +166,9 @@ unfolding read_columns
 columns_low l = by (after_columns column_names (split l))
   where
     by : (o : Option (List Bytes)) → Low (formatted o)
-    by none = omega arith
-    by (some []) = tt
-    by (some (x ∷ xs)) = elim (test (same x (ascii "FORMAT"))) [
+    by None = omega arith
+    by (Some []) = tt
+    by (Some (x ∷ xs)) = elim (test (same x (ascii "FORMAT"))) [
       | pass e ↦ rw (formatted, e) (judged_low (unless (distinct xs) 23) (record { format = true; samples = xs }) (unless_low (distinct xs) 23 (omega arith)))
       | fail e ↦ rw (formatted, e) (omega arith)
     ]

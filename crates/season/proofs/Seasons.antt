@@ -1,4 +1,5 @@
 -- Document 02, §1: the sheet of a season is the sums over its headers, in every order and in parts. Assumes nothing.
+use Rattle.std.specs.Prelude.{Ok}
 use Prim.Native.Nat.{ℕ, ◌≤◌}
 use native.Mathlib.Omega.{arith}
 use mathlib.Core.Path.{◌≡◌, refl, sym, ap, ap₂, ◌∙◌}
@@ -11,7 +12,6 @@ use Rattle.header.specs.Parsers.{read_into}
 use Rattle.season.specs.Sheet.{accepted_entries, tally, sums, passes, added_by, after_adding, Given, tally_in, blank, sheet_of, season, added}
 use Rattle.season.specs.Answers.{merge_answer, merged_by, AddMeaning, add_means_by}
 use Rattle.season.specs.Claims.{both_by, IsSheet, given_in, Reordered, nothing, also, exchanged, further, Calls, no_call, one_more}
-use Rattle.season.specs.declared.merge.MergeOutcome.TheVariants.{Merged}
 use Rattle.season.proofs.Sums.{sums_length, sums_comm, sums_assoc, sums_zeros, part_passes}
 use Rattle.season.proofs.Tallies.{tally_length}
 
@@ -119,17 +119,17 @@ merge_both xs ys = by (passes (sums (sheet_of xs) (sheet_of ys))) ∙ ap (λ (n 
   where
     by : (q : Bool) → merged_by q (sheet_of xs) (sheet_of ys) ≡ both_by q xs ys
     by true = refl
-    by false = ap (λ (n : List ℕ). record { outcome = Merged; sheet = n }) (sheet_append xs ys)
+    by false = ap (λ (n : List ℕ). record { outcome = (Ok tt); sheet = n }) (sheet_append xs ys)
 
 -- a season that is added without a 30 may be counted in two parts, and these merged
-pub parts_season : (xs ys : List Given) → added blank (xs ++ ys) ≡ xs ++ ys → merge_answer (season blank xs) (season blank ys) ≡ record { outcome = Merged; sheet = season blank (xs ++ ys) }
+pub parts_season : (xs ys : List Given) → added blank (xs ++ ys) ≡ xs ++ ys → merge_answer (season blank xs) (season blank ys) ≡ record { outcome = (Ok tt); sheet = season blank (xs ++ ys) }
 parts_season xs ys f =
     let z : passes (sheet_of (xs ++ ys)) ≡ false = ap passes (sym (blank_first (xs ++ ys))) ∙ added_fits blank (xs ++ ys) blank_sheet f in
     let n : passes (sums (sheet_of xs) (sheet_of ys)) ≡ false = ap passes (sheet_append xs ys) ∙ z in
     let same = sheet_length xs ∙ sym (sheet_length ys) in
     let a = whole xs (part_passes (sheet_of xs) (sheet_of ys) same n) in
     let b = whole ys (part_passes (sheet_of ys) (sheet_of xs) (sym same) (ap passes (sums_comm (sheet_of ys) (sheet_of xs)) ∙ n)) in
-    ap₂ merge_answer a b ∙ merge_both xs ys ∙ ap (λ (q : Bool). both_by q xs ys) z ∙ ap (λ (s : List ℕ). record { outcome = Merged; sheet = s }) (sym (whole (xs ++ ys) z))
+    ap₂ merge_answer a b ∙ merge_both xs ys ∙ ap (λ (q : Bool). both_by q xs ys) z ∙ ap (λ (s : List ℕ). record { outcome = (Ok tt); sheet = s }) (sym (whole (xs ++ ys) z))
   where
     whole : (zs : List Given) → passes (sheet_of zs) ≡ false → season blank zs ≡ sheet_of zs
     whole zs q = sheet_is_sums zs ∙ ap sheet_of (fits_added blank zs blank_length (ap passes (blank_first zs) ∙ q))

@@ -1,5 +1,5 @@
 -- What one header adds to the totals, by their places. Assumes nothing.
-use Prim.Native.Nat.{ℕ, zero, suc, ◌+◌, ◌-◌, ◌^◌, ◌≤◌, ◌<◌}
+use Prim.Native.Nat.{ℕ, zero, suc, ◌+◌, ◌-◌, ◌≤◌, ◌<◌}
 use native.Mathlib.Omega.{arith}
 use native.Mathlib.Decide.{dec_le, ℕ_discrete}
 use mathlib.Core.Path.{◌≡◌, refl, sym, ap, ◌∙◌}
@@ -114,9 +114,6 @@ module _ {form : Form} {t l : List ℕ} {n : ℕ} (g : Counting form t l n) {m :
     count_high b = passed (λ k c d f. omega (arith, f))
 
     module _ (low : 1 ≤ e.kind) (high : e.kind ≤ 10) where
-      pub count_fits : m < 2 ^ 64 → get_or l (28 + e.kind) 0 + 1 < 2 ^ 64
-      count_fits b = omega (arith, b, g.small e.kind low high)
-
       pub count_more : Counting form t (set l (28 + e.kind) (get_or l (28 + e.kind) 0 + 1)) (n + 1)
       count_more = record {
         long = length-set l (28 + e.kind) (get_or l (28 + e.kind) 0 + 1) ∙ g.long;
@@ -143,7 +140,7 @@ module _ {form : Form} {t l : List ℕ} {n : ℕ} (g : Counting form t l n) {m :
           at_most k b c (yes f) = rw f (omega (arith, same, g.small e.kind low high))
           at_most k b c (no f) = omega (arith, differs k f, g.small k b c)
 
-pub ruleset counts = (count_start, count_end, count_low, count_high, count_fits, count_more)
+pub ruleset counts = (count_start, count_end, count_low, count_high, count_more)
 
 -- What answers the needs of `accepted`
 

@@ -1,6 +1,7 @@
 -- What the calls of a season answer. Assumes nothing.
-use Rattle.std.specs.Prelude.{ℕ, ◌+◌, ◌≤◌, ◌<◌, ◌≡◌, Bool, true, false, List, ltb, length, get_or}
-use Rattle.std.proofs.Math.Option.{Option, none}
+use Rattle.records.specs.declared.file_format.FileFormat.{FileFormat}
+use Rattle.records.specs.declared.refusal.Refusal.{Refusal}
+use Rattle.std.specs.Prelude.{ℕ, ◌+◌, ◌≤◌, ◌<◌, ◌≡◌, Bool, true, false, List, ltb, length, get_or, Option, None, Some, Result, Ok, Err, ⊤}
 use Rattle.values.specs.Bytes.{Bytes}
 use Rattle.rules.specs.Version.{Version}
 use Rattle.rules.specs.Entry.{Entry}
@@ -9,34 +10,30 @@ use Rattle.entries.specs.declared.form.Form.{Form}
 use Rattle.entries.specs.Tables.{stored}
 use Rattle.header.specs.declared.parser.ReadAnswer.{ReadAnswer}
 use Rattle.header.specs.Parsers.{outcome_number, outcome_says, accepted_in, read_into}
-use Rattle.season.specs.declared.merge.MergeOutcome.{MergeOutcome}
-use Rattle.season.specs.declared.merge.MergeOutcome.TheVariants as merging
+use Rattle.season.specs.declared.merge.SeasonRefusal.{SeasonRefusal}
+use Rattle.season.specs.declared.merge.SeasonRefusal.TheVariants as merging
 use Rattle.season.specs.declared.merge.MergeAnswer.{MergeAnswer}
-use Rattle.season.specs.declared.merge.Total.{Total}
-use Rattle.season.specs.declared.merge.Total.TheVariants as totals
-use Rattle.season.specs.declared.add.AddOutcome.{AddOutcome}
-use Rattle.season.specs.declared.add.AddOutcome.TheVariants as adding
 use Rattle.season.specs.declared.add.AddAnswer.{AddAnswer}
 use Rattle.season.specs.Sheet.{of_kind, tally, sums, passes, added_by}
 
 -- Two sheets
 
 -- document 02's number
-abbrev pub merge_number : MergeOutcome → ℕ
-merge_number merging.Merged = 0
-merge_number merging.TotalTooLarge = 30
+abbrev pub merge_number : Result ⊤ SeasonRefusal → ℕ
+merge_number (Ok tt) = 0
+merge_number (Err merging.TotalTooLarge) = 30
 
 -- one total of two, if it is within 64 bits
-abbrev pub total_by : Bool → ℕ → Total
-total_by true n = totals.TooLarge
-total_by false n = totals.Sum n
+abbrev pub total_by : Bool → ℕ → Option ℕ
+total_by true n = None
+total_by false n = Some n
 
-abbrev pub total_of : ℕ → ℕ → Total
+abbrev pub total_of : ℕ → ℕ → Option ℕ
 total_of a b = total_by (ltb 18446744073709551615 (a + b)) (a + b)
 
-abbrev pub merge_outcome : Bool → MergeOutcome
-merge_outcome true = merging.TotalTooLarge
-merge_outcome false = merging.Merged
+abbrev pub merge_outcome : Bool → Result ⊤ SeasonRefusal
+merge_outcome true = Err merging.TotalTooLarge
+merge_outcome false = Ok tt
 
 abbrev pub merged_by : Bool → List ℕ → List ℕ → MergeAnswer
 merged_by over s n = record { outcome = merge_outcome over; sheet = added_by over s n }
@@ -46,17 +43,17 @@ merge_answer s n = merged_by (passes (sums s n)) s n
 
 -- A header
 
-abbrev pub add_number : AddOutcome → ℕ
-add_number (adding.Added o) = outcome_number o
-add_number adding.TotalTooLarge = 30
+abbrev pub add_number : Result (Result (FileFormat × ℕ) Refusal) SeasonRefusal → ℕ
+add_number (Ok o) = outcome_number o
+add_number (Err merging.TotalTooLarge) = 30
 
-abbrev pub add_says : AddOutcome → Option (Version × ℕ)
-add_says (adding.Added o) = outcome_says o
-add_says adding.TotalTooLarge = none
+abbrev pub add_says : Result (Result (FileFormat × ℕ) Refusal) SeasonRefusal → Option (Version × ℕ)
+add_says (Ok o) = outcome_says o
+add_says (Err merging.TotalTooLarge) = None
 
-abbrev pub is_added : AddOutcome → Bool
-is_added (adding.Added o) = true
-is_added adding.TotalTooLarge = false
+abbrev pub is_added : Result (Result (FileFormat × ℕ) Refusal) SeasonRefusal → Bool
+is_added (Ok o) = true
+is_added (Err merging.TotalTooLarge) = false
 
 -- what an answer says: number, place, how many entries, of an accepted header the version in force and the number of samples; whether the
 -- header is added, and the sheet after it
@@ -82,7 +79,7 @@ add_answer_means a = record {
 
 -- 30 if a total would overflow, else the reading's own answer
 abbrev pub add_means_by : Bool → List ℕ → Reading → AddMeaning
-add_means_by true s r = record { number = 30; line = 0; start = 0; entries = length r.entries; accepted = none; added = false; sheet = s }
+add_means_by true s r = record { number = 30; line = 0; start = 0; entries = length r.entries; accepted = None; added = false; sheet = s }
 add_means_by false s r = record {
   number = r.number;
   line = r.line;
@@ -110,6 +107,6 @@ pub record KindsTold (es : List Entry) (l : List ℕ) : Type 0 where
   pub each : (k : ℕ) → 1 ≤ k → k ≤ 10 → get_or l (28 + k) 0 ≡ of_kind k es
 
 -- a reading's answer with the sheet after it
-abbrev pub answer_by : ReadAnswer → MergeOutcome → List ℕ → AddAnswer
-answer_by a merging.Merged s = record { outcome = adding.Added a.outcome; line = a.line; start = a.start; entries = a.entries; sheet = s }
-answer_by a merging.TotalTooLarge s = record { outcome = adding.TotalTooLarge; line = 0; start = 0; entries = a.entries; sheet = s }
+abbrev pub answer_by : ReadAnswer → Result ⊤ SeasonRefusal → List ℕ → AddAnswer
+answer_by a (Ok tt) s = record { outcome = Ok a.outcome; line = a.line; start = a.start; entries = a.entries; sheet = s }
+answer_by a (Err merging.TotalTooLarge) s = record { outcome = Err merging.TotalTooLarge; line = 0; start = 0; entries = a.entries; sheet = s }

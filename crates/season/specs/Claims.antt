@@ -1,13 +1,12 @@
 -- What the theorems say of a season. Assumes nothing.
-use Rattle.std.specs.Prelude.{ℕ, ◌+◌, ◌≡◌, Bool, true, false, List, [], ◌∷◌, ◌++◌, length, take, drop}
-use Rattle.std.proofs.Math.Option.{Option}
+use Rattle.std.specs.Prelude.{ℕ, ◌+◌, ◌≡◌, Bool, true, false, List, [], ◌∷◌, ◌++◌, length, take, drop, Option, Ok, Err}
 use Rattle.values.specs.Bytes.{Bytes}
 use Rattle.rules.specs.Version.{Version}
 use Rattle.entries.specs.declared.form.Form.{Form}
 use Rattle.entries.specs.Values.{limits_by}
 use Rattle.entries.specs.Tables.{room}
 use Rattle.season.specs.declared.merge.MergeAnswer.{MergeAnswer}
-use Rattle.season.specs.declared.merge.MergeOutcome.TheVariants.{Merged, TotalTooLarge}
+use Rattle.season.specs.declared.merge.SeasonRefusal.TheVariants.{TotalTooLarge}
 use Rattle.season.specs.declared.add.AddAnswer.{AddAnswer}
 use Rattle.season.specs.Sheet.{passes, Given, sheet_of}
 use Rattle.season.specs.Answers.{AddCall}
@@ -36,8 +35,8 @@ pub data Calls (s : List ℕ) : List Given → List ℕ → Type 0 where
 
 -- what is merged of the sheets of two lists of headers: the sheet of both, or 30 and the first one as it was
 abbrev pub both_by : Bool → List Given → List Given → MergeAnswer
-both_by true xs ys = record { outcome = TotalTooLarge; sheet = sheet_of xs }
-both_by false xs ys = record { outcome = Merged; sheet = sheet_of (xs ++ ys) }
+both_by true xs ys = record { outcome = (Err TotalTooLarge); sheet = sheet_of xs }
+both_by false xs ys = record { outcome = (Ok tt); sheet = sheet_of (xs ++ ys) }
 
 unfoldable pub total : List ℕ → ℕ
 total [] = 0

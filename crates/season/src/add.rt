@@ -3,33 +3,26 @@ ghost use Rattle.std.specs.Prelude.{◌≡◌};
 ghost use Rattle.header.specs.Verdicts.{imposed_of};
 ghost use Rattle.season.specs.Answers.{add_number, answer_by, AddCall};
 
-use crate::merge::{MergeAnswer, MergeOutcome};
+use crate::merge::{MergeAnswer, SeasonRefusal};
 use crate::{merge, tally};
 use entries::form::Form;
 use entries::table;
-use header::file_format_option::FileFormatOption;
 use header::parser;
 use header::parser::{Outcome, ReadAnswer};
+use records::file_format::FileFormat;
+use records::refusal::Refusal;
 
 // Added: the header's own outcome, accepted or refused.
-#[derive(Clone, Copy)]
-pub enum AddOutcome {
-    Added(Outcome),
-    TotalTooLarge,
-}
+pub type AddOutcome = Result<Outcome, SeasonRefusal>;
 
-impl AddOutcome {
-    // Documents 01's and 02's number; 0 if the header is accepted and added.
-    pub fn number(self) -> u64
-        ensures { result ≡ add_number self }
-    {
-        match self {
-            AddOutcome::Added(outcome) => match outcome {
-                Outcome::Accepted(_, _) => 0,
-                Outcome::Refused(x) => x.number(),
-            },
-            AddOutcome::TotalTooLarge => 30,
-        }
+// Documents 01's and 02's number; 0 if the header is accepted and added.
+pub fn number(outcome: AddOutcome) -> u64
+    ensures { result ≡ add_number outcome }
+{
+    match outcome {
+        Ok(Ok((_, _))) => 0,
+        Ok(Err(x)) => x.number(),
+        Err(SeasonRefusal::TotalTooLarge) => 30,
     }
 }
 
@@ -50,18 +43,18 @@ fn answer(read: ReadAnswer, merged: MergeAnswer) -> AddAnswer
     let sheet = merged.sheet;
     let outcome = merged.outcome;
     match outcome {
-        MergeOutcome::Merged => {
+        Ok(()) => {
             let own = read.outcome;
             AddAnswer {
-                outcome: AddOutcome::Added(own),
+                outcome: Ok(own),
                 line: read.line,
                 start: read.start,
                 entries,
                 sheet,
             }
         }
-        MergeOutcome::TotalTooLarge => AddAnswer {
-            outcome: AddOutcome::TotalTooLarge,
+        Err(SeasonRefusal::TotalTooLarge) => AddAnswer {
+            outcome: Err(SeasonRefusal::TotalTooLarge),
             line: 0,
             start: 0,
             entries,
@@ -73,7 +66,7 @@ fn answer(read: ReadAnswer, merged: MergeAnswer) -> AddAnswer
 // Reads a header into the table, as `read` does, and adds it to the sheet.
 pub fn add(
     header: &[u8],
-    imposed: FileFormatOption,
+    imposed: Option<FileFormat>,
     form: Form,
     table: &mut [u64],
     sheet: [u64; 39],
@@ -83,11 +76,11 @@ pub fn add(
     let read = parser::read(header, imposed, form, table);
     let outcome = read.outcome;
     match outcome {
-        Outcome::Refused(x) => {
+        Err(x) => {
             let tally = tally::refused(x);
             answer(read, merge::merge(sheet, tally))
         }
-        Outcome::Accepted(_, _) => {
+        Ok((_, _)) => {
             let tally = tally::accepted(table::kept(table, form, read.entries), form);
             answer(read, merge::merge(sheet, tally))
         }

@@ -2,21 +2,20 @@
 ghost use Rattle.std.specs.Prelude.{◌≡◌};
 ghost use Rattle.season.specs.Answers.{merge_number, total_of, merge_answer};
 
+pub type MergeOutcome = Result<(), SeasonRefusal>;
+
 #[derive(Clone, Copy)]
-pub enum MergeOutcome {
-    Merged,
+pub enum SeasonRefusal {
     TotalTooLarge,
 }
 
-impl MergeOutcome {
-    // Document 02's number; 0 if the sheets are merged.
-    pub fn number(self) -> u64
-        ensures { result ≡ merge_number self }
-    {
-        match self {
-            MergeOutcome::Merged => 0,
-            MergeOutcome::TotalTooLarge => 30,
-        }
+// Document 02's number; 0 if the sheets are merged.
+pub fn number(outcome: MergeOutcome) -> u64
+    ensures { result ≡ merge_number outcome }
+{
+    match outcome {
+        Ok(()) => 0,
+        Err(SeasonRefusal::TotalTooLarge) => 30,
     }
 }
 
@@ -27,19 +26,13 @@ pub struct MergeAnswer {
     pub sheet: [u64; 39],
 }
 
-#[derive(Clone, Copy)]
-enum Total {
-    Sum(u64),
-    TooLarge,
-}
-
-fn sum_of(a: u64, b: u64) -> Total
+fn sum_of(a: u64, b: u64) -> Option<u64>
     ensures { result ≡ total_of a b }
 {
     if 18446744073709551615 - a < b {
-        return Total::TooLarge;
+        return None;
     }
-    Total::Sum(a + b)
+    Some(a + b)
 }
 
 // Adds the totals of one sheet to those of another.
@@ -47,19 +40,17 @@ pub fn merge(sheet: [u64; 39], other: [u64; 39]) -> MergeAnswer
     ensures { result ≡ merge_answer sheet other }
 {
     let mut sums = [0u64; 39];
-    let mut i = 0;
-    while i < 39 {
-        let Total::Sum(n) = sum_of(sheet[i], other[i]) else {
+    for i in 0..39 {
+        let Some(n) = sum_of(sheet[i], other[i]) else {
             return MergeAnswer {
-                outcome: MergeOutcome::TotalTooLarge,
+                outcome: Err(SeasonRefusal::TotalTooLarge),
                 sheet,
             };
         };
         sums[i] = n;
-        i += 1;
     }
     MergeAnswer {
-        outcome: MergeOutcome::Merged,
+        outcome: Ok(()),
         sheet: sums,
     }
 }

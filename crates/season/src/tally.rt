@@ -14,18 +14,10 @@ fn kinds(kept: &[u64], form: Form) -> [u64; 39]
     ensures { KindsTold (entries_in form kept.now) result }
 {
     let mut tally = [0u64; 39];
-    let count = table::count(kept, form);
-    let mut n = 0;
-    while n < count {
+    for n in 0..table::count(kept, form) {
         let e = table::get(kept, form, n);
-        n += 1;
-        let kind = e.kind;
-        if kind::FILE_FORMAT <= kind {
-            if kind <= kind::SAMPLE {
-                let at = place::ENTRIES + kind as usize;
-                let before = tally[at];
-                tally[at] = before + 1;
-            }
+        if kind::FILE_FORMAT <= e.kind && e.kind <= kind::SAMPLE {
+            tally[place::ENTRIES + e.kind as usize] += 1;
         }
     }
     tally
@@ -48,9 +40,8 @@ pub fn refused(x: Refusal) -> [u64; 39]
     tally[place::READ] = 1;
     let n = x.number();
     // No reading is refused by 28 or 29 (`Numbers.reading_low`).
-    if 27 < n {
-        return tally;
+    if n <= 27 {
+        tally[n as usize + place::REFUSED] = 1;
     }
-    tally[n as usize + place::REFUSED] = 1;
     tally
 }

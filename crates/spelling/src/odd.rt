@@ -12,27 +12,13 @@ use alone::read;
 use alone::read::Alone;
 use entries::entry::Entry;
 use entries::form::Form;
-use entries::shown::EntryRead;
 use entries::{kind, shown, table};
 use records::file_format::FileFormat;
 
-// How the numbers of an entry were spelled.
-#[derive(Clone, Copy)]
-enum Spelling {
-    Plain,
-    Odd,
-    Refused,
-}
+pub type OddOutcome = Result<(), OddRefusal>;
 
 #[derive(Clone, Copy)]
-enum Counted {
-    Count(usize),
-    Refused,
-}
-
-#[derive(Clone, Copy)]
-pub enum OddOutcome {
-    Listed,
+pub enum OddRefusal {
     NotWellFormed,
     ListTooShort,
 }
@@ -44,16 +30,14 @@ pub struct OddAnswer {
     pub listed: usize,
 }
 
-impl OddOutcome {
-    // Document 02's number; 0 if the entries are listed.
-    pub fn number(self) -> u64
-        ensures { result ≡ outcome_number self }
-    {
-        match self {
-            OddOutcome::Listed => 0,
-            OddOutcome::NotWellFormed => 29,
-            OddOutcome::ListTooShort => 31,
-        }
+// Document 02's number; 0 if the entries are listed.
+pub fn number(outcome: OddOutcome) -> u64
+    ensures { result ≡ outcome_number outcome }
+{
+    match outcome {
+        Ok(()) => 0,
+        Err(OddRefusal::NotWellFormed) => 29,
+        Err(OddRefusal::ListTooShort) => 31,
     }
 }
 
@@ -61,41 +45,42 @@ impl OddOutcome {
 fn is_read_again(form: Form, kind: u8) -> bool
     ensures { result ≡ is_read_again (limits_by form).counted kind }
 {
-    if kind::has_id(kind) {
-        return true;
-    }
-    match form {
-        Form::First => false,
-        Form::Second => kind <= kind::OTHER_TEXT,
-    }
+    kind::has_id(kind) || matches!(form, Form::Second) && kind <= kind::OTHER_TEXT
 }
 
 // An entry's line, read again alone.
-fn line_spelling(h: &[u8], form: Form, e: Entry, version: FileFormat) -> Spelling
+// Whether a number of the line is oddly spelled; none where it is not read again as its entry.
+fn line_spelling(h: &[u8], form: Form, e: Entry, version: FileFormat) -> Option<bool>
     ensures { spelling_means result ≡ record_odd (version_of version) (entry_record (limits_by form).counted h.now (version_of version) (entry_of e)) }
 {
     match read::read_entry(h, form, e, version) {
-        Alone::Map(map) => {
+        Some(Alone::Map(map)) => {
             let tally = map.tally;
             if tally.odd {
-                return Spelling::Odd;
+                return Some(true);
             }
-            Spelling::Plain
+            Some(false)
         }
-        Alone::Plain(_) => Spelling::Plain,
-        Alone::Refused => Spelling::Refused,
+        Some(Alone::Plain(_)) => Some(false),
+        None => None,
     }
 }
 
-fn entry_spelling(h: &[u8], table: &[u64], form: Form, n: usize, version: FileFormat) -> Spelling
+fn entry_spelling(
+    h: &[u8],
+    table: &[u64],
+    form: Form,
+    n: usize,
+    version: FileFormat,
+) -> Option<bool>
     ensures { spelling_means result ≡ entry_odd (limits_by form).counted h.now (version_of version)
         (entry_at form h.now table.now n) }
 {
-    let EntryRead::Entry(e) = shown::entry_at(h, table, form, n) else {
-        return Spelling::Refused;
+    let Some(e) = shown::entry_at(h, table, form, n) else {
+        return None;
     };
     if !is_read_again(form, e.kind) {
-        return Spelling::Plain;
+        return Some(false);
     }
     line_spelling(h, form, e, version)
 }
@@ -104,40 +89,33 @@ fn entry_spelling(h: &[u8], table: &[u64], form: Form, n: usize, version: FileFo
 fn put(list: &mut [u64], at: usize, word: u64)
     ensures { list.new ≡ sets list.old at (word ∷ []) }
 {
-    if list.len() <= at {
-        return;
+    if at < list.len() {
+        list[at] = word;
     }
-    list[at] = word;
 }
 
 // Counts the entries that carry an oddly spelled number, and writes their numbers as far as there is room; ends at one that is
 // refused.
-fn walk(h: &[u8], table: &[u64], form: Form, version: FileFormat, list: &mut [u64]) -> Counted
+fn walk(h: &[u8], table: &[u64], form: Form, version: FileFormat, list: &mut [u64]) -> Option<usize>
     ensures { Walks (odd_in form h.now table.now (version_of version)) list.old result list.new }
 {
-    let entries = table::count(table, form);
-    let mut n: usize = 0;
     let mut found: usize = 0;
-    while n < entries {
-        let at = n;
-        n += 1;
-        match entry_spelling(h, table, form, at, version) {
-            Spelling::Refused => return Counted::Refused,
-            Spelling::Plain => {}
-            Spelling::Odd => {
-                put(list, found, at as u64);
-                found += 1;
-            }
+    for n in 0..table::count(table, form) {
+        let Some(odd) = entry_spelling(h, table, form, n, version) else {
+            return None;
+        };
+        if odd {
+            put(list, found, n as u64);
+            found += 1;
         }
     }
-    Counted::Count(found)
+    Some(found)
 }
 
-fn count(h: &[u8], table: &[u64], form: Form, version: FileFormat) -> Counted
+fn count(h: &[u8], table: &[u64], form: Form, version: FileFormat) -> Option<usize>
     ensures { Counts (odd_in form h.now table.now (version_of version)) result }
 {
-    let mut nothing = [0u64; 0];
-    walk(h, table, form, version, &mut nothing)
+    walk(h, table, form, version, &mut [])
 }
 
 // Lists the numbers of the entries that carry an oddly spelled number, in table order. Nothing is written if it is refused.
@@ -152,20 +130,20 @@ pub fn odd_entries(
     ensures list { list.new ≡ odd_list list.old (odd_in form header.now table.now (version_of version)) }
 {
     match count(header, table, form, version) {
-        Counted::Refused => OddAnswer {
-            outcome: OddOutcome::NotWellFormed,
+        None => OddAnswer {
+            outcome: Err(OddRefusal::NotWellFormed),
             listed: 0,
         },
-        Counted::Count(n) => {
+        Some(n) => {
             if list.len() < n {
                 return OddAnswer {
-                    outcome: OddOutcome::ListTooShort,
+                    outcome: Err(OddRefusal::ListTooShort),
                     listed: 0,
                 };
             }
             walk(header, table, form, version, list);
             OddAnswer {
-                outcome: OddOutcome::Listed,
+                outcome: Ok(()),
                 listed: n,
             }
         }

@@ -4,7 +4,7 @@ use native.Mathlib.Omega.{arith}
 use mathlib.Core.Path.{◌≡◌, refl, sym, ap, subst, ◌∙◌}
 use mathlib.Core.Bool.{Bool, true, false, ◌||◌, ◌&&◌, true≢false}
 use mathlib.Core.List.{List, [], ◌∷◌}
-use mathlib.Core.Option.{Option, none, some}
+use Rattle.std.specs.Prelude.{Option, None, Some, Ok}
 use mathlib.Core.Logic.{◌↔◌}
 use lib.Dec.{eqb, leb}
 use lib.ListN.{length, drop, length-take}
@@ -36,36 +36,35 @@ use Rattle.entries.proofs.Calls.{formed, found_at}
 use Rattle.entries.proofs.Words.{Word, Storable, storable_within, unpacked_storable}
 use Rattle.entries.proofs.Stored.{entries_here, entries_count, entry_stored, storable, first_stored, entry_at_first, first_room, stored_room, words_again}
 use Rattle.turning.specs.Turning.{Way, to_first, to_second, target_of, source_of, with_record, raised, turned_entry, turned_if, turned_at, turned_from, turned_in, fits_in, all_fit, outcome_by, outcome_of, turn_outcome}
-use Rattle.turning.specs.declared.turn.TurnOutcome.TheVariants.{Turned}
 use Rattle.turning.proofs.Turns.{parts, turned_count}
 
 -- Lists by their numbers
 
-nth_of : (xs ys : List Entry) (n : ℕ) {x : Entry} → drop n xs ≡ x ∷ ys → nth xs n ≡ some x
+nth_of : (xs ys : List Entry) (n : ℕ) {x : Entry} → drop n xs ≡ x ∷ ys → nth xs n ≡ Some x
 nth_of [] ys zero e = never cc
 nth_of [] ys (suc n) e = never cc
-nth_of (y ∷ xs) ys zero {x} e = let q : y ≡ x = cc in ap some q
+nth_of (y ∷ xs) ys zero {x} e = let q : y ≡ x = cc in ap Some q
 nth_of (y ∷ xs) ys (suc n) e = nth_of xs ys n e
 
-nth_in : (form : Form) (t : List ℕ) (n : ℕ) → n < room form t → nth (entries_in form t) n ≡ some (entry_in form t n)
+nth_in : (form : Form) (t : List ℕ) (n : ℕ) → n < room form t → nth (entries_in form t) n ≡ Some (entry_in form t n)
 nth_in form t n l = nth_of (entries_in form t) (drop (n + 1) (entries_in form t)) n (entries_here form t n l)
 
-nth_there : {A : Type 0} (xs : List A) (n : ℕ) → n < length xs → (x : A) × (nth xs n ≡ some x)
+nth_there : {A : Type 0} (xs : List A) (n : ℕ) → n < length xs → (x : A) × (nth xs n ≡ Some x)
 nth_there [] n l = absurd (omega arith)
 nth_there (x ∷ xs) zero l = (x, refl)
 nth_there (x ∷ xs) (suc n) l = nth_there xs n (omega arith)
 
-nth_low : {A : Type 0} (xs : List A) (n : ℕ) {x : A} → nth xs n ≡ some x → n < length xs
+nth_low : {A : Type 0} (xs : List A) (n : ℕ) {x : A} → nth xs n ≡ Some x → n < length xs
 nth_low [] n e = none_not e
 nth_low (x ∷ xs) zero e = omega arith
 nth_low (x ∷ xs) (suc n) e = let l = nth_low xs n e in omega arith
 
 -- what holds of each number's one holds of all, and of one of them
-all_of : (P : Entry → Type 0) (es : List Entry) → ((n : ℕ) (e : Entry) → nth es n ≡ some e → P e) → All P es
+all_of : (P : Entry → Type 0) (es : List Entry) → ((n : ℕ) (e : Entry) → nth es n ≡ Some e → P e) → All P es
 all_of P [] f = tt
 all_of P (e ∷ es) f = (f 0 e refl, all_of P es (λ n x q. f (suc n) x q))
 
-one_of : (P : Entry → Type 0) (es : List Entry) (n : ℕ) {e : Entry} → All P es → nth es n ≡ some e → P e
+one_of : (P : Entry → Type 0) (es : List Entry) (n : ℕ) {e : Entry} → All P es → nth es n ≡ Some e → P e
 one_of P [] n a h = none_not h
 one_of P (x ∷ es) zero a h = subst P (some_is h) a.0
 one_of P (x ∷ es) (suc n) a h = one_of P es n a.1 h
@@ -76,21 +75,21 @@ module _ (w : Way) (h : Bytes) (s : List ℕ) where
   -- number i of those that were turned, and the entry that it was
   pub record TurnedOne (es : List Entry) (i : ℕ) (n : ℕ) : Type 0 where
     pub was : Entry
-    pub found : entry_at (source_of w) h s n ≡ some was
+    pub found : entry_at (source_of w) h s n ≡ Some was
     pub is : Entry
-    pub turns_so : turned_entry w h was ≡ some is
-    pub there : nth es i ≡ some is
+    pub turns_so : turned_entry w h was ≡ Some is
+    pub there : nth es i ≡ Some is
 
-  one_from : (n k : ℕ) {es : List Entry} → turned_from w h s n k ≡ some es → (i : ℕ) → i < k → TurnedOne es i (n + i)
+  one_from : (n k : ℕ) {es : List Entry} → turned_from w h s n k ≡ Some es → (i : ℕ) → i < k → TurnedOne es i (n + i)
   unfolding turned_from
   one_from n zero e i l = absurd (omega arith)
   one_from n (suc k) {es} e i l = let p = parts (turned_at w h s n) (turned_from w h s (n + 1) k) e in go i l p.0 p.1 p.2 (λ j m. one_from (n + 1) k p.3 j m) p.4
     where
-      here : (o : Option Entry) {x : Entry} → turned_if w h o ≡ some x → (y : Entry) × (o ≡ some y) × (turned_entry w h y ≡ some x)
-      here none e = none_not e
-      here (some y) e = (y, refl, e)
+      here : (o : Option Entry) {x : Entry} → turned_if w h o ≡ Some x → (y : Entry) × (o ≡ Some y) × (turned_entry w h y ≡ Some x)
+      here None e = none_not e
+      here (Some y) e = (y, refl, e)
 
-      go : (i : ℕ) → i < suc k → (x : Entry) (fs : List Entry) → turned_at w h s n ≡ some x → ((j : ℕ) → j < k → TurnedOne fs j (n + 1 + j)) → es ≡ x ∷ fs → TurnedOne es i (n + i)
+      go : (i : ℕ) → i < suc k → (x : Entry) (fs : List Entry) → turned_at w h s n ≡ Some x → ((j : ℕ) → j < k → TurnedOne fs j (n + 1 + j)) → es ≡ x ∷ fs → TurnedOne es i (n + i)
       go zero l x fs a b c =
           let q = here (entry_at (source_of w) h s n) a in
           let z : n + 0 ≡ n = omega arith in
@@ -100,10 +99,10 @@ module _ (w : Way) (h : Bytes) (s : List ℕ) where
           let z : n + suc j ≡ n + 1 + j = omega arith in
           rw z (record { was = r.was; found = r.found; is = r.is; turns_so = r.turns_so; there = ap (λ (y : List Entry). nth y (suc j)) c ∙ r.there })
 
-  turned_one : {es : List Entry} → turned_in w h s ≡ some es → (n : ℕ) → n < room (source_of w) s → TurnedOne es n n
+  turned_one : {es : List Entry} → turned_in w h s ≡ Some es → (n : ℕ) → n < room (source_of w) s → TurnedOne es n n
   turned_one {es} e n l = let z : 0 + n ≡ n = omega arith in subst (TurnedOne es n) z (one_from 0 (room (source_of w) s) e n l)
 
-  all_from : (n k : ℕ) → ((i : ℕ) → n ≤ i → i < n + k → (e : Entry) × (turned_at w h s i ≡ some e)) → (es : List Entry) × (turned_from w h s n k ≡ some es)
+  all_from : (n k : ℕ) → ((i : ℕ) → n ≤ i → i < n + k → (e : Entry) × (turned_at w h s i ≡ Some e)) → (es : List Entry) × (turned_from w h s n k ≡ Some es)
   unfolding turned_from
   all_from n zero f = ([], refl)
   all_from n (suc k) f =
@@ -111,25 +110,25 @@ module _ (w : Way) (h : Bytes) (s : List ℕ) where
       let r = all_from (n + 1) k (λ i a b. f i (omega arith) (omega arith)) in
       (x.0 ∷ r.0, rw (x.1, r.1))
 
-  turned_all : ((i : ℕ) → i < room (source_of w) s → (e : Entry) × (turned_at w h s i ≡ some e)) → (es : List Entry) × (turned_in w h s ≡ some es)
+  turned_all : ((i : ℕ) → i < room (source_of w) s → (e : Entry) × (turned_at w h s i ≡ Some e)) → (es : List Entry) × (turned_in w h s ≡ Some es)
   turned_all f = all_from 0 (room (source_of w) s) (λ i a b. f i (omega arith))
 
 -- An entry that is turned stays well formed, and all but its counts stays
 
 -- a line that was read alone
-read_so : (v : Version) (kind : ℕ) (l : Bytes) {r : Record} → read_alone v kind l ≡ some r → (read_record v l ≡ ok r) × (record_kind r ≡ kind)
+read_so : (v : Version) (kind : ℕ) (l : Bytes) {r : Record} → read_alone v kind l ≡ Some r → (read_record v l ≡ ok r) × (record_kind r ≡ kind)
 unfolding read_alone
 read_so v kind l {r} e = go (is_utf8 l) e
   where
-    by_kind_lem : (x : Record) (b : Bool) → eqb (record_kind x) kind ≡ b → elim b [ true ↦ some x | false ↦ none ] ≡ some r → (x ≡ r) × (record_kind r ≡ kind)
+    by_kind_lem : (x : Record) (b : Bool) → eqb (record_kind x) kind ≡ b → elim b [ true ↦ Some x | false ↦ None ] ≡ Some r → (x ≡ r) × (record_kind r ≡ kind)
     by_kind_lem x true k e = let q = some_is e in (q, ap record_kind (sym q) ∙ eqb-true (record_kind x) kind k)
     by_kind_lem x false k e = none_not e
 
-    go_read : (a : Answer Record) → of_kind kind a ≡ some r → (a ≡ ok r) × (record_kind r ≡ kind)
+    go_read : (a : Answer Record) → of_kind kind a ≡ Some r → (a ≡ ok r) × (record_kind r ≡ kind)
     go_read (refuse n) e = none_not e
     go_read (ok x) e = let q = by_kind_lem x (eqb (record_kind x) kind) refl e in (ap ok q.0, q.1)
 
-    go : (b : Bool) → elim b [ true ↦ of_kind kind (read_record v l) | false ↦ none ] ≡ some r → (read_record v l ≡ ok r) × (record_kind r ≡ kind)
+    go : (b : Bool) → elim b [ true ↦ of_kind kind (read_record v l) | false ↦ None ] ≡ Some r → (read_record v l ≡ ok r) × (record_kind r ≡ kind)
     go true e = go_read (read_record v l) e
     go false e = none_not e
 
@@ -156,14 +155,14 @@ without w e = record { counts = no_counts; is = refl; key = omega arith; field =
     or-true true = refl
     or-true false = refl
 
-kept : (w : Way) (h : Bytes) (e : Entry) {x : Entry} → turned_entry w h e ≡ some x → Kept w e x
+kept : (w : Way) (h : Bytes) (e : Entry) {x : Entry} → turned_entry w h e ≡ Some x → Kept w e x
 unfolding raised counts_of counts_in_place line_in
 kept to_first h e {x} q = subst (Kept to_first e) (some_is q) (without to_first e)
 kept (to_second v) h e {x} q = go (leb e.kind 8) refl q
   where
-    counted : leb e.kind 8 ≡ true → (o : Option Record) → read_alone (v) e.kind (line_in h e) ≡ o → with_record e o ≡ some x → Kept (to_second v) e x
-    counted low none a q = none_not q
-    counted low (some r) a q =
+    counted : leb e.kind 8 ≡ true → (o : Option Record) → read_alone (v) e.kind (line_in h e) ≡ o → with_record e o ≡ Some x → Kept (to_second v) e x
+    counted low None a q = none_not q
+    counted low (Some r) a q =
         let s = read_so (v) e.kind (line_in h e) a in
         let k = (line_key (v) (line_in h e) r s.0).1 in
         let n = line_fields (v) (line_in h e) r s.0 in
@@ -177,7 +176,7 @@ kept (to_second v) h e {x} q = go (leb e.kind 8) refl q
           placed = rw (low, ← s.1) (few_fields r);
         }
 
-    go : (b : Bool) → leb e.kind 8 ≡ b → elim b [ true ↦ with_record e (read_alone (v) e.kind (line_in h e)) | false ↦ some (with_counts no_counts e) ] ≡ some x → Kept (to_second v) e x
+    go : (b : Bool) → leb e.kind 8 ≡ b → elim b [ true ↦ with_record e (read_alone (v) e.kind (line_in h e)) | false ↦ Some (with_counts no_counts e) ] ≡ Some x → Kept (to_second v) e x
     go true low q = counted low (read_alone (v) e.kind (line_in h e)) refl q
     go false low q = subst (Kept (to_second v) e) (some_is q) (without (to_second v) e)
 
@@ -241,26 +240,26 @@ all_within form (e ∷ es) = let r = all_within form es in (
 -- One law over both ways: the calls find the entries that were turned, number by number
 
 pub record IsTurned (w : Way) (h : Bytes) (s t : List ℕ) (es : List Entry) : Type 0 where
-  pub all : turned_in w h s ≡ some es
+  pub all : turned_in w h s ≡ Some es
   pub fits_all : All (Within (target_of w)) es
   pub roomy : room (source_of w) s ≤ room (target_of w) t
 
-pub is_turned : (w : Way) (h : Bytes) (s t : List ℕ) → turn_outcome w h s t ≡ Turned → (es : List Entry) × IsTurned w h s t es
+pub is_turned : (w : Way) (h : Bytes) (s t : List ℕ) → turn_outcome w h s t ≡ Ok tt → (es : List Entry) × IsTurned w h s t es
 is_turned w h s t e = go (turned_in w h s) refl e
   where
-    both_true : (x y : Bool) → outcome_by x y ≡ Turned → (x ≡ true) × (y ≡ true)
+    both_true : (x y : Bool) → outcome_by x y ≡ Ok tt → (x ≡ true) × (y ≡ true)
     both_true false y e = never cc
     both_true true false e = never cc
     both_true true true e = (refl, refl)
 
-    go : (o : Option (List Entry)) → turned_in w h s ≡ o → outcome_of (target_of w) t o ≡ Turned → (es : List Entry) × IsTurned w h s t es
-    go none q e = never cc
-    go (some es) q e =
+    go : (o : Option (List Entry)) → turned_in w h s ≡ o → outcome_of (target_of w) t o ≡ Ok tt → (es : List Entry) × IsTurned w h s t es
+    go None q e = never cc
+    go (Some es) q e =
         let p = both_true (all_fit (target_of w) es) (leb (length es) (room (target_of w) t)) e in
         let l = leb-true (length es) (room (target_of w) t) p.1 in
         (es, record { all = q; fits_all = (all_within (target_of w) es).0 p.0; roomy = rw (← turned_count w h s 0 (room (source_of w) s) q) l })
 
-pub turns : {w : Way} {h : Bytes} {s t : List ℕ} {es : List Entry} → IsTurned w h s t es → turn_outcome w h s t ≡ Turned
+pub turns : {w : Way} {h : Bytes} {s t : List ℕ} {es : List Entry} → IsTurned w h s t es → turn_outcome w h s t ≡ Ok tt
 turns {w} {h} {s} {t} {es} i = rw (i.all, (all_within (target_of w) es).1 i.fits_all, le-leb (length es) (room (target_of w) t) (rw (turned_count w h s 0 (room (source_of w) s) i.all) i.roomy))
 
 module _ {w : Way} {h : Bytes} {s t : List ℕ} {es : List Entry} (i : IsTurned w h s t es) where
@@ -292,11 +291,11 @@ module _ {w : Way} {h : Bytes} {s t : List ℕ} {es : List Entry} (i : IsTurned 
         rw k.is (storable_within to (with_counts k.counts one.was) f.high f.tag x.start x.length x.offset x.id_length (omega (arith, k.key, d)) (omega (arith, k.field, d)) k.uncounted)
 
     -- the entry that is found there is the one that was found here, but for its counts
-    pub turned_found : (e : Entry) × (c : Counts) × (entry_at from h s n ≡ some e) × (entry_at to h (stored to t 0 es) n ≡ some (with_counts c e))
+    pub turned_found : (e : Entry) × (c : Counts) × (entry_at from h s n ≡ Some e) × (entry_at to h (stored to t 0 es) n ≡ Some (with_counts c e))
     turned_found =
         let k = stays in
         let f = still_formed (length h) k.counts one.was k.placed well in
-        (one.was, k.counts, one.found, entry_stored to t es n (omega (arith, many, i.roomy)) (one.there ∙ ap some k.is) h (subst (Storable to) k.is turned_storable) f)
+        (one.was, k.counts, one.found, entry_stored to t es n (omega (arith, many, i.roomy)) (one.there ∙ ap Some k.is) h (subst (Storable to) k.is turned_storable) f)
 
     -- so the entry call and the ID call show the same
     pub turned_shows : (entry_part (entry_at to h (stored to t 0 es) n) ≡ entry_part (entry_at from h s n)) × (id_part (entry_at to h (stored to t 0 es) n) ≡ id_part (entry_at from h s n))
@@ -309,7 +308,7 @@ held_within ws =
     let s = unpacked_storable First ws in
     record { start = omega (arith, s.one.1.0); length = omega (arith, s.one.1.1.0); offset = omega (arith, s.two.0); id_length = omega (arith, s.two.1.0) }
 
-second_fits : (v : Version) (h : Bytes) (s : List ℕ) {es : List Entry} → turned_in (to_second v) h s ≡ some es → All (Within Second) es
+second_fits : (v : Version) (h : Bytes) (s : List ℕ) {es : List Entry} → turned_in (to_second v) h s ≡ Some es → All (Within Second) es
 unfolding entry_in
 second_fits v h s {es} a = all_of (Within Second) es (λ n e q.
     let l : n < room First s = rw (← turned_count (to_second v) h s 0 (room First s) a) (nth_low es n q) in
@@ -319,23 +318,23 @@ second_fits v h s {es} a = all_of (Within Second) es (λ n e q.
     let same : e ≡ with_counts k.counts o.was = some_is (sym q ∙ o.there) ∙ k.is in
     rw same (record { start = omega (arith, w.start); length = omega (arith, w.length); offset = omega (arith, w.offset); id_length = omega (arith, w.id_length) }))
 
-pub to_second_turns : {v : Version} {h : Bytes} {s t : List ℕ} {es : List Entry} → turned_in (to_second v) h s ≡ some es → room First s ≤ room Second t → IsTurned (to_second v) h s t es
+pub to_second_turns : {v : Version} {h : Bytes} {s t : List ℕ} {es : List Entry} → turned_in (to_second v) h s ≡ Some es → room First s ≤ room Second t → IsTurned (to_second v) h s t es
 to_second_turns {v} {h} {s} a l = record { all = a; fits_all = second_fits v h s a; roomy = l }
 
 -- which it does for the entries of an accepted header under its version
 
 -- a line that reads as its record
-again_raised : (h : Bytes) (v : Version) (e : Entry) {r : Record} → entry_record false h v e ≡ some r → (x : Entry) × (raised h v e ≡ some x)
+again_raised : (h : Bytes) (v : Version) (e : Entry) {r : Record} → entry_record false h v e ≡ Some r → (x : Entry) × (raised h v e ≡ Some x)
 unfolding entry_record raised
 again_raised h v e {r} q = go (leb e.kind 8) (read_alone v e.kind (line_in h e)) q
   where
-    go : (b : Bool) (o : Option Record) → counted_as false e o ≡ some r → (x : Entry) × (elim b [ true ↦ with_record e o | false ↦ some (with_counts no_counts e) ] ≡ some x)
+    go : (b : Bool) (o : Option Record) → counted_as false e o ≡ Some r → (x : Entry) × (elim b [ true ↦ with_record e o | false ↦ Some (with_counts no_counts e) ] ≡ Some x)
     go false o q = (with_counts no_counts e, refl)
-    go true none q = none_not q
-    go true (some y) q = (with_counts (counts_of true y) e, refl)
+    go true None q = none_not q
+    go true (Some y) q = (with_counts (counts_of true y) e, refl)
 
 -- kinds 9 and 10 are not read
-plain_raised : (h : Bytes) (v : Version) (e : Entry) → leb e.kind 8 ≡ false → (x : Entry) × (raised h v e ≡ some x)
+plain_raised : (h : Bytes) (v : Version) (e : Entry) → leb e.kind 8 ≡ false → (x : Entry) × (raised h v e ≡ Some x)
 unfolding raised
 plain_raised h v e q = (with_counts no_counts e, rw (raised, q))
 
@@ -346,7 +345,7 @@ module _ (imposed : Option Version) (sized : SizedOption imposed) (size : ℕ) (
   same_kind : {kind : ℕ} {x : Bytes} {e : Entry} → ShowsPlain h kind x e → leb kind 8 ≡ false → leb e.kind 8 ≡ false
   same_kind s q = ap (λ (k : ℕ). leb k 8) s.is_kind ∙ q
 
-  each_raised : (n : ℕ) → n < length read → (e : Entry) × (nth read n ≡ some e) × (x : Entry) × (raised h v e ≡ some x)
+  each_raised : (n : ℕ) → n < length read → (e : Entry) × (nth read n ≡ Some e) × (x : Entry) × (raised h v e ≡ Some x)
   each_raised zero l = let t = format_tells (limits_by First) imposed sized size h a v in let g = again_raised h v t.0 t.2.again in (t.0, t.1, g.0, g.1)
   each_raised (suc i) l = elim (test (leb (suc i) (length rs))) [
     | pass m ↦
@@ -357,22 +356,22 @@ module _ (imposed : Option Version) (sized : SizedOption imposed) (size : ℕ) (
     | fail m ↦ let k = leb-false (suc i) (length rs) m in after i l (omega (arith, k))
   ]
     where
-      after : (i : ℕ) → suc i < length read → length rs ≤ i → (e : Entry) × (nth read (suc i) ≡ some e) × (x : Entry) × (raised h v e ≡ some x)
+      after : (i : ℕ) → suc i < length read → length rs ≤ i → (e : Entry) × (nth read (suc i) ≡ Some e) × (x : Entry) × (raised h v e ≡ Some x)
       after i l m = go (i - length rs) refl
         where
-          go : (j : ℕ) → i - length rs ≡ j → (e : Entry) × (nth read (suc i) ≡ some e) × (x : Entry) × (raised h v e ≡ some x)
+          go : (j : ℕ) → i - length rs ≡ j → (e : Entry) × (nth read (suc i) ≡ Some e) × (x : Entry) × (raised h v e ≡ Some x)
           go zero q =
               let s = column_shows (limits_by First) imposed sized size h a in
               let z : suc (length rs) ≡ suc i = omega (arith, m, q) in
               let g = plain_raised h v s.entry (same_kind s.shows refl) in
-              (s.entry, subst (λ (n : ℕ). nth read n ≡ some s.entry) z s.is, g.0, g.1)
+              (s.entry, subst (λ (n : ℕ). nth read n ≡ Some s.entry) z s.is, g.0, g.1)
           go (suc j) q =
               let k = entry_count (limits_by First) imposed sized size h a in
               let x = nth_there c.samples j (omega (arith, l, m, q, k)) in
               let s = sample_shows (limits_by First) imposed sized size h a j x.1 in
               let z : suc (length rs) + suc j ≡ suc i = omega (arith, m, q) in
               let g = plain_raised h v s.entry (same_kind s.shows refl) in
-              (s.entry, subst (λ (n : ℕ). nth read n ≡ some s.entry) z s.is, g.0, g.1)
+              (s.entry, subst (λ (n : ℕ). nth read n ≡ Some s.entry) z s.is, g.0, g.1)
 
   -- the part of a table that holds them
   module _ (t : List ℕ) (l : length read ≤ room First t) where
@@ -382,12 +381,12 @@ module _ (imposed : Option Version) (sized : SizedOption imposed) (size : ℕ) (
     held_room : room First held ≡ length read
     held_room = first_room First (stored First t 0 read) (length read) (rw (stored_room First t 0 read) l)
 
-    held_turned : (n : ℕ) → n < room First held → (x : Entry) × (turned_at (to_second v) h held n ≡ some x)
+    held_turned : (n : ℕ) → n < room First held → (x : Entry) × (turned_at (to_second v) h held n ≡ Some x)
     held_turned n m =
         let k : n < length read = rw held_room at m in
         let d = each_raised n k in
         let st = one_of (Stands (limits_by First) (length h)) read n (reading_stands (limits_by First) h imposed size) d.1 in
-        let found : entry_at First h held n ≡ some d.0 =
+        let found : entry_at First h held n ≡ Some d.0 =
         entry_at_first First h (stored First t 0 read) (length read) n (rw (stored_room First t 0 read) l) k
         ∙ entry_stored First t read n l d.1 h (storable First (accepted_short (limits_by First) imposed size h a.number) d.0 st) st.formed
         in
@@ -409,7 +408,7 @@ unfoldable pub uncounted : List Entry → List Entry
 uncounted [] = []
 uncounted (e ∷ es) = with_counts no_counts e ∷ uncounted es
 
-pub to_first_turns : (h : Bytes) (s t : List ℕ) {es : List Entry} → turned_in to_first h s ≡ some es → room Second s ≤ room First t → (turn_outcome to_first h s t ≡ Turned) ↔ All FitsFirst es
+pub to_first_turns : (h : Bytes) (s t : List ℕ) {es : List Entry} → turned_in to_first h s ≡ Some es → room Second s ≤ room First t → (turn_outcome to_first h s t ≡ Ok tt) ↔ All FitsFirst es
 to_first_turns h s t {es} a l = (
   (λ e. let i = is_turned to_first h s t e in
       let same : i.0 ≡ es = some_is (sym i.1.all ∙ a) in
@@ -422,14 +421,14 @@ to_first_turns h s t {es} a l = (
 )
 
 -- and what is turned so are the entries, without their counts
-lowered_from : (h : Bytes) (s : List ℕ) (n k : ℕ) → ((i : ℕ) → n ≤ i → i < n + k → (e : Entry) × (entry_at Second h s i ≡ some e)) → turned_from to_first h s n k ≡ some (uncounted (entries_from Second s n k))
+lowered_from : (h : Bytes) (s : List ℕ) (n k : ℕ) → ((i : ℕ) → n ≤ i → i < n + k → (e : Entry) × (entry_at Second h s i ≡ Some e)) → turned_from to_first h s n k ≡ Some (uncounted (entries_from Second s n k))
 unfolding turned_from entries_from uncounted
 lowered_from h s n zero f = refl
 lowered_from h s n (suc k) f =
     let d = f n (omega arith) (omega arith) in
     rw (d.1, lowered_from h s (n + 1) k (λ i a b. f i (omega arith) (omega arith)), (found_at Second h s n d.1).held)
 
-pub lowered : (h : Bytes) (s : List ℕ) → ((n : ℕ) → n < room Second s → (e : Entry) × (entry_at Second h s n ≡ some e)) → turned_in to_first h s ≡ some (uncounted (entries_in Second s))
+pub lowered : (h : Bytes) (s : List ℕ) → ((n : ℕ) → n < room Second s → (e : Entry) × (entry_at Second h s n ≡ Some e)) → turned_in to_first h s ≡ Some (uncounted (entries_in Second s))
 unfolding entries_in
 lowered h s f = lowered_from h s 0 (room Second s) (λ i a b. f i (omega arith))
 
@@ -457,20 +456,20 @@ module _ {v : Version} {h : Bytes} {s t : List ℕ} {es : List Entry} (i : IsTur
   room_between : room Second between ≡ room First s
   room_between = first_room Second (stored Second t 0 es) (length es) roomy_there ∙ count
 
-  back_at : (n : ℕ) → n < room First s → turned_at to_first h between n ≡ some (entry_in First s n)
+  back_at : (n : ℕ) → n < room First s → turned_at to_first h between n ≡ Some (entry_in First s n)
   unfolding entry_in
   back_at n m =
       let d = turned_found i n m in
       let q = (found_at First h s n d.2).held in
       ap (turned_if to_first h) (entry_at_first Second h (stored Second t 0 es) (length es) n roomy_there (rw count m) ∙ d.3)
-      ∙ ap (λ (e : Entry). some (with_counts no_counts e)) (sym q) ∙ ap some (plain_held (words_at First s n))
+      ∙ ap (λ (e : Entry). Some (with_counts no_counts e)) (sym q) ∙ ap Some (plain_held (words_at First s n))
 
-  back_from : (n k : ℕ) → n + k ≤ room First s → turned_from to_first h between n k ≡ some (entries_from First s n k)
+  back_from : (n k : ℕ) → n + k ≤ room First s → turned_from to_first h between n k ≡ Some (entries_from First s n k)
   unfolding turned_from entries_from
   back_from n zero m = refl
   back_from n (suc k) m = rw (back_at n (omega (arith, m)), back_from (n + 1) k (omega (arith, m)))
 
-  back_all : turned_in to_first h between ≡ some (entries_in First s)
+  back_all : turned_in to_first h between ≡ Some (entries_in First s)
   unfolding entries_in
   back_all = rw room_between (back_from 0 (room First s) (omega arith))
 

@@ -4,21 +4,18 @@ use native.Mathlib.Omega.{arith}
 use mathlib.Core.Path.{◌≡◌, refl, sym, ap, subst, ◌∙◌}
 use mathlib.Core.Bool.{Bool, true, false, not, ◌&&◌}
 use mathlib.Core.List.{List, [], ◌∷◌}
-use mathlib.Core.Option.{Option, none, some}
+use Rattle.std.specs.Prelude.{Option, None, Some, Ok, Err}
 use lib.Dec.{leb, ltb}
 use lib.ListN.{length}
 use borrow.Author.Tests.{le-leb, lt-leb}
 use Rattle.values.specs.Bytes.{Bytes}
-use Rattle.values.proofs.Tests.{not_true, not_false, never}
+use Rattle.values.proofs.Tests.{never}
 use Rattle.values.proofs.Lists.{some_is, none_not}
-use Rattle.rules.specs.Sizes.{Limits}
 use Rattle.rules.specs.Version.{Version}
 use Rattle.rules.specs.Record.{Record, fields, key_of}
 use Rattle.rules.specs.Entry.{Entry as RuleEntry, no_counts, fields_of, counts_of, with_counts}
 use Rattle.rules.specs.Shown.{line_in, read_alone}
 use Rattle.rules.specs.Claims.{key_in}
-use Rattle.records.specs.Formats.{version_of}
-use Rattle.records.specs.declared.file_format.FileFormat.{FileFormat}
 use Rattle.records.specs.declared.map.Tally.{Tally}
 use Rattle.records.specs.declared.record.MapRecord.{MapRecord}
 use Rattle.alone.specs.Alones.{AloneIs, ReadsAlone}
@@ -26,111 +23,53 @@ use Rattle.alone.specs.declared.read.Alone.{Alone}
 use Rattle.alone.specs.declared.read.Alone.TheVariants as alone
 use Rattle.entries.specs.declared.form.Form.{Form}
 use Rattle.entries.specs.declared.entry.Entry.{Entry}
-use Rattle.entries.specs.declared.limits.Limits.{Limits as CodeLimits}
-use Rattle.entries.specs.declared.shown.EntryRead.{EntryRead}
-use Rattle.entries.specs.declared.shown.EntryRead.TheVariants as read
-use Rattle.entries.specs.Values.{entry_of, limits_of, limits_by}
+use Rattle.entries.specs.Values.{entry_of}
 use Rattle.entries.specs.Shown.{entry_meant}
-use Rattle.entries.specs.Tables.{room, stored, put, put_all, entry_at}
+use Rattle.entries.specs.Tables.{room, stored, put, put_all}
 use Rattle.entries.proofs.Stored.{put_none, put_one, put_roomy}
-use Rattle.turning.specs.Turning.{Way, target_of, source_of, way_of, with_record, raised, turned_entry, turned_if, turned_at, with, turned_from, turned_in, fits_in, all_fit, table_of, turn_answer, turn_table, judged_by, judged_of, judged_as, Copies}
-use Rattle.turning.specs.declared.turn.Into.{Into}
-use Rattle.turning.specs.declared.turn.Into.TheVariants as into
+use Rattle.turning.specs.Turning.{Way, target_of, source_of, with_record, raised, turned_at, with, turned_from, turned_in, fits_in, all_fit, table_of, turn_answer, turn_table, judged_by, judged_of, judged_as, Copies}
 use Rattle.turning.specs.declared.turn.TurnAnswer.{TurnAnswer}
-use Rattle.turning.specs.declared.turn.TurnOutcome.TheVariants.{Turned, NotWellFormed, TooLarge, TableFull}
+use Rattle.turning.specs.declared.turn.TurnRefusal.TheVariants.{NotWellFormed, TooLarge, TableFull}
 use Rattle.turning.specs.declared.turn.Judged.{Judged}
 use Rattle.turning.specs.declared.turn.Judged.TheVariants.{Fit, Unfit, Malformed}
-
--- What answers the needs of `fits`; the code has the form's limits in hand
-
-module _ (form : Form) (e : Entry) {given : CodeLimits} (g : limits_of given ≡ limits_by form) where
-  abbrev lim : Limits
-  lim = limits_by form
-
-  same_header : given.header ≡ lim.header
-  same_header = ap (λ (x : Limits). x.header) g
-
-  same_line : given.line ≡ lim.line
-  same_line = ap (λ (x : Limits). x.line) g
-
-  pub start_over : given.header < e.start → false ≡ fits_in form (entry_of e)
-  start_over h = rw (lt-leb e.start lim.header (rw (← same_header) h))
-
-  module _ (h : e.start ≤ given.header) where
-    start_in : leb e.start lim.header ≡ true
-    start_in = le-leb e.start lim.header (rw (← same_header) h)
-
-    pub length_over : given.line < e.length → false ≡ fits_in form (entry_of e)
-    length_over o = rw (start_in, lt-leb e.length lim.line (rw (← same_line) o))
-
-    module _ (i : e.length ≤ given.line) where
-      length_in : leb e.length lim.line ≡ true
-      length_in = le-leb e.length lim.line (rw (← same_line) i)
-
-      pub offset_over : given.line < e.offset → false ≡ fits_in form (entry_of e)
-      offset_over o = rw (start_in, length_in, lt-leb e.offset lim.line (rw (← same_line) o))
-
-      pub offset_in : e.offset ≤ given.line → leb e.id_length given.line ≡ fits_in form (entry_of e)
-      offset_in j = rw (start_in, length_in, le-leb e.offset lim.line (rw (← same_line) j), same_line)
-
-pub ruleset fittings = (start_over, length_over, offset_over, offset_in)
 
 -- One entry
 
 module _ (h : Bytes) (v : Version) (e : Entry) where
   raised_by : {q : Bool} → leb e.kind 8 ≡ q
-      → raised h v (entry_of e) ≡ elim q [ true ↦ with_record (entry_of e) (read_alone v e.kind (line_in h (entry_of e))) | false ↦ some (with_counts no_counts (entry_of e)) ]
+      → raised h v (entry_of e) ≡ elim q [ true ↦ with_record (entry_of e) (read_alone v e.kind (line_in h (entry_of e))) | false ↦ Some (with_counts no_counts (entry_of e)) ]
   unfolding raised
-  raised_by f = ap (λ (q : Bool). elim q [ true ↦ with_record (entry_of e) (read_alone v e.kind (line_in h (entry_of e))) | false ↦ some (with_counts no_counts (entry_of e)) ]) f
+  raised_by f = ap (λ (q : Bool). elim q [ true ↦ with_record (entry_of e) (read_alone v e.kind (line_in h (entry_of e))) | false ↦ Some (with_counts no_counts (entry_of e)) ]) f
 
-  pub raised_plain : 8 < e.kind → {x : Entry} → entry_of x ≡ with_counts no_counts (entry_of e) → some (entry_of x) ≡ raised h v (entry_of e)
-  raised_plain f g = ap some g ∙ sym (raised_by (lt-leb e.kind 8 f))
+  pub raised_plain : 8 < e.kind → {x : Entry} → entry_of x ≡ with_counts no_counts (entry_of e) → Some (entry_of x) ≡ raised h v (entry_of e)
+  raised_plain f g = ap Some g ∙ sym (raised_by (lt-leb e.kind 8 f))
 
-  module _ (f : e.kind ≤ 8) {l : Bytes} (a : l ≡ line_in h (entry_of e)) {x : Alone} (b : ReadsAlone v e.kind l x) where
-    told : {y : Alone} → x ≡ y → AloneIs v (line_in h (entry_of e)) (read_alone v e.kind (line_in h (entry_of e))) y
+  module _ (f : e.kind ≤ 8) {l : Bytes} (a : l ≡ line_in h (entry_of e)) {x : Option Alone} (b : ReadsAlone v e.kind l x) where
+    told : {y : Option Alone} → x ≡ y → AloneIs v (line_in h (entry_of e)) (read_alone v e.kind (line_in h (entry_of e))) y
     told {y} q = subst (λ (l : Bytes). AloneIs v l (read_alone v e.kind l) y) a (subst (AloneIs v l (read_alone v e.kind l)) q b.is)
 
     raised_as : {o : Option Record} → read_alone v e.kind (line_in h (entry_of e)) ≡ o → raised h v (entry_of e) ≡ with_record (entry_of e) o
     raised_as q = raised_by (le-leb e.kind 8 f) ∙ ap (with_record (entry_of e)) q
 
-    pub raised_refused : x ≡ alone.Refused → none ≡ raised h v (entry_of e)
+    pub raised_refused : x ≡ None → None ≡ raised h v (entry_of e)
     raised_refused q = sym (raised_as (told q))
 
     counts_as : (r : Record) {k n : ℕ} → k ≡ length (key_of r) → n ≡ length (fields_of r) → with_counts (record { key_length = k; field_count = n }) (entry_of e) ≡ with_counts (counts_of true r) (entry_of e)
     unfolding counts_of
     counts_as r a b = rw (a, b)
 
-    pub raised_without : {n : ℕ} → x ≡ alone.Plain n → {y : Entry} → entry_of y ≡ with_counts (record { key_length = n; field_count = 0 }) (entry_of e) → some (entry_of y) ≡ raised h v (entry_of e)
-    raised_without q g = let t = told q in ap some (g ∙ counts_as t.0 t.3 (sym (ap length t.2))) ∙ sym (raised_as t.1)
+    pub raised_without : {n : ℕ} → x ≡ Some (alone.Plain n) → {y : Entry} → entry_of y ≡ with_counts (record { key_length = n; field_count = 0 }) (entry_of e) → Some (entry_of y) ≡ raised h v (entry_of e)
+    raised_without q g = let t = told q in ap Some (g ∙ counts_as t.0 t.3 (sym (ap length t.2))) ∙ sym (raised_as t.1)
 
-    pub raised_map : {m : MapRecord} → x ≡ alone.Map m → {k : ℕ} → k ≡ m.value - 3
-        → {y : Entry} → entry_of y ≡ with_counts (record { key_length = k; field_count = m.tally.fields }) (entry_of e) → some (entry_of y) ≡ raised h v (entry_of e)
+    pub raised_map : {m : MapRecord} → x ≡ Some (alone.Map m) → {k : ℕ} → k ≡ m.value - 3
+        → {y : Entry} → entry_of y ≡ with_counts (record { key_length = k; field_count = m.tally.fields }) (entry_of e) → Some (entry_of y) ≡ raised h v (entry_of e)
     raised_map {m} q {k} c g =
         let t = told q in
         let r = fields (key_in (line_in h (entry_of e))) t.0 in
         let n : k ≡ length (key_of r) = omega (arith, c, t.2.value) in
-        ap some (g ∙ counts_as r n (ap (λ (y : Tally). y.fields) t.2.tally)) ∙ sym (raised_as t.1)
+        ap Some (g ∙ counts_as r n (ap (λ (y : Tally). y.fields) t.2.tally)) ∙ sym (raised_as t.1)
 
 pub ruleset raisings = (raised_plain, raised_refused, raised_without, raised_map)
-
-module _ (w : Way) (h : Bytes) (s : List ℕ) (n : ℕ) {form : Form} (c : form ≡ source_of w) (r : EntryRead) (a : entry_meant r ≡ entry_at form h s n) where
-  turned_by : {o : Option RuleEntry} → entry_meant r ≡ o → turned_at w h s n ≡ turned_if w h o
-  turned_by {o} q = ap (turned_if w h) (ap (λ (f : Form). entry_at f h s n) (sym c) ∙ sym a ∙ q)
-
-  pub turned_missing : r ≡ read.Missing → none ≡ turned_at w h s n
-  turned_missing q = sym (turned_by (ap entry_meant q))
-
-  module _ {e : Entry} (q : r ≡ read.Entry e) where
-    turned_as : {x : Way} → w ≡ x → turned_at w h s n ≡ turned_entry x h (entry_of e)
-    turned_as f = turned_by (ap entry_meant q) ∙ ap (λ (w : Way). turned_entry w h (entry_of e)) f
-
-    pub turned_first : {x : Into} → w ≡ way_of x → x ≡ into.First → {y : Entry} → entry_of y ≡ with_counts no_counts (entry_of e) → some (entry_of y) ≡ turned_at w h s n
-    turned_first i f g = ap some g ∙ sym (turned_as (i ∙ ap way_of f))
-
-    pub turned_second : {x : Into} → w ≡ way_of x → {version : FileFormat} → x ≡ into.Second version → {o : Option RuleEntry} → o ≡ raised h (version_of version) (entry_of e) → o ≡ turned_at w h s n
-    turned_second i f g = g ∙ sym (turned_as (i ∙ ap way_of f))
-
-pub ruleset Turned-ones = (turned_missing, turned_first, turned_second)
 
 -- The loop over all entries: `fit` says whether those before number n fit, and what is left decides the rest
 
@@ -142,10 +81,10 @@ pub judge_start : (w : Way) (h : Bytes) (s : List ℕ) → Judging w h s true 0
 judge_start w h s = let z : room (source_of w) s - 0 ≡ room (source_of w) s = omega arith in record { inside = omega arith; left = rw z }
 
 -- an entry goes with what is known of those before it
-judged_with : (to : Form) (fit q : Bool) (e : RuleEntry) → q ≡ fits_in to e → (o : Option (List RuleEntry)) → judged_of to fit (with (some e) o) ≡ judged_of to (fit && q) o
+judged_with : (to : Form) (fit q : Bool) (e : RuleEntry) → q ≡ fits_in to e → (o : Option (List RuleEntry)) → judged_of to fit (with (Some e) o) ≡ judged_of to (fit && q) o
 unfolding all_fit
-judged_with to fit q e d none = refl
-judged_with to fit q e d (some es) = rw (← d) (ap judged_by (go fit))
+judged_with to fit q e d None = refl
+judged_with to fit q e d (Some es) = rw (← d) (ap judged_by (go fit))
   where
     go : (b : Bool) → (b && (q && all_fit to es)) ≡ ((b && q) && all_fit to es)
     go true = refl
@@ -163,43 +102,35 @@ module _ {w : Way} {h : Bytes} {s : List ℕ} {fit : Bool} {n : ℕ} (g : Judgin
   abbrev all : m ≡ room (source_of w) s
   all = counted_all w s u count
 
-  module _ (l : n < m) (r : EntryRead) (a : entry_meant r ≡ turned_at w h s n) where
-    here : {x : EntryRead} → r ≡ x → turned_from w h s n (room (source_of w) s - n) ≡ with (entry_meant x) (turned_from w h s (n + 1) (room (source_of w) s - (n + 1)))
+  module _ (l : n < m) (r : Option Entry) (a : entry_meant r ≡ turned_at w h s n) where
+    here : {x : Option Entry} → r ≡ x → turned_from w h s n (room (source_of w) s - n) ≡ with (entry_meant x) (turned_from w h s (n + 1) (room (source_of w) s - (n + 1)))
     here e = from_here w h s n (omega (arith, l, all)) (sym (ap entry_meant e) ∙ a)
 
-    pub judge_malformed : r ≡ read.Missing → Malformed ≡ judged_as w h s
+    pub judge_malformed : r ≡ None → Malformed ≡ judged_as w h s
     judge_malformed e = ap (judged_of (target_of w) fit) (sym (here e)) ∙ g.left
 
-    module _ {x : Entry} (b : r ≡ read.Entry x) {to : Form} (v : to ≡ target_of w) {q : Bool} (d : q ≡ fits_in to (entry_of x)) where
-      next : {p : Bool} → fit && q ≡ p → Judging w h s p (n + 1)
-      next {p} f = record {
+    module _ {x : Entry} (b : r ≡ Some x) where
+      next : {q : Bool} → q ≡ fits_in (target_of w) (entry_of x) → {p : Bool} → fit && q ≡ p → Judging w h s p (n + 1)
+      next {q} d {p} f = record {
         inside = omega (arith, l, all);
         left =
             ap (λ (p : Bool). judged_of (target_of w) p (turned_from w h s (n + 1) (room (source_of w) s - (n + 1)))) (sym f)
-            ∙ sym (judged_with (target_of w) fit q (entry_of x) (d ∙ ap (λ (f : Form). fits_in f (entry_of x)) v) (turned_from w h s (n + 1) (room (source_of w) s - (n + 1))))
+            ∙ sym (judged_with (target_of w) fit q (entry_of x) d (turned_from w h s (n + 1) (room (source_of w) s - (n + 1))))
             ∙ ap (judged_of (target_of w) fit) (sym (here b)) ∙ g.left;
       }
 
-      pub judge_unfit : not q ≡ true → Judging w h s false (n + 1)
-      judge_unfit f = next (rw (not_true q f) (neither fit))
-        where
-          neither : (b : Bool) → (b && false) ≡ false
-          neither true = refl
-          neither false = refl
+      pub judge_next : fit ≡ true → {to : Form} → to ≡ target_of w → {q : Bool} → q ≡ fits_in to (entry_of x) → Judging w h s q (n + 1)
+      judge_next f v d = next (d ∙ ap (λ (f : Form). fits_in f (entry_of x)) v) (rw f)
 
-      pub judge_fit : not q ≡ false → Judging w h s fit (n + 1)
-      judge_fit f = next (rw (not_false q f) (alone fit))
-        where
-          alone : (b : Bool) → (b && true) ≡ b
-          alone true = refl
-          alone false = refl
+      pub judge_unfit : fit ≡ false → Judging w h s fit (n + 1)
+      judge_unfit f = next {q = fits_in (target_of w) (entry_of x)} refl (rw f)
 
   module _ (l : m ≤ n) where
     at_end_lem : {b : Bool} → fit ≡ b → judged_by b ≡ judged_as w h s
     unfolding turned_from all_fit
-    at_end_lem {b} e = let z : room (source_of w) s - n ≡ 0 = omega (arith, l, all) in go b ∙ ap (λ (b : Bool). judged_of (target_of w) b (some [])) (sym e) ∙ rw z at g.left
+    at_end_lem {b} e = let z : room (source_of w) s - n ≡ 0 = omega (arith, l, all) in go b ∙ ap (λ (b : Bool). judged_of (target_of w) b (Some [])) (sym e) ∙ rw z at g.left
       where
-        go : (b : Bool) → judged_by b ≡ judged_of (target_of w) b (some [])
+        go : (b : Bool) → judged_by b ≡ judged_of (target_of w) b (Some [])
         go true = refl
         go false = refl
 
@@ -209,24 +140,24 @@ module _ {w : Way} {h : Bytes} {s : List ℕ} {fit : Bool} {n : ℕ} (g : Judgin
     pub judged_unfit : fit ≡ false → Unfit ≡ judged_as w h s
     judged_unfit e = at_end_lem e
 
-pub ruleset judges = (judge_start, judge_malformed, judge_unfit, judge_fit, judged_fit, judged_unfit)
+pub ruleset judges = (judge_start, judge_malformed, judge_unfit, judge_next, judged_fit, judged_unfit)
 
 -- The loop that copies: where none is refused, those that are left, put from number n on, give the whole
 
 pub record Copying (w : Way) (h : Bytes) (s t₀ t : List ℕ) (n : ℕ) : Type 0 where
   pub size : length t ≡ length t₀
-  pub still : (all : List RuleEntry) → turned_in w h s ≡ some all
-      → (es : List RuleEntry) × (turned_from w h s n (room (source_of w) s - n) ≡ some es) × (put_all (target_of w) t n es ≡ put_all (target_of w) t₀ 0 all)
+  pub still : (all : List RuleEntry) → turned_in w h s ≡ Some all
+      → (es : List RuleEntry) × (turned_from w h s n (room (source_of w) s - n) ≡ Some es) × (put_all (target_of w) t n es ≡ put_all (target_of w) t₀ 0 all)
 
 pub copy_start : (w : Way) (h : Bytes) (s t : List ℕ) → Copying w h s t t 0
 copy_start w h s t = let z : room (source_of w) s - 0 ≡ room (source_of w) s = omega arith in record { size = refl; still = λ all e. (all, rw z e, refl) }
 
 -- what stands in front of others
-pub parts : (o : Option RuleEntry) (r : Option (List RuleEntry)) {es : List RuleEntry} → with o r ≡ some es
-    → (e : RuleEntry) × (fs : List RuleEntry) × (o ≡ some e) × (r ≡ some fs) × (es ≡ e ∷ fs)
-parts none r e = none_not e
-parts (some x) none e = none_not e
-parts (some x) (some fs) e = (x, fs, refl, refl, sym (some_is e))
+pub parts : (o : Option RuleEntry) (r : Option (List RuleEntry)) {es : List RuleEntry} → with o r ≡ Some es
+    → (e : RuleEntry) × (fs : List RuleEntry) × (o ≡ Some e) × (r ≡ Some fs) × (es ≡ e ∷ fs)
+parts None r e = none_not e
+parts (Some x) None e = none_not e
+parts (Some x) (Some fs) e = (x, fs, refl, refl, sym (some_is e))
 
 module _ {w : Way} {h : Bytes} {s t₀ t : List ℕ} {n : ℕ} (g : Copying w h s t₀ t n) {from : Form} (u : from ≡ source_of w) {m : ℕ} (count : m ≡ room from s) where
   abbrev all_there : m ≡ room (source_of w) s
@@ -243,15 +174,15 @@ module _ {w : Way} {h : Bytes} {s t₀ t : List ℕ} {n : ℕ} (g : Copying w h 
   }
 
   module _ (l : n < m) where
-    turned_here : {o : Option RuleEntry} → o ≡ turned_at w h s n → {es : List RuleEntry} → turned_from w h s n (room (source_of w) s - n) ≡ some es
-        → (e : RuleEntry) × (fs : List RuleEntry) × (o ≡ some e) × (turned_from w h s (n + 1) (room (source_of w) s - (n + 1)) ≡ some fs) × (es ≡ e ∷ fs)
+    turned_here : {o : Option RuleEntry} → o ≡ turned_at w h s n → {es : List RuleEntry} → turned_from w h s n (room (source_of w) s - n) ≡ Some es
+        → (e : RuleEntry) × (fs : List RuleEntry) × (o ≡ Some e) × (turned_from w h s (n + 1) (room (source_of w) s - (n + 1)) ≡ Some fs) × (es ≡ e ∷ fs)
     turned_here {o} e q = parts o (turned_from w h s (n + 1) (room (source_of w) s - (n + 1))) (sym (from_here w h s n (omega (arith, l, all_there)) e) ∙ q)
 
-    pub copy_missing : (r : EntryRead) → entry_meant r ≡ turned_at w h s n → r ≡ read.Missing → Copies w h s t₀ t
+    pub copy_missing : (r : Option Entry) → entry_meant r ≡ turned_at w h s n → r ≡ None → Copies w h s t₀ t
     copy_missing r a e = record { is = λ es q. none_not (turned_here (sym (ap entry_meant e) ∙ a) (g.still es q).1).2 }
 
-    module _ {x : Entry} (b : some (entry_of x) ≡ turned_at w h s n) {form : Form} (to : form ≡ target_of w) {q : Bool} (d : q ≡ ltb n (room form t)) {t' : List ℕ} (p : t' ≡ put form t n (entry_of x)) where
-      left : {e : RuleEntry} {fs es : List RuleEntry} → some (entry_of x) ≡ some e → es ≡ e ∷ fs → put_all form t n (entry_of x ∷ fs) ≡ put_all (target_of w) t n es
+    module _ {x : Entry} (b : Some (entry_of x) ≡ turned_at w h s n) {form : Form} (to : form ≡ target_of w) {q : Bool} (d : q ≡ ltb n (room form t)) {t' : List ℕ} (p : t' ≡ put form t n (entry_of x)) where
+      left : {e : RuleEntry} {fs es : List RuleEntry} → Some (entry_of x) ≡ Some e → es ≡ e ∷ fs → put_all form t n (entry_of x ∷ fs) ≡ put_all (target_of w) t n es
       left {e} {fs} u v = ap (λ (f : Form). put_all f t n (entry_of x ∷ fs)) to ∙ ap (λ (y : RuleEntry). put_all (target_of w) t n (y ∷ fs)) (some_is u) ∙ ap (put_all (target_of w) t n) (sym v)
 
       pub copy_full : not q ≡ true → Copies w h s t₀ t'
@@ -272,36 +203,36 @@ module _ {w : Way} {h : Bytes} {s t₀ t : List ℕ} {n : ℕ} (g : Copying w h 
       }
 
 -- an entry that was told
-pub met : {o : Option RuleEntry} (r : EntryRead) → entry_meant r ≡ o → {x : Entry} → r ≡ read.Entry x → some (entry_of x) ≡ o
+pub met : {o : Option RuleEntry} (r : Option Entry) → entry_meant r ≡ o → {x : Entry} → r ≡ Some x → Some (entry_of x) ≡ o
 met r a b = sym (ap entry_meant b) ∙ a
 
 pub ruleset copies = (copy_start, copy_end, copy_missing, copy_full, copy_next, met)
 
 -- The whole call
 
-pub turned_count : (w : Way) (h : Bytes) (s : List ℕ) (n k : ℕ) {es : List RuleEntry} → turned_from w h s n k ≡ some es → length es ≡ k
+pub turned_count : (w : Way) (h : Bytes) (s : List ℕ) (n k : ℕ) {es : List RuleEntry} → turned_from w h s n k ≡ Some es → length es ≡ k
 unfolding turned_from
 turned_count w h s n zero e = ap length (sym (some_is e))
 turned_count w h s n (suc k) e =
     let p = parts (turned_at w h s n) (turned_from w h s (n + 1) k) e in
     ap length p.4 ∙ ap suc (turned_count w h s (n + 1) k p.3)
 
-whole_table : (to : Form) (t : List ℕ) {o : Option (List RuleEntry)} {es : List RuleEntry} → o ≡ some es → all_fit to es ≡ true → leb (length es) (room to t) ≡ true → stored to t 0 es ≡ table_of to t o
+whole_table : (to : Form) (t : List ℕ) {o : Option (List RuleEntry)} {es : List RuleEntry} → o ≡ Some es → all_fit to es ≡ true → leb (length es) (room to t) ≡ true → stored to t 0 es ≡ table_of to t o
 whole_table to t e f r = rw (e, f, r)
 
 module _ (w : Way) (h : Bytes) (s t : List ℕ) {r : Judged} (a : r ≡ judged_as w h s) where
-  malformed : (o : Option (List RuleEntry)) → judged_of (target_of w) true o ≡ Malformed → o ≡ none
-  malformed none e = refl
-  malformed (some es) e = go (all_fit (target_of w) es) e
+  malformed : (o : Option (List RuleEntry)) → judged_of (target_of w) true o ≡ Malformed → o ≡ None
+  malformed None e = refl
+  malformed (Some es) e = go (all_fit (target_of w) es) e
     where
-      go : (b : Bool) → judged_by b ≡ Malformed → some es ≡ none
+      go : (b : Bool) → judged_by b ≡ Malformed → Some es ≡ None
       go true e = never cc
       go false e = never cc
 
-  judged : (b : Bool) (o : Option (List RuleEntry)) → judged_of (target_of w) true o ≡ judged_by b → (es : List RuleEntry) × (o ≡ some es) × (all_fit (target_of w) es ≡ b)
-  judged true none e = never cc
-  judged false none e = never cc
-  judged b (some es) e = (es, refl, go (all_fit (target_of w) es) b e)
+  judged : (b : Bool) (o : Option (List RuleEntry)) → judged_of (target_of w) true o ≡ judged_by b → (es : List RuleEntry) × (o ≡ Some es) × (all_fit (target_of w) es ≡ b)
+  judged true None e = never cc
+  judged false None e = never cc
+  judged b (Some es) e = (es, refl, go (all_fit (target_of w) es) b e)
     where
       go : (a b : Bool) → judged_by a ≡ judged_by b → a ≡ b
       go true true e = refl
@@ -309,20 +240,20 @@ module _ (w : Way) (h : Bytes) (s t : List ℕ) {r : Judged} (a : r ≡ judged_a
       go false true e = never cc
       go false false e = refl
 
-  pub turn_malformed : r ≡ Malformed → {x : TurnAnswer} → x ≡ record { outcome = NotWellFormed; entries = 0 } → x ≡ turn_answer w h s t
+  pub turn_malformed : r ≡ Malformed → {x : TurnAnswer} → x ≡ record { outcome = (Err NotWellFormed); entries = 0 } → x ≡ turn_answer w h s t
   turn_malformed e q = q ∙ rw (malformed (turned_in w h s) (sym a ∙ e))
 
   pub kept_malformed : r ≡ Malformed → t ≡ turn_table w h s t
   kept_malformed e = rw (malformed (turned_in w h s) (sym a ∙ e))
 
-  pub turn_unfit : r ≡ Unfit → {x : TurnAnswer} → x ≡ record { outcome = TooLarge; entries = 0 } → x ≡ turn_answer w h s t
+  pub turn_unfit : r ≡ Unfit → {x : TurnAnswer} → x ≡ record { outcome = (Err TooLarge); entries = 0 } → x ≡ turn_answer w h s t
   turn_unfit e q = let f = judged false (turned_in w h s) (sym a ∙ e) in q ∙ rw (f.1, f.2)
 
   pub kept_unfit : r ≡ Unfit → t ≡ turn_table w h s t
   kept_unfit e = let f = judged false (turned_in w h s) (sym a ∙ e) in rw (f.1, f.2)
 
   module _ (e : r ≡ Fit) {from to : Form} (u : from ≡ source_of w) (x : to ≡ target_of w) {n : ℕ} (c : n ≡ room from s) {m : ℕ} (d : m ≡ room to t) where
-    abbrev f : (es : List RuleEntry) × (turned_in w h s ≡ some es) × (all_fit (target_of w) es ≡ true)
+    abbrev f : (es : List RuleEntry) × (turned_in w h s ≡ Some es) × (all_fit (target_of w) es ≡ true)
     f = judged true (turned_in w h s) (sym a ∙ e)
 
     sizes : (length f.0 ≡ n) × (m ≡ room (target_of w) t)
@@ -332,7 +263,7 @@ module _ (w : Way) (h : Bytes) (s t : List ℕ) {r : Judged} (a : r ≡ judged_a
       short : leb (length f.0) (room (target_of w) t) ≡ false
       short = let z = sizes in lt-leb (length f.0) (room (target_of w) t) (omega (arith, l, z.0, z.1))
 
-      pub turn_full : {x : TurnAnswer} → x ≡ record { outcome = TableFull; entries = 0 } → x ≡ turn_answer w h s t
+      pub turn_full : {x : TurnAnswer} → x ≡ record { outcome = (Err TableFull); entries = 0 } → x ≡ turn_answer w h s t
       turn_full q = let z = f in q ∙ rw (z.1, z.2, short)
 
       pub kept_full : t ≡ turn_table w h s t
@@ -342,7 +273,7 @@ module _ (w : Way) (h : Bytes) (s t : List ℕ) {r : Judged} (a : r ≡ judged_a
       enough : leb (length f.0) (room (target_of w) t) ≡ true
       enough = let z = sizes in le-leb (length f.0) (room (target_of w) t) (omega (arith, l, z.0, z.1))
 
-      pub turn_whole : ◌≡◌ {A = TurnAnswer} (record { outcome = Turned; entries = n }) (turn_answer w h s t)
+      pub turn_whole : ◌≡◌ {A = TurnAnswer} (record { outcome = (Ok tt); entries = n }) (turn_answer w h s t)
       turn_whole = let z = f in rw (z.1, z.2, enough, c, u)
 
       pub turned_table : {t' : List ℕ} → Copies w h s t t' → t' ≡ turn_table w h s t

@@ -10,14 +10,14 @@ use alone::read;
 use alone::read::Alone;
 use entries::entry::Entry;
 use entries::form::Form;
-use entries::shown::EntryRead;
 use entries::{kind, part, shown, table};
 use records::file_format::FileFormat;
 use records::record;
 
+pub type TurnOutcome = Result<(), TurnRefusal>;
+
 #[derive(Clone, Copy)]
-pub enum TurnOutcome {
-    Turned,
+pub enum TurnRefusal {
     NotWellFormed,
     TooLarge,
     TableFull,
@@ -30,17 +30,15 @@ pub struct TurnAnswer {
     pub entries: usize,
 }
 
-impl TurnOutcome {
-    // Document 02's number; 0 if the entries are turned.
-    pub fn number(self) -> u64
-        ensures { result ≡ turn_number self }
-    {
-        match self {
-            TurnOutcome::Turned => 0,
-            TurnOutcome::NotWellFormed => 29,
-            TurnOutcome::TooLarge => 32,
-            TurnOutcome::TableFull => 24,
-        }
+// Document 02's number; 0 if the entries are turned.
+pub fn number(outcome: TurnOutcome) -> u64
+    ensures { result ≡ turn_number outcome }
+{
+    match outcome {
+        Ok(()) => 0,
+        Err(TurnRefusal::NotWellFormed) => 29,
+        Err(TurnRefusal::TooLarge) => 32,
+        Err(TurnRefusal::TableFull) => 24,
     }
 }
 
@@ -83,44 +81,38 @@ fn with_counts(e: Entry, key_length: usize, field_count: usize) -> Entry
     ensures { entry_of result ≡ with_counts (record { key_length = key_length; field_count = field_count }) (entry_of e) }
 {
     Entry {
-        kind: e.kind,
-        start: e.start,
-        length: e.length,
-        offset: e.offset,
-        id_length: e.id_length,
-        quoted: e.quoted,
-        tag: e.tag,
         key_length,
         field_count,
+        ..e
     }
 }
 
 // An entry in the second form.
-fn raise(h: &[u8], e: Entry, version: FileFormat) -> EntryRead
+fn raise(h: &[u8], e: Entry, version: FileFormat) -> Option<Entry>
     ensures { entry_meant result ≡ raised h.now (version_of version) (entry_of e) }
 {
     if kind::OTHER_TEXT < e.kind {
-        return EntryRead::Entry(with_counts(e, 0, 0));
+        return Some(with_counts(e, 0, 0));
     }
     match read::read_alone(part::line_part(h, e), e.kind, version) {
-        Alone::Map(map) => {
+        Some(Alone::Map(map)) => {
             let tally = map.tally;
-            EntryRead::Entry(with_counts(e, record::key_length(map.value), tally.fields))
+            Some(with_counts(e, record::key_length(map.value), tally.fields))
         }
-        Alone::Plain(key_length) => EntryRead::Entry(with_counts(e, key_length, 0)),
-        Alone::Refused => EntryRead::Missing,
+        Some(Alone::Plain(key_length)) => Some(with_counts(e, key_length, 0)),
+        None => None,
     }
 }
 
 // The entry of this number in the other form; none if it or its line is refused.
-fn turned(h: &[u8], source: &[u64], n: usize, into: Into) -> EntryRead
+fn turned(h: &[u8], source: &[u64], n: usize, into: Into) -> Option<Entry>
     ensures { entry_meant result ≡ turned_at (way_of into) h.now source.now n }
 {
-    let EntryRead::Entry(e) = shown::entry_at(h, source, into.source(), n) else {
-        return EntryRead::Missing;
+    let Some(e) = shown::entry_at(h, source, into.source(), n) else {
+        return None;
     };
     match into {
-        Into::First => EntryRead::Entry(with_counts(e, 0, 0)),
+        Into::First => Some(with_counts(e, 0, 0)),
         Into::Second(version) => raise(h, e, version),
     }
 }
@@ -130,54 +122,37 @@ fn fits(form: Form, e: Entry) -> bool
     ensures { result ≡ fits_in form (entry_of e) }
 {
     let limits = form.limits();
-    if limits.header < e.start {
-        return false;
-    }
-    if limits.line < e.length {
-        return false;
-    }
-    if limits.line < e.offset {
-        return false;
-    }
-    e.id_length <= limits.line
+    e.start <= limits.header
+        && e.length <= limits.line
+        && e.offset <= limits.line
+        && e.id_length <= limits.line
 }
 
 // An entry that is refused comes before one that doesn't fit, wherever they stand.
 fn judge(h: &[u8], source: &[u64], into: Into) -> Judged
     ensures { result ≡ judged_as (way_of into) h.now source.now }
 {
-    let count = table::count(source, into.source());
     let mut fit = true;
-    let mut n: usize = 0;
-    while n < count {
-        let EntryRead::Entry(e) = turned(h, source, n, into) else {
+    for n in 0..table::count(source, into.source()) {
+        let Some(e) = turned(h, source, n, into) else {
             return Judged::Malformed;
         };
-        n += 1;
-        if !fits(into.target(), e) {
-            fit = false;
-        }
+        fit = fit && fits(into.target(), e);
     }
-    if fit {
-        return Judged::Fit;
-    }
-    Judged::Unfit
+    if fit { Judged::Fit } else { Judged::Unfit }
 }
 
 // The entries of one table in another, as far as there is room.
 fn copy(h: &[u8], source: &[u64], target: &mut [u64], into: Into)
     ensures { Copies (way_of into) h.now source.now target.old target.new }
 {
-    let count = table::count(source, into.source());
-    let mut n: usize = 0;
-    while n < count {
-        let EntryRead::Entry(e) = turned(h, source, n, into) else {
+    for n in 0..table::count(source, into.source()) {
+        let Some(e) = turned(h, source, n, into) else {
             return;
         };
         if !table::put(target, into.target(), n, e) {
             return;
         }
-        n += 1;
     }
 }
 
@@ -195,16 +170,16 @@ fn turn(h: &[u8], source: &[u64], target: &mut [u64], into: Into) -> TurnAnswer
     ensures table { target.new ≡ turn_table (way_of into) h.now source.now target.old }
 {
     match judge(h, source, into) {
-        Judged::Malformed => refuse(TurnOutcome::NotWellFormed),
-        Judged::Unfit => refuse(TurnOutcome::TooLarge),
+        Judged::Malformed => refuse(Err(TurnRefusal::NotWellFormed)),
+        Judged::Unfit => refuse(Err(TurnRefusal::TooLarge)),
         Judged::Fit => {
             let count = table::count(source, into.source());
             if table::count(target, into.target()) < count {
-                return refuse(TurnOutcome::TableFull);
+                return refuse(Err(TurnRefusal::TableFull));
             }
             copy(h, source, target, into);
             TurnAnswer {
-                outcome: TurnOutcome::Turned,
+                outcome: Ok(()),
                 entries: count,
             }
         }

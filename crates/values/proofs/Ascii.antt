@@ -1,5 +1,6 @@
 -- ASCII: a turn of `is_ascii`'s loop on plain values, and that ASCII is UTF-8 and so is each part of it. Assumes nothing.
-use Prim.Native.Nat.{ℕ, zero, suc, ◌+◌, ◌≤◌, ◌<◌}
+use Prim.Native.Nat.{ℕ, zero, suc, ◌+◌, ◌≤◌, ◌<◌, max}
+use native.Mathlib.Decide.{dec_le}
 use native.Mathlib.Omega.{arith}
 use mathlib.Core.Path.{◌≡◌, refl, sym, ◌∙◌}
 use mathlib.Core.Bool.{Bool, true, ◌&&◌}
@@ -73,18 +74,24 @@ module _ {s : Bytes} {highest i : ℕ} (g : Rising s highest i) (h : i < length 
   unfolding is_ascii
   turn = g.same ∙ rw (here s i)
 
-  pub higher : highest < b → Rising s b (i + 1)
+  higher : highest < b → Rising s b (i + 1)
   higher l = record { inside = omega arith; same = turn ∙ limits_up highest b (is_ascii t) l }
 
-  pub lower : b ≤ highest → Rising s highest (i + 1)
+  lower : b ≤ highest → Rising s highest (i + 1)
   lower l = record { inside = omega arith; same = turn ∙ limits_down highest b (is_ascii t) l }
+
+  pub risen : {m : ℕ} → m ≡ max highest b → Rising s m (i + 1)
+  risen e = elim (dec_le b highest) [
+    | yes l ↦ let z : max highest b ≡ highest = omega arith in rw (e, z) (lower l)
+    | no n ↦ let z : max highest b ≡ b = omega arith in rw (e, z) (higher (omega arith))
+  ]
 
 pub ended : {s : Bytes} {highest i : ℕ} → Rising s highest i → length s ≤ i → ltb highest 128 ≡ is_ascii s
 unfolding is_ascii
 ended {s} {highest} g h = sym (g.same ∙ rw (drop_of_length-le s h) (and_on (ltb highest 128)))
 
 -- what answers the needs of `is_ascii`
-pub ruleset rises = (started, higher, lower, ended)
+pub ruleset rises = (started, risen, ended)
 
 -- q is what `is_ascii` answered
 pub all_ascii : (s : Bytes) {q : Bool} → q ≡ is_ascii s → q ≡ true → true ≡ is_utf8 s

@@ -1,4 +1,5 @@
 -- Cursors: the next byte, and the next byte of a meaning. Assumes nothing.
+use Rattle.std.specs.Prelude.{Option, Some, None}
 use Prim.Native.Nat.{ℕ, ◌+◌, ◌≤◌, ◌<◌}
 use native.Mathlib.Omega.{arith}
 use mathlib.Core.Path.{◌≡◌, refl, sym, ap, ◌∙◌}
@@ -11,37 +12,35 @@ use Rattle.values.specs.Bytes.{Bytes, is}
 use Rattle.values.specs.Value.{is_escapable, unescaped, meaning}
 use Rattle.values.specs.Places.{cursor_at, byte_at, escapes, unescaped_from, unescaped_at}
 use Rattle.values.specs.declared.cursor.Cursor.{Cursor}
-use Rattle.values.specs.declared.cursor.ByteRead.{ByteRead}
-use Rattle.values.specs.declared.cursor.ByteRead.TheVariants.{Byte, End}
 use Rattle.values.proofs.Tests.{pass, fail, test, or_r, not_true, not_false, both, never}
-use Rattle.values.proofs.Lists.{there, past, stands, drop_past, here}
+use Rattle.values.proofs.Lists.{some_pair, none_not, some_not, there, past, stands, drop_past, here}
 
-pub byte_there : (s : Bytes) (i : ℕ) → i < length s → Byte (get_or s i 0) (cursor_at (i + 1)) ≡ byte_at s i
+pub byte_there : (s : Bytes) (i : ℕ) → i < length s → Some (get_or s i 0, cursor_at (i + 1)) ≡ byte_at s i
 byte_there s i h = rw (here s i)
 
-pub byte_past : (s : Bytes) (i : ℕ) → length s ≤ i → End ≡ byte_at s i
+pub byte_past : (s : Bytes) (i : ℕ) → length s ≤ i → None ≡ byte_at s i
 byte_past s i h = rw (drop_of_length-le s h)
 
 -- what answers the needs of `next_byte`
 pub ruleset bytes = (byte_there, byte_past)
 
 -- what was read stands there
-pub byte_read : (s : Bytes) (i : ℕ) {b : ℕ} {c : Cursor} → byte_at s i ≡ Byte b c → (get_or s i 0 ≡ b) × (c ≡ cursor_at (i + 1)) × (i < length s)
+pub byte_read : (s : Bytes) (i : ℕ) {b : ℕ} {c : Cursor} → byte_at s i ≡ Some (b, c) → (get_or s i 0 ≡ b) × (c ≡ cursor_at (i + 1)) × (i < length s)
 byte_read s i {b} {c} e = elim (stands s i) [
-  | there h ↦ let f : Byte (get_or s i 0) (cursor_at (i + 1)) ≡ Byte b c = byte_there s i h ∙ e in (cc, cc, h)
-  | past h ↦ let f : End ≡ Byte b c = byte_past s i h ∙ e in never cc
+  | there h ↦ let p = some_pair (byte_there s i h ∙ e) in (p.0, sym p.1, h)
+  | past h ↦ none_not (byte_past s i h ∙ e)
 ]
 
-none_escapes : (s : Bytes) (i : ℕ) → byte_at s i ≡ End → escapes (drop i s) ≡ false
+none_escapes : (s : Bytes) (i : ℕ) → byte_at s i ≡ None → escapes (drop i s) ≡ false
 none_escapes s i e = elim (stands s i) [
-  | there h ↦ let f : Byte (get_or s i 0) (cursor_at (i + 1)) ≡ End = byte_there s i h ∙ e in cc
+  | there h ↦ some_not (byte_there s i h ∙ e)
   | past h ↦ rw (drop_past s i h)
 ]
 
-one_escapes : (s : Bytes) (i : ℕ) {b : ℕ} {c : Cursor} → byte_at s i ≡ Byte b c → escapes (drop i s) ≡ is_escapable b
+one_escapes : (s : Bytes) (i : ℕ) {b : ℕ} {c : Cursor} → byte_at s i ≡ Some (b, c) → escapes (drop i s) ≡ is_escapable b
 one_escapes s i e = let r = byte_read s i e in let h = r.2 in rw (here s i, r.0)
 
-pub unescaped_past : (q : Bool) (s : Bytes) (i : ℕ) → length s ≤ i → unescaped_at q s i ≡ End
+pub unescaped_past : (q : Bool) (s : Bytes) (i : ℕ) → length s ≤ i → unescaped_at q s i ≡ None
 unfolding unescaped_at
 unescaped_past true s i h = rw (drop_past s i h)
 unescaped_past false s i h = rw (drop_past s i h)
@@ -65,40 +64,40 @@ module _ (s : Bytes) (i : ℕ) (h : i < length s) where
     unescaped_stray f = rw (here s i) (rw (eq-eqb (get_or s i 0) 92 e, f, unescaped_from))
 
 -- r is the byte that the code read at i
-module _ (q : Bool) (s : Bytes) (i : ℕ) {r : ByteRead} (a : r ≡ byte_at s i) where
-  pub no_byte : r ≡ End → End ≡ unescaped_at q s i
+module _ (q : Bool) (s : Bytes) (i : ℕ) {r : Option (ℕ × Cursor)} (a : r ≡ byte_at s i) where
+  pub no_byte : r ≡ None → None ≡ unescaped_at q s i
   no_byte e = elim (stands s i) [
-    | there h ↦ let f : Byte (get_or s i 0) (cursor_at (i + 1)) ≡ End = byte_there s i h ∙ sym a ∙ e in cc
+    | there h ↦ some_not (byte_there s i h ∙ sym a ∙ e)
     | past h ↦ sym (unescaped_past q s i h)
   ]
 
-  module _ {b : ℕ} {c : Cursor} (e : r ≡ Byte b c) where
+  module _ {b : ℕ} {c : Cursor} (e : r ≡ Some (b, c)) where
     read : (get_or s i 0 ≡ b) × (c ≡ cursor_at (i + 1)) × (i < length s)
     read = byte_read s i (sym a ∙ e)
 
-    pub bare_byte : not q ≡ true → Byte b c ≡ unescaped_at q s i
+    pub bare_byte : not q ≡ true → Some (b, c) ≡ unescaped_at q s i
     bare_byte n = sym e ∙ a ∙ rw (not_true q n, unescaped_bare s i)
 
-    pub quoted_byte : not q ≡ false → (b ≡ 92 → ⊥) → Byte b c ≡ unescaped_at q s i
+    pub quoted_byte : not q ≡ false → (b ≡ 92 → ⊥) → Some (b, c) ≡ unescaped_at q s i
     quoted_byte n ne = sym e ∙ a ∙ rw (not_false q n, unescaped_plain s i read.2 (rw read.0 ne))
 
     -- r' is the one that the code read after a backslash
-    module _ (n : not q ≡ false) (w : b ≡ 92) {r' : ByteRead} (a' : r' ≡ byte_at s c.at) where
+    module _ (n : not q ≡ false) (w : b ≡ 92) {r' : Option (ℕ × Cursor)} (a' : r' ≡ byte_at s c.at) where
       after : r' ≡ byte_at s (i + 1)
       after = a' ∙ ap (λ (d : Cursor). byte_at s d.at) read.1
 
-      stray : escapes (drop (i + 1) s) ≡ false → Byte b c ≡ unescaped_at q s i
+      stray : escapes (drop (i + 1) s) ≡ false → Some (b, c) ≡ unescaped_at q s i
       stray f = sym e ∙ a ∙ rw (not_false q n, unescaped_stray s i read.2 (read.0 ∙ w) f)
 
-      pub last_slash : r' ≡ End → Byte b c ≡ unescaped_at q s i
+      pub last_slash : r' ≡ None → Some (b, c) ≡ unescaped_at q s i
       last_slash z = stray (none_escapes s (i + 1) (sym after ∙ z))
 
-      module _ {x : ℕ} {d : Cursor} (z : r' ≡ Byte x d) {t : Bool} (u : t ≡ is_escapable x) where
-        pub slash_byte : t ≡ true → Byte x d ≡ unescaped_at q s i
+      module _ {x : ℕ} {d : Cursor} (z : r' ≡ Some (x, d)) {t : Bool} (u : t ≡ is_escapable x) where
+        pub slash_byte : t ≡ true → Some (x, d) ≡ unescaped_at q s i
         slash_byte y =
             sym z ∙ after ∙ rw (not_false q n, unescaped_slash s i read.2 (read.0 ∙ w) (one_escapes s (i + 1) (sym after ∙ z) ∙ sym u ∙ y))
 
-        pub stray_slash : t ≡ false → Byte b c ≡ unescaped_at q s i
+        pub stray_slash : t ≡ false → Some (b, c) ≡ unescaped_at q s i
         stray_slash y = stray (one_escapes s (i + 1) (sym after ∙ z) ∙ sym u ∙ y)
 
 -- what answers the needs of `next_unescaped`
@@ -128,9 +127,9 @@ meaning_nil true = refl
 meaning_nil false = refl
 
 -- an answer is the next byte of the meaning, or says that there is none
-abbrev pub Shows : Bool → Bytes → ℕ → ByteRead → Type 0
-Shows q s i End = meaning q (drop i s) ≡ []
-Shows q s i (Byte b c) = (meaning q (drop i s) ≡ b ∷ meaning q (drop c.at s)) × (i < c.at) × (c.at ≤ length s)
+abbrev pub Shows : Bool → Bytes → ℕ → Option (ℕ × Cursor) → Type 0
+Shows q s i None = meaning q (drop i s) ≡ []
+Shows q s i (Some (b, c)) = (meaning q (drop i s) ≡ b ∷ meaning q (drop c.at s)) × (i < c.at) × (c.at ≤ length s)
 
 shows_there : (q : Bool) (s : Bytes) (i : ℕ) → i < length s → Shows q s i (unescaped_at q s i)
 unfolding unescaped

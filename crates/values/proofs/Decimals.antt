@@ -1,4 +1,5 @@
 -- Laws of the decimal form: its two cases, its number, that it is of digits and not empty, and that it is read back. Assumes nothing.
+use Rattle.std.specs.Prelude.{Some}
 use Prim.Native.Nat.{ℕ, zero, suc, ◌+◌, ◌-◌, ◌*◌, ◌/◌, ◌%◌, ◌≤◌, ◌<◌}
 use native.Mathlib.Nat.{pow-suc}
 use native.Mathlib.Numerals.{add-one}
@@ -10,7 +11,6 @@ use lib.Dec.{ltb}
 use lib.ListN.{length, length-append}
 use borrow.Author.Tests.{lt-ltb, le-ltb, le-leb, ltb-true, ltb-false, eqb-true}
 use Rattle.values.specs.Bytes.{Bytes, is, begins, any}
-use Rattle.values.specs.declared.integer.IntegerRead.TheVariants.{Value}
 use Rattle.values.specs.Integer.{is_digit, is_no_digit, is_plain, number_of, digits_of, decimal, unsigned_read, without_sign, integer_read}
 use Rattle.values.proofs.Tests.{or_l}
 use Rattle.values.proofs.Lists.{any_append, any_less}
@@ -85,16 +85,16 @@ decimal_some =
     (λ n h _. rw (decimal_large n h, length-append (decimal (n / 10)) ((48 + n % 10) ∷ [])) (omega arith))
 
 -- the decimal form is read back
-pub read_decimal : (bound n : ℕ) (plain : Bool) → n ≤ bound → unsigned_read bound plain (decimal n) ≡ Value n plain
+pub read_decimal : (bound n : ℕ) (plain : Bool) → n ≤ bound → unsigned_read bound plain (decimal n) ≡ Some (n, plain)
 read_decimal bound n plain h =
-    sym (spelled bound plain (decimal n) (λ e. omega (arith, decimal_some n)) (decimal_digits n) (rw (number_decimal n) h)) ∙ ap (λ (m : ℕ). Value m plain) (number_decimal n)
+    sym (spelled bound plain (decimal n) (λ e. omega (arith, decimal_some n)) (decimal_digits n) (rw (number_decimal n) h)) ∙ ap (λ (m : ℕ). Some (m, plain)) (number_decimal n)
 
 -- it holds no byte that is no digit
 pub decimal_lacks : (c n : ℕ) → is_digit c ≡ false → any (is c) (decimal n) ≡ false
 decimal_lacks c n h = any_less (is c) is_no_digit (λ b e. rw (eqb-true b c e, h)) (decimal n) (decimal_digits n)
 
 -- with a sign allowed or not
-pub integer_decimal : (sign : Bool) (bound n : ℕ) → n ≤ bound → integer_read sign bound (decimal n) ≡ Value n (is_plain (decimal n))
+pub integer_decimal : (sign : Bool) (bound n : ℕ) → n ≤ bound → integer_read sign bound (decimal n) ≡ Some (n, is_plain (decimal n))
 unfolding without_sign begins any
 integer_decimal sign bound n h = rw (signless sign (decimal n) (decimal_lacks 43 n refl)) (read_decimal bound n (is_plain (decimal n)) h)
   where

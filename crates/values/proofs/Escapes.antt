@@ -4,7 +4,7 @@ use native.Mathlib.Omega.{arith}
 use mathlib.Core.Path.{◌≡◌, refl, sym, ap, ◌∙◌}
 use mathlib.Core.Bool.{Bool, true, false}
 use mathlib.Core.List.{List, [], ◌∷◌, ◌++◌}
-use mathlib.Core.Option.{some}
+use Rattle.std.specs.Prelude.{Some}
 use lib.Dec.{leb}
 use borrow.Author.Tests.{eqb-true, ne_eqb, leb-true}
 use Rattle.values.specs.Bytes.{Bytes, is, any}
@@ -47,7 +47,7 @@ unescaped_escape (b ∷ v) = elim (test (is_escapable b)) [
 ]
 
 -- and is read up to its closing quote
-pub quoted_escape : (v r : Bytes) → quoted_text false (escape v ++ 34 ∷ r) ≡ some (escape v, r)
+pub quoted_escape : (v r : Bytes) → quoted_text false (escape v ++ 34 ∷ r) ≡ Some (escape v, r)
 unfolding quoted_text escape
 quoted_escape [] r = refl
 quoted_escape (b ∷ v) r = elim (test (is_escapable b)) [

@@ -4,7 +4,7 @@ use native.Mathlib.Omega.{arith}
 use mathlib.Core.Path.{◌≡◌, refl, sym, ◌∙◌}
 use mathlib.Core.Bool.{Bool, true, false, not, ◌&&◌, ◌||◌, or-false, or-true, and_assoc, true≢false, false≢true}
 use mathlib.Core.List.{List, [], ◌∷◌}
-use mathlib.Core.Option.{none, some}
+use Rattle.std.specs.Prelude.{None, Some}
 use lib.Dec.{leb, ltb}
 use lib.ListN.{length, get_or, replicate}
 use borrow.Author.Tests.{le-leb, lt-leb, le-ltb, lt-ltb, leb-true, leb-false, ltb-true, ltb-false, ne_eqb}
@@ -68,21 +68,21 @@ lowered high b h = elim (test (leb b high)) [
 
 -- what a first byte asks for
 data Asks (b : ℕ) : Type 0 where
-  single : b < 0x80 → followers b ≡ some [] → Asks b
-  several : (r : Range) (n : ℕ) → followers b ≡ some (r ∷ replicate n tail) → After b r → (0xC2 ≤ b) × (b ≤ 0xF4)
+  single : b < 0x80 → followers b ≡ Some [] → Asks b
+  several : (r : Range) (n : ℕ) → followers b ≡ Some (r ∷ replicate n tail) → After b r → (0xC2 ≤ b) × (b ≤ 0xF4)
       → ((p : ℕ) → p < 0xF0 → Behind n p b) → Asks b
-  nothing : is_first b ≡ false → followers b ≡ none → Asks b
+  nothing : is_first b ≡ false → followers b ≡ None → Asks b
 
 -- every row ends below b
 abbrev Under : List Character → ℕ → Type 0
 Under [] b = Unit {0}
 Under (r ∷ rs) b = (r.first.high < b) × Under rs b
 
-look_past : (rs : List Character) (b : ℕ) → Under rs b → look rs b ≡ none
+look_past : (rs : List Character) (b : ℕ) → Under rs b → look rs b ≡ None
 look_past [] b h = refl
 look_past (r ∷ rs) b h = rw (and_off (leb r.first.low b) (lt-leb b r.first.high h.0), look) (look_past rs b h.1)
 
-past_rows : (b : ℕ) → 0xF5 ≤ b → followers b ≡ none
+past_rows : (b : ℕ) → 0xF5 ≤ b → followers b ≡ None
 unfolding followers
 past_rows b h = look_past characters b (omega arith)
 

@@ -1,4 +1,5 @@
 -- The hash: a turn of its loop on plain values. Assumes nothing.
+use Rattle.std.specs.Prelude.{Option, Some, None}
 use Prim.Native.Nat.{ℕ, ◌+◌, ◌-◌, ◌*◌, ◌^◌, ◌<◌}
 use native.Mathlib.Omega.{arith}
 use native.Mathlib.Nat.{mul-le-mul, mod-lt}
@@ -10,8 +11,6 @@ use Rattle.values.specs.Value.{meaning}
 use Rattle.values.specs.Places.{unescaped_at}
 use Rattle.values.specs.Hash.{offset_basis, hash_byte, hashed, hash_of, wide_step, wide_from}
 use Rattle.values.specs.declared.cursor.Cursor.{Cursor}
-use Rattle.values.specs.declared.cursor.ByteRead.{ByteRead}
-use Rattle.values.specs.declared.cursor.ByteRead.TheVariants.{Byte, End}
 use Rattle.values.proofs.Meanings.{told_end, told_byte, told_less}
 
 -- the hash of what is left of a text, from here on, is the whole hash
@@ -22,12 +21,12 @@ pub hash_start : {kind : ℕ} {text : Bytes} {quoted : Bool} {hash : ℕ} → ha
 unfolding hash_of hashed
 hash_start e = record { still = rw e }
 
-module _ {kind : ℕ} {text : Bytes} {quoted : Bool} {hash i : ℕ} (g : Hashing kind text quoted hash i) {r : ByteRead} (a : r ≡ unescaped_at quoted text i) where
-  pub hash_end : r ≡ End → hash ≡ hash_of kind (meaning quoted text)
+module _ {kind : ℕ} {text : Bytes} {quoted : Bool} {hash i : ℕ} (g : Hashing kind text quoted hash i) {r : Option (ℕ × Cursor)} (a : r ≡ unescaped_at quoted text i) where
+  pub hash_end : r ≡ None → hash ≡ hash_of kind (meaning quoted text)
   unfolding hashed
   hash_end e = sym (g.still ∙ rw (told_end quoted text i a e))
 
-  pub hash_next : {b : ℕ} {c : Cursor} → r ≡ Byte b c → {hash' : ℕ} → hash' ≡ hash_byte hash b → Hashing kind text quoted hash' c.at
+  pub hash_next : {b : ℕ} {c : Cursor} → r ≡ Some (b, c) → {hash' : ℕ} → hash' ≡ hash_byte hash b → Hashing kind text quoted hash' c.at
   unfolding hashed
   hash_next e h = record { still = g.still ∙ rw (told_byte quoted text i a e, h) }
 
@@ -39,21 +38,21 @@ pub record Widening (start : ℕ) (text : Bytes) (quoted : Bool) (hash i : ℕ) 
 pub wide_start : (start : ℕ) (text : Bytes) (quoted : Bool) → Widening start text quoted start 0
 wide_start start text quoted = record { still = refl }
 
-module _ {start : ℕ} {text : Bytes} {quoted : Bool} {hash i : ℕ} (g : Widening start text quoted hash i) {r : ByteRead} (a : r ≡ unescaped_at quoted text i) where
-  pub wide_end : r ≡ End → hash ≡ wide_from start (meaning quoted text)
+module _ {start : ℕ} {text : Bytes} {quoted : Bool} {hash i : ℕ} (g : Widening start text quoted hash i) {r : Option (ℕ × Cursor)} (a : r ≡ unescaped_at quoted text i) where
+  pub wide_end : r ≡ None → hash ≡ wide_from start (meaning quoted text)
   unfolding wide_from
   wide_end e = sym (g.still ∙ rw (told_end quoted text i a e))
 
-  module _ {b : ℕ} {c : Cursor} (e : r ≡ Byte b c) {r' : ByteRead} (a' : r' ≡ unescaped_at quoted text c.at) where
-    pub wide_one : r' ≡ End → {hash' : ℕ} → hash' ≡ wide_step hash b → hash' ≡ wide_from start (meaning quoted text)
+  module _ {b : ℕ} {c : Cursor} (e : r ≡ Some (b, c)) {r' : Option (ℕ × Cursor)} (a' : r' ≡ unescaped_at quoted text c.at) where
+    pub wide_one : r' ≡ None → {hash' : ℕ} → hash' ≡ wide_step hash b → hash' ≡ wide_from start (meaning quoted text)
     unfolding wide_from
     wide_one e' h = h ∙ sym (g.still ∙ rw (told_byte quoted text i a e, told_end quoted text c.at a' e'))
 
-    pub wide_two : {b' : ℕ} {c' : Cursor} → r' ≡ Byte b' c' → {hash' : ℕ} → hash' ≡ wide_step hash (b * 256 + b') → Widening start text quoted hash' c'.at
+    pub wide_two : {b' : ℕ} {c' : Cursor} → r' ≡ Some (b', c') → {hash' : ℕ} → hash' ≡ wide_step hash (b * 256 + b') → Widening start text quoted hash' c'.at
     unfolding wide_from
     wide_two e' h = record { still = g.still ∙ rw (told_byte quoted text i a e, told_byte quoted text c.at a' e', h) }
 
-    pub wide_less : {b' : ℕ} {c' : Cursor} → r' ≡ Byte b' c' → length text - c'.at < length text - i
+    pub wide_less : {b' : ℕ} {c' : Cursor} → r' ≡ Some (b', c') → length text - c'.at < length text - i
     wide_less e' = omega (arith, told_less quoted text i a e, told_less quoted text c.at a' e')
 
 pub ruleset wides = (wide_start, wide_end, wide_one, wide_two, wide_less)

@@ -1,37 +1,36 @@
 -- Integers: a turn of `unsigned`'s loop on plain values, the sign, and the bound of what is read. Assumes nothing.
+use Rattle.std.specs.Prelude.{Option, Some, None}
 use Prim.Native.Nat.{ℕ, suc, ◌+◌, ◌-◌, ◌*◌, ◌/◌, ◌^◌, ◌≤◌, ◌<◌}
 use native.Mathlib.Nat.{pow-suc, one-le-pow, mul-le-mul_left}
 use native.Mathlib.Omega.{arith}
 use mathlib.Core.Path.{◌≡◌, refl, sym, ap, ◌∙◌}
-use mathlib.Core.Bool.{Bool, true, false, not, ◌||◌}
+use mathlib.Core.Bool.{Bool, true, false, not, ◌||◌, ◌&&◌}
 use mathlib.Core.List.{[], ◌∷◌}
 use lib.Dec.{eqb, leb, lit<}
 use lib.ListN.{length, get_or, take, drop, drop_of_length-le}
 use borrow.Author.Tests.{le-leb, lt-leb, leb-true, eq-eqb, ne_eqb}
 use Rattle.values.specs.Bytes.{Bytes, empty, begins, any}
-use Rattle.values.specs.declared.integer.IntegerRead.{IntegerRead}
-use Rattle.values.specs.declared.integer.IntegerRead.TheVariants.{Value, Refused}
 use Rattle.values.specs.Integer.{is_no_digit, number_of, spells, is_plain, value_if, unsigned_read, without_sign, integer_read}
 use Rattle.values.proofs.Tests.{pass, fail, test, and_r, and_off, not_true, not_false, never}
-use Rattle.values.proofs.Lists.{here, rest}
+use Rattle.values.proofs.Lists.{here, rest, some_pair}
 
-other_byte : (bound : ℕ) (plain : Bool) (s : Bytes) → any is_no_digit s ≡ true → Refused ≡ unsigned_read bound plain s
+other_byte : (bound : ℕ) (plain : Bool) (s : Bytes) → any is_no_digit s ≡ true → None ≡ unsigned_read bound plain s
 unfolding unsigned_read
 other_byte bound plain [] e = refl
 other_byte bound plain (b ∷ s) e = simp e
 
-too_large : (bound : ℕ) (plain : Bool) (s : Bytes) → bound < number_of s → Refused ≡ unsigned_read bound plain s
+too_large : (bound : ℕ) (plain : Bool) (s : Bytes) → bound < number_of s → None ≡ unsigned_read bound plain s
 unfolding unsigned_read
 too_large bound plain [] h = refl
 too_large bound plain (b ∷ s) h =
     sym (ap (λ (t : Bool). value_if t (number_of (b ∷ s)) plain) (and_off (not (any is_no_digit (b ∷ s))) (lt-leb (number_of (b ∷ s)) bound h)))
 
-pub spelled : (bound : ℕ) (plain : Bool) (s : Bytes) → (length s ≡ 0 → ⊥) → any is_no_digit s ≡ false → number_of s ≤ bound → Value (number_of s) plain ≡ unsigned_read bound plain s
+pub spelled : (bound : ℕ) (plain : Bool) (s : Bytes) → (length s ≡ 0 → ⊥) → any is_no_digit s ≡ false → number_of s ≤ bound → Some (number_of s, plain) ≡ unsigned_read bound plain s
 unfolding unsigned_read
 spelled bound plain [] ne e h = absurd (ne refl)
 spelled bound plain (b ∷ s) ne e h = simp (e, le-leb (number_of (b ∷ s)) bound h)
 
-pub nothing : (bound : ℕ) (plain : Bool) (s : Bytes) → length s ≡ 0 → Refused ≡ unsigned_read bound plain s
+pub nothing : (bound : ℕ) (plain : Bool) (s : Bytes) → length s ≡ 0 → None ≡ unsigned_read bound plain s
 unfolding unsigned_read
 nothing bound plain [] e = refl
 nothing bound plain (b ∷ s) e = absurd (let k : suc (length s) ≡ 0 = e in omega arith)
@@ -101,44 +100,42 @@ module _ {s : Bytes} {bound n i : ℕ} (g : Reading s bound n i) (plain : Bool) 
   value : number_of s ≡ (n * 10 + (b - 48)) * 10 ^ length t + number_of t
   value = g.value ∙ rw (here s i, number_cons b t, pow-suc 10 (length t)) (omega arith)
 
-  pub low : b < 48 → Refused ≡ unsigned_read bound plain s
-  low lt = other_byte bound plain s (others ∙ simp (lt-leb 48 b lt))
+  -- q is what the code's test of the byte answered
+  pub no_digit_there : {q : Bool} → q ≡ (leb 48 b && leb b 57) → q ≡ false → None ≡ unsigned_read bound plain s
+  no_digit_there a e = other_byte bound plain s (others ∙ rw (← a, e))
 
-  pub high : 57 < b → Refused ≡ unsigned_read bound plain s
-  high lt = other_byte bound plain s (others ∙ ap (λ (p : Bool). not p || any is_no_digit t) (and_off (leb 48 b) (lt-leb b 57 lt)))
-
-  over : bound < n * 10 + (b - 48) → Refused ≡ unsigned_read bound plain s
+  over : bound < n * 10 + (b - 48) → None ≡ unsigned_read bound plain s
   over lt =
       let e = value in
       let m = mul-le-mul_left (n * 10 + (b - 48)) (one-le-pow (length t) 10 (lit< tt)) in
       too_large bound plain s (omega arith)
 
   -- the code's two tests that the number stays within the bound
-  pub over_digit : bound < b - 48 → Refused ≡ unsigned_read bound plain s
+  pub over_digit : bound < b - 48 → None ≡ unsigned_read bound plain s
   over_digit lt = over (omega arith)
 
-  pub over_number : b - 48 ≤ bound → (bound - (b - 48)) / 10 < n → Refused ≡ unsigned_read bound plain s
+  pub over_number : b - 48 ≤ bound → (bound - (b - 48)) / 10 < n → None ≡ unsigned_read bound plain s
   over_number le lt = over (omega arith)
 
-  pub more : 48 ≤ b → b ≤ 57 → b - 48 ≤ bound → n ≤ (bound - (b - 48)) / 10 → Reading s bound (n * 10 + (b - 48)) (i + 1)
-  more l u le le' = record {
+  pub more : {q : Bool} → q ≡ (leb 48 b && leb b 57) → q ≡ true → b - 48 ≤ bound → n ≤ (bound - (b - 48)) / 10 → Reading s bound (n * 10 + (b - 48)) (i + 1)
+  more a e le le' = record {
     inside = omega arith;
     small = omega arith;
-    others = others ∙ simp (le-leb 48 b l, le-leb b 57 u);
+    others = others ∙ rw (← a, e);
     value = value;
   }
 
 pub started : (bound : ℕ) (s : Bytes) → Reading s bound 0 0
 started bound s = record { inside = omega arith; small = omega arith; others = refl; value = omega arith }
 
-pub ended : {s : Bytes} {bound n i : ℕ} → Reading s bound n i → (plain : Bool) → length s ≤ i → (length s ≡ 0 → ⊥) → Value n plain ≡ unsigned_read bound plain s
+pub ended : {s : Bytes} {bound n i : ℕ} → Reading s bound n i → (plain : Bool) → length s ≤ i → (length s ≡ 0 → ⊥) → Some (n, plain) ≡ unsigned_read bound plain s
 unfolding any number_of
 ended {s} {bound} {n} g plain h ne =
     let e : number_of s ≡ n = g.value ∙ rw (drop_of_length-le s h) (omega arith) in
-    ap (λ (m : ℕ). Value m plain) (sym e) ∙ spelled bound plain s ne (g.others ∙ rw (drop_of_length-le s h)) (omega (arith, g.small))
+    ap (λ (m : ℕ). Some (m, plain)) (sym e) ∙ spelled bound plain s ne (g.others ∙ rw (drop_of_length-le s h)) (omega (arith, g.small))
 
 -- what answers the needs of `unsigned`
-pub ruleset turns = (nothing, started, low, high, over_digit, over_number, more, ended)
+pub ruleset turns = (nothing, started, no_digit_there, over_digit, over_number, more, ended)
 
 with_plus : (s : Bytes) {sign : Bool} → sign ≡ true → 0 < length s → get_or s 0 0 ≡ 43 → without_sign sign s ≡ drop 1 s
 unfolding without_sign begins
@@ -153,36 +150,36 @@ with_none (b ∷ s) true ne = rw (ne_eqb b 43 ne, without_sign)
 with_none (b ∷ s) false ne = refl
 
 module _ (bound : ℕ) (s : Bytes) (sign : Bool) where
-  pub no_byte : length s ≡ 0 → Refused ≡ integer_read sign bound s
-  no_byte h = nothing bound (is_plain s) s h ∙ rw (with_none s sign (no_first s h))
-    where
-      no_first : (s : Bytes) → length s ≡ 0 → get_or s 0 0 ≡ 43 → ⊥
-      no_first [] h q = omega arith
-      no_first (b ∷ s) h q = omega arith
-
   -- r is what `unsigned` answered
-  module _ {p : Bool} (told : p ≡ is_plain s) {r : IntegerRead} where
-    pub no_sign : not sign ≡ true → r ≡ unsigned_read bound p s → r ≡ integer_read sign bound s
+  module _ {p : Bool} (told : p ≡ is_plain s) {r : Option (ℕ × Bool)} where
+    pub no_byte : length s ≤ 0 → r ≡ unsigned_read bound p s → r ≡ integer_read sign bound s
+    no_byte h a = a ∙ rw (told, with_none s sign (no_first s (omega arith)))
+      where
+        no_first : (s : Bytes) → length s ≡ 0 → get_or s 0 0 ≡ 43 → ⊥
+        no_first [] h q = omega arith
+        no_first (b ∷ s) h q = omega arith
+
+    pub no_sign : sign ≡ false → r ≡ unsigned_read bound p s → r ≡ integer_read sign bound s
     unfolding without_sign
-    no_sign e a = a ∙ rw (told, not_true sign e)
+    no_sign e a = a ∙ rw (told, e)
 
     pub no_plus : (get_or s 0 0 ≡ 43 → ⊥) → r ≡ unsigned_read bound p s → r ≡ integer_read sign bound s
     no_plus ne a = a ∙ rw (told, with_none s sign ne)
 
-    pub plus : not sign ≡ false → (length s ≡ 0 → ⊥) → get_or s 0 0 ≡ 43 → r ≡ unsigned_read bound p (take (length s - 1) (drop 1 s)) → r ≡ integer_read sign bound s
-    plus e h q a = a ∙ rw (told, rest s 1, with_plus s (not_false sign e) (omega arith) q)
+    pub plus : sign ≡ true → 0 < length s → get_or s 0 0 ≡ 43 → r ≡ unsigned_read bound p (take (length s - 1) (drop 1 s)) → r ≡ integer_read sign bound s
+    plus e h q a = a ∙ rw (told, rest s 1, with_plus s e (omega arith) q)
 
 -- what answers the needs of `integer`
 pub ruleset signs = (no_byte, no_sign, no_plus, plus)
 
 -- a number that was read is at most the bound
-pub read_bound : (sign : Bool) (bound : ℕ) (s : Bytes) {n : ℕ} {p : Bool} → integer_read sign bound s ≡ Value n p → n ≤ bound
+pub read_bound : (sign : Bool) (bound : ℕ) (s : Bytes) {n : ℕ} {p : Bool} → integer_read sign bound s ≡ Some (n, p) → n ≤ bound
 unfolding unsigned_read
 read_bound sign bound s e = go (is_plain s) (without_sign sign s) e
   where
-    go : (plain : Bool) (w : Bytes) {n : ℕ} {p : Bool} → unsigned_read bound plain w ≡ Value n p → n ≤ bound
+    go : (plain : Bool) (w : Bytes) {n : ℕ} {p : Bool} → unsigned_read bound plain w ≡ Some (n, p) → n ≤ bound
     go plain w {n} e = elim (test (spells bound w)) [
-      | pass q ↦ let k : number_of w ≡ n = cc (e, q) in
+      | pass q ↦ let k : number_of w ≡ n = (some_pair (rw q at e)).0 in
           omega (arith, leb-true (number_of w) bound (and_r (not (any is_no_digit w)) _ (and_r (not (empty w)) _ q)))
       | fail q ↦ never (cc (e, q))
     ]

@@ -3,10 +3,10 @@ use Prim.Native.Nat.{ℕ, ◌+◌, ◌-◌, ◌≤◌, ◌<◌}
 use native.Mathlib.Numerals.{add-one}
 use native.Mathlib.Decide.{dec_le}
 use native.Mathlib.Omega.{arith}
-use mathlib.Core.Path.{◌≡◌, refl, sym, ◌∙◌}
+use mathlib.Core.Path.{◌≡◌, refl, sym, ap, ◌∙◌}
 use mathlib.Core.Bool.{Bool, true, false, ◌||◌, or_assoc}
 use mathlib.Core.List.{List, [], ◌∷◌, ◌++◌, tail}
-use mathlib.Core.Option.{Option, none, some}
+use Rattle.std.specs.Prelude.{Option, None, Some}
 use lib.ListN.{length, get_or, take, drop, length-drop, drop_of_length-le}
 use lib.Seq.{drop-cons, drop-drop, take_all}
 use borrow.Author.Tests.{eqb-true}
@@ -18,17 +18,28 @@ here s i h = rw (add-one, drop-cons s i 0)
 
 -- what holds of an answer, if there is one
 abbrev pub OnSome : {A : Type 0} → (A → Type 0) → Option A → Type 0
-OnSome P none = Unit {0}
-OnSome P (some x) = P x
+OnSome P None = Unit {0}
+OnSome P (Some x) = P x
 
-pub on_some : {A : Type 0} (P : A → Type 0) {a : Option A} {x : A} → OnSome P a → a ≡ some x → P x
+pub on_some : {A : Type 0} (P : A → Type 0) {a : Option A} {x : A} → OnSome P a → a ≡ Some x → P x
 on_some P h e = rw e at h
 
-pub some_is : {A : Type 0} {x y : A} → some x ≡ some y → x ≡ y
+pub some_is : {A : Type 0} {x y : A} → Some x ≡ Some y → x ≡ y
 some_is e = cc
 
-pub none_not : {A B : Type 0} {x : A} → ◌≡◌ {A = Option A} none (some x) → B
+pub none_not : {A B : Type 0} {x : A} → ◌≡◌ {A = Option A} None (Some x) → B
 none_not e = never cc
+
+pub some_not : {A B : Type 0} {x : A} → ◌≡◌ {A = Option A} (Some x) None → B
+some_not e = none_not (sym e)
+
+-- two answers that are the same, part by part
+pub some_pair : {A B : Type 0} {a x : A} {b y : B} → ◌≡◌ {A = Option (A × B)} (Some (a, b)) (Some (x, y)) → (a ≡ x) × (b ≡ y)
+some_pair {A} {B} {a} {x} {b} {y} e = let p = some_is {A = A × B} {x = (a, b)} {y = (x, y)} e in (ap (λ (q : A × B). q.0) p, ap (λ (q : A × B). q.1) p)
+
+pub some_three : {A B C : Type 0} {a x : A} {b y : B} {c z : C} → ◌≡◌ {A = Option (A × B × C)} (Some (a, b, c)) (Some (x, y, z)) → (a ≡ x) × (b ≡ y) × (c ≡ z)
+some_three {A} {B} {C} {a} {x} {b} {y} {c} {z} e =
+    let p = some_is {A = A × B × C} {x = (a, b, c)} {y = (x, y, z)} e in (ap (λ (q : A × B × C). q.0) p, ap (λ (q : A × B × C). q.1) p, ap (λ (q : A × B × C). q.2) p)
 
 -- a place is before the end, or past it
 pub data Stands (s : List ℕ) (i : ℕ) : Type 0 where

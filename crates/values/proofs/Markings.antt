@@ -3,11 +3,11 @@ use Prim.Native.Nat.{ℕ, ◌-◌, ◌*◌, ◌/◌, ◌%◌, ◌^◌, ◌≤◌
 use native.Mathlib.Omega.{arith}
 use native.Mathlib.Nat.{mod-lt, mul-le-mul, div-lt_iff_lt-mul, min-le_left, min-eq_left, min-eq_right}
 use mathlib.Core.Path.{◌≡◌, refl, sym, ap, ◌∙◌}
-use mathlib.Core.Bool.{Bool, true, false, not, ◌||◌, ◌&&◌}
+use mathlib.Core.Bool.{Bool, true, false, ◌||◌, ◌&&◌}
 use mathlib.Core.List.{List, [], ◌∷◌}
 use lib.Arith.{bin_ind}
 use lib.Bits.{bit_and, bit_or, and_step, or_step, or_comm, and_self, and_le_r}
-use lib.Dec.{eqb}
+use lib.Dec.{ltb, eqb}
 use lib.ListN.{length, get_or, set, length-set}
 use lib.Pow.{pow-lt}
 use lib.Seq.{get_or-set_same, get_or-set_other}
@@ -15,7 +15,7 @@ use borrow.Author.Tests.{lt-ltb, le-ltb, eq-eqb, ne_eqb, eqb-true, eqb-false}
 use Rattle.values.specs.Bytes.{Bytes}
 use Rattle.values.specs.Hash.{wide_step, wide_of}
 use Rattle.values.specs.Marks.{ended, mark_word, mark_bit, mark_bits, has_bits, is_set, set_bits, set_all, is_few, second, is_met, meet, is_marked, mark, is_noted, note}
-use Rattle.values.proofs.Tests.{pass, fail, test, and_l, and_r, and_on, or_on, not_true, not_false}
+use Rattle.values.proofs.Tests.{pass, fail, test, and_l, and_r, and_on, or_on}
 use Rattle.values.proofs.Hashes.{product_fits}
 
 -- Bits: what `or` adds takes none away
@@ -194,17 +194,17 @@ module _ (ms : List ℕ) (hash : ℕ) where
 
   -- what answers the needs of `is_met` and `meet_hash`
   module _ {end : ℕ} (ee : end ≡ wide_step hash 0) where
-    pub not_met : {q : Bool} → q ≡ is_set ms end → not q ≡ true → false ≡ is_met ms hash
+    pub not_met : {q : Bool} → q ≡ is_set ms end → q ≡ false → q ≡ is_met ms hash
     unfolding is_met
-    not_met {q} e n = rw (← ee, ← e, not_true q n)
+    not_met {q} e n = n ∙ rw (← ee, ← e, n)
 
-    pub met_once : {q : Bool} → q ≡ is_set ms end → not q ≡ false → length ms < 65536 → true ≡ is_met ms hash
+    pub met_once : {q : Bool} → q ≡ is_set ms end → q ≡ true → length ms < 65536 → ltb (length ms) 65536 ≡ is_met ms hash
     unfolding is_met is_few
-    met_once {q} e n l = rw (← ee, ← e, not_false q n, lt-ltb (length ms) 65536 l)
+    met_once {q} e n l = lt-ltb (length ms) 65536 l ∙ rw (← ee, ← e, n, lt-ltb (length ms) 65536 l)
 
-    pub met_again : {q : Bool} → q ≡ is_set ms end → not q ≡ false → 65536 ≤ length ms → {other : ℕ} → other ≡ wide_step end 1 → {r : Bool} → r ≡ is_set ms other → r ≡ is_met ms hash
+    pub met_again : {q : Bool} → q ≡ is_set ms end → q ≡ true → 65536 ≤ length ms → {other : ℕ} → other ≡ wide_step end 1 → {r : Bool} → r ≡ is_set ms other → r ≡ is_met ms hash
     unfolding is_met is_few
-    met_again {q} e n l eo f = f ∙ rw (eo, ← ee, ← e, not_false q n, le-ltb (length ms) 65536 l)
+    met_again {q} e n l eo f = f ∙ rw (eo, ← ee, ← e, n, le-ltb (length ms) 65536 l)
 
     pub few_met : length ms < 65536 → {q : Bool} → q ≡ is_set ms end → q ≡ is_met ms hash
     unfolding is_met is_few

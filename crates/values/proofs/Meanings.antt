@@ -1,4 +1,5 @@
 -- Texts by their meaning: compared, and written; a turn of each loop on plain values. Assumes nothing.
+use Rattle.std.specs.Prelude.{Option, Some, None, is_some}
 use Prim.Native.Nat.{ℕ, ◌-◌, ◌≤◌, ◌<◌}
 use native.Mathlib.Omega.{arith}
 use mathlib.Core.Path.{◌≡◌, refl, sym, subst, ◌∙◌}
@@ -11,22 +12,20 @@ use Rattle.values.specs.Places.{unescaped_at}
 use Rattle.values.specs.Written.{last, Puts}
 use Rattle.values.specs.declared.sink.Sink.{Sink}
 use Rattle.values.specs.declared.cursor.Cursor.{Cursor}
-use Rattle.values.specs.declared.cursor.ByteRead.{ByteRead}
-use Rattle.values.specs.declared.cursor.ByteRead.TheVariants.{Byte, End}
-use Rattle.values.proofs.Tests.{not_true, not_false}
+use Rattle.values.proofs.Tests.{never, not_true, not_false}
 use Rattle.values.proofs.Sames.{same_hit, same_miss}
 use Rattle.values.proofs.Cursors.{Shows, shows}
 use Rattle.values.proofs.Outputs.{puts_nothing, puts_length, puts_capped, then}
 
 -- what the code was told of the next byte
-module _ (q : Bool) (s : Bytes) (i : ℕ) {r : ByteRead} (a : r ≡ unescaped_at q s i) where
-  told : {x : ByteRead} → r ≡ x → Shows q s i x
+module _ (q : Bool) (s : Bytes) (i : ℕ) {r : Option (ℕ × Cursor)} (a : r ≡ unescaped_at q s i) where
+  told : {x : Option (ℕ × Cursor)} → r ≡ x → Shows q s i x
   told e = subst (Shows q s i) (sym a ∙ e) (shows q s i)
 
-  pub told_end : r ≡ End → meaning q (drop i s) ≡ []
+  pub told_end : r ≡ None → meaning q (drop i s) ≡ []
   told_end e = told e
 
-  module _ {b : ℕ} {c : Cursor} (e : r ≡ Byte b c) where
+  module _ {b : ℕ} {c : Cursor} (e : r ≡ Some (b, c)) where
     pub told_byte : meaning q (drop i s) ≡ b ∷ meaning q (drop c.at s)
     told_byte = (told e).0
 
@@ -46,21 +45,30 @@ pub compare : (a : Bytes) (aq : Bool) (b : Bytes) (bq : Bool) → Comparing a aq
 compare a aq b bq = record { still = refl }
 
 module _ {a : Bytes} {aq : Bool} {b : Bytes} {bq : Bool} {i j : ℕ} (g : Comparing a aq b bq i j)
-    {r : ByteRead} (ea : r ≡ unescaped_at aq a i) {t : ByteRead} (eb : t ≡ unescaped_at bq b j) where
-  pub both_end : r ≡ End → t ≡ End → true ≡ same (meaning aq a) (meaning bq b)
+    {r : Option (ℕ × Cursor)} (ea : r ≡ unescaped_at aq a i) {t : Option (ℕ × Cursor)} (eb : t ≡ unescaped_at bq b j) where
+  both_end : r ≡ None → t ≡ None → true ≡ same (meaning aq a) (meaning bq b)
   unfolding same
   both_end er et = sym (g.still ∙ rw (told_end aq a i ea er, told_end bq b j eb et))
 
-  pub right_longer : r ≡ End → {y : ℕ} {d : Cursor} → t ≡ Byte y d → false ≡ same (meaning aq a) (meaning bq b)
+  right_longer : r ≡ None → {y : ℕ} {d : Cursor} → t ≡ Some (y, d) → false ≡ same (meaning aq a) (meaning bq b)
   unfolding same
   right_longer er et = sym (g.still ∙ rw (told_end aq a i ea er, told_byte bq b j eb et))
 
-  module _ {x : ℕ} {c : Cursor} (er : r ≡ Byte x c) where
-    pub left_longer : t ≡ End → false ≡ same (meaning aq a) (meaning bq b)
+  pub ends_too : r ≡ None → {v : Bool} → is_some t ≡ not v → v ≡ same (meaning aq a) (meaning bq b)
+  ends_too er {v} w = go t refl v w
+    where
+      go : (x : Option (ℕ × Cursor)) → t ≡ x → (v : Bool) → is_some x ≡ not v → v ≡ same (meaning aq a) (meaning bq b)
+      go None e true w = both_end er e
+      go None e false w = never cc
+      go (Some p) e true w = never cc
+      go (Some p) e false w = right_longer er e
+
+  module _ {x : ℕ} {c : Cursor} (er : r ≡ Some (x, c)) where
+    pub left_longer : t ≡ None → false ≡ same (meaning aq a) (meaning bq b)
     unfolding same
     left_longer et = sym (g.still ∙ rw (told_byte aq a i ea er, told_end bq b j eb et))
 
-    module _ {y : ℕ} {d : Cursor} (et : t ≡ Byte y d) where
+    module _ {y : ℕ} {d : Cursor} (et : t ≡ Some (y, d)) where
       turn : same (meaning aq a) (meaning bq b) ≡ same (x ∷ meaning aq (drop c.at a)) (y ∷ meaning bq (drop d.at b))
       turn = g.still ∙ rw (told_byte aq a i ea er, told_byte bq b j eb et)
 
@@ -71,7 +79,7 @@ module _ {a : Bytes} {aq : Bool} {b : Bytes} {bq : Bool} {i j : ℕ} (g : Compar
       agree e = record { still = turn ∙ same_hit x y _ _ e }
 
 -- what answers the needs of `same_meaning`
-pub ruleset compares = (both_bare, compare, both_end, right_longer, left_longer, differ, agree, told_less)
+pub ruleset compares = (both_bare, compare, ends_too, left_longer, differ, agree, told_less)
 
 spelling_nil : (quote : Bool) → spelling quote [] ≡ []
 unfolding escape
@@ -85,19 +93,19 @@ spelling_cons false b bs = refl
 
 -- what answers the needs of `put_spelled`
 module _ {given out : Bytes} {at : Sink} (b : ℕ) (quote : Bool) where
-  pub bare_spelled : not quote ≡ true → {r : Sink} {o : Bytes} → Puts given out at (b ∷ []) r o → Puts given out at (spelling quote (b ∷ [])) r o
-  bare_spelled n w = rw (not_true quote n) w
+  pub bare_spelled : quote ≡ false → {r : Sink} {o : Bytes} → Puts given out at (b ∷ []) r o → Puts given out at (spelling quote (b ∷ [])) r o
+  bare_spelled n w = rw n w
 
   -- q is what the code's test of the byte answered
-  module _ (n : not quote ≡ false) {q : Bool} (a : q ≡ is_escapable b) where
+  module _ (n : quote ≡ true) {q : Bool} (a : q ≡ is_escapable b) where
     pub plain_spelled : q ≡ false → {r : Sink} {o : Bytes} → Puts given out at (b ∷ []) r o → Puts given out at (spelling quote (b ∷ [])) r o
     unfolding escape
-    plain_spelled e w = rw (not_false quote n, sym a ∙ e, escaped_byte) w
+    plain_spelled e w = rw (n, sym a ∙ e, escaped_byte) w
 
     pub slash_spelled : q ≡ true → {r : Sink} {o : Bytes} → Puts given out at (92 ∷ []) r o → {r' : Sink} {o' : Bytes} → Puts given o r (b ∷ []) r' o'
         → Puts given out at (spelling quote (b ∷ [])) r' o'
     unfolding escape
-    slash_spelled e w w' = rw (not_false quote n, sym a ∙ e, escaped_byte) (then w w')
+    slash_spelled e w w' = rw (n, sym a ∙ e, escaped_byte) (then w w')
 
 pub ruleset spells = (bare_spelled, plain_spelled, slash_spelled)
 
@@ -112,11 +120,11 @@ pub write : (given out : Bytes) (at : Sink) (s : Bytes) (q quote : Bool) → at.
 write given out at s q quote h l = record { capped = h; fits = l; size = refl; still = λ r o w. w }
 
 module _ {given out₀ : Bytes} {at : Sink} {s : Bytes} {q quote : Bool} {out : Bytes} {next : Sink} {c : ℕ} (g : Writing given out₀ at s q quote out next c)
-    {r : ByteRead} (a : r ≡ unescaped_at q s c) where
-  pub wrote_all : r ≡ End → Puts given out₀ at (spelling quote (meaning q s)) next out
+    {r : Option (ℕ × Cursor)} (a : r ≡ unescaped_at q s c) where
+  pub wrote_all : r ≡ None → Puts given out₀ at (spelling quote (meaning q s)) next out
   wrote_all e = g.still next out (rw (told_end q s c a e, spelling_nil quote) (puts_nothing given out next g.capped g.fits))
 
-  pub wrote_one : {b : ℕ} {d : Cursor} → r ≡ Byte b d → {n : Sink} {o : Bytes} → Puts given out next (spelling quote (b ∷ [])) n o
+  pub wrote_one : {b : ℕ} {d : Cursor} → r ≡ Some (b, d) → {n : Sink} {o : Bytes} → Puts given out next (spelling quote (b ∷ [])) n o
       → Writing given out₀ at s q quote o n d.at
   wrote_one {b} {d} e w = record {
     capped = puts_capped w;

@@ -6,7 +6,7 @@ use native.Mathlib.Decide.{dec_le}
 use mathlib.Core.Path.{◌≡◌, refl, sym, ap, ◌∙◌}
 use mathlib.Core.Bool.{true, false}
 use mathlib.Core.List.{[], ◌∷◌, ◌++◌}
-use mathlib.Core.Option.{Option, none, some}
+use Rattle.std.specs.Prelude.{Option, None, Some}
 use lib.ListN.{length, get_or, drop, set, length-append, drop_of_length-le}
 use lib.Seq.{sets, length-sets, set_out}
 use Rattle.values.specs.Bytes.{Bytes}
@@ -51,7 +51,7 @@ module _ (given : Bytes) (at b : ℕ) (text : Bytes) where
   unfolding differing
   differing_same e = rw (differing, e)
 
-  differing_here : is_at given at b ≡ false → differing given at (b ∷ text) ≡ some at
+  differing_here : is_at given at b ≡ false → differing given at (b ∷ text) ≡ Some at
   unfolding differing
   differing_here e = rw (differing, e)
 
@@ -142,13 +142,9 @@ unfolding onward
 puts_capped w = rw w.place (omega arith)
 
 -- what answers the needs of `count_on` and `put_bytes`
-pub counted_on : (at n : ℕ) → at + n ≤ last → at + n ≡ onward at n
+pub counted : (at n : ℕ) {m : ℕ} → m ≡ min (at + n) last → m ≡ onward at n
 unfolding onward
-counted_on at n h = omega arith
-
-pub counted_full : (at n : ℕ) → last < at + n → last ≡ onward at n
-unfolding onward
-counted_full at n h = omega arith
+counted at n e = e
 
 pub counts_past : {given out : Bytes} {s : Sink} (text : Bytes) {n : ℕ} → n ≡ onward s.at (length text) → s.at ≤ last → length out ≤ s.at → s.differs ≤ s.at
     → Puts given out s text (record { at = n; differs = s.differs }) out
@@ -201,5 +197,5 @@ only_written {at = at} {text} w =
     record { place = w.place; differs = least (differing [] at text); output = w.output; fits = w.fits; capped = w.capped }
   where
     least : (x : Option ℕ) → 0 ≡ sooner 0 x
-    least none = refl
-    least (some p) = omega arith
+    least None = refl
+    least (Some p) = omega arith

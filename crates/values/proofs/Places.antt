@@ -4,7 +4,7 @@ use native.Mathlib.Omega.{arith}
 use mathlib.Core.Path.{◌≡◌, refl, sym, ap, ◌∙◌}
 use mathlib.Core.Bool.{Bool, true, false}
 use mathlib.Core.List.{[], ◌∷◌, ◌++◌, tail, append_assoc}
-use mathlib.Core.Option.{Option, none, some}
+use Rattle.std.specs.Prelude.{Option, None, Some}
 use lib.ListN.{length, drop, length-append, length-drop}
 use lib.Seq.{drop-drop}
 use borrow.Author.Tests.{eqb-true}
@@ -14,9 +14,8 @@ use Rattle.values.specs.Field.{Field, written_field, is_key, read_key, with_valu
 use Rattle.values.specs.Places.{cursor_at, text_at, field_placed, field_at}
 use Rattle.values.specs.declared.cursor.Cursor.{Cursor}
 use Rattle.values.specs.declared.string.Text.{Text}
-use Rattle.values.specs.declared.field.FieldRead.TheVariants as field
 use Rattle.values.proofs.Tests.{pass, fail, test, and_r, never}
-use Rattle.values.proofs.Lists.{OnSome, on_some, before_from, from_is}
+use Rattle.values.proofs.Lists.{OnSome, on_some, before_from, from_is, some_three, none_not}
 use Rattle.values.proofs.Values.{bracketed_is, bracketed_not}
 use Rattle.values.proofs.Fields.{KeyIn, key_in, text_here, text_inside, tail_is}
 
@@ -25,8 +24,8 @@ abbrev pub QuotedIn : Bytes → Bytes × Bytes → Type 0
 QuotedIn bs p = bs ≡ p.0 ++ 34 ∷ p.1
 
 put_in : (b : ℕ) (bs : Bytes) (a : Option (Bytes × Bytes)) → OnSome (QuotedIn bs) a → OnSome (QuotedIn (b ∷ bs)) (prepend b a)
-put_in b bs none h = tt
-put_in b bs (some p) h = ap (b ∷◌) h
+put_in b bs None h = tt
+put_in b bs (Some p) h = ap (b ∷◌) h
 
 pub quoted_in : (e : Bool) (bs : Bytes) → OnSome (QuotedIn bs) (quoted_text e bs)
 unfolding quoted_text
@@ -46,8 +45,8 @@ ValueIn bs p = bs ≡ written p.0 ++ p.1
 
 in_quotes_lem : (bs : Bytes) (a : Option (Bytes × Bytes)) → OnSome (QuotedIn bs) a → OnSome (ValueIn (34 ∷ bs)) (in_quotes a)
 unfolding written
-in_quotes_lem bs none h = tt
-in_quotes_lem bs (some p) h = rw (h, append_assoc)
+in_quotes_lem bs None h = tt
+in_quotes_lem bs (Some p) h = rw (h, append_assoc)
 
 values_in : (bs : Bytes) → OnSome (ValueIn bs) (read_values bs)
 unfolding written
@@ -82,16 +81,16 @@ unfolding read_field written_field
 field_in m bs = with_key_lem (read_key bs) (key_in bs)
   where
     with_value_lem : (p : Bytes × Bytes) → KeyIn bs p → (a : Option (Value × Bytes)) → OnSome (ValueIn p.1) a → OnSome (FieldIn m bs) (with_value p.0 a)
-    with_value_lem p k none h = tt
-    with_value_lem p k (some q) h = record {
+    with_value_lem p k None h = tt
+    with_value_lem p k (Some q) h = record {
       text = k.text ∙ ap (λ (t : Bytes). p.0 ++ 61 ∷ t) h ∙ sym (append_assoc p.0 (61 ∷ written q.0) q.1);
       legal = k.legal;
       plain = k.plain;
     }
 
     with_key_lem : (a : Option (Bytes × Bytes)) → OnSome (KeyIn bs) a → OnSome (FieldIn m bs) (with_key m a)
-    with_key_lem none h = tt
-    with_key_lem (some p) h = with_value_lem p h (read_value (may_bracket m p.0) p.1) (value_in_lem (may_bracket m p.0) p.1)
+    with_key_lem None h = tt
+    with_key_lem (Some p) h = with_value_lem p h (read_value (may_bracket m p.0) p.1) (value_in_lem (may_bracket m p.0) p.1)
 
 -- the value whose text stands at a place
 abbrev pub value_by : Bool → Bytes → Value
@@ -133,7 +132,7 @@ text_of_value s j (bare t) r e h =
 -- a field that the code was told of, and where its parts stand
 pub record FieldHere (m : Bool) (s : Bytes) (i e : ℕ) (t : Text) (n : Cursor) : Type 0 where
   pub field : Field
-  pub read : read_field m (drop i s) ≡ some (field, drop n.at s)
+  pub read : read_field m (drop i s) ≡ Some (field, drop n.at s)
   pub equals : e ≡ i + length (field).key
   pub text : t ≡ text_at (i + length (field).key + 1) (field).value
   pub next : n.at ≡ i + length (written_field field)
@@ -149,19 +148,20 @@ key_some : (k : Bytes) → is_key k ≡ true → 0 < length k
 key_some [] e = never cc
 key_some (b ∷ k) e = omega arith
 
-pub field_here : (m : Bool) (s : Bytes) (i : ℕ) {e : ℕ} {t : Text} {n : Cursor} → field_at m s i ≡ field.Field e t n → FieldHere m s i e t n
+pub field_here : (m : Bool) (s : Bytes) (i : ℕ) {e : ℕ} {t : Text} {n : Cursor} → field_at m s i ≡ Some (e, t, n) → FieldHere m s i e t n
 unfolding field_at written_field
 field_here m s i {e} {t} {n} q = go (read_field m (drop i s)) refl q
   where
-    go : (x : Option (Field × Bytes)) → read_field m (drop i s) ≡ x → field_placed i x ≡ field.Field e t n → FieldHere m s i e t n
-    go none a f = never cc
-    go (some p) a f =
+    go : (x : Option (Field × Bytes)) → read_field m (drop i s) ≡ x → field_placed i x ≡ Some (e, t, n) → FieldHere m s i e t n
+    go None a f = none_not f
+    go (Some p) a f =
+        let parts = some_three f in
         let k = p.0.key in
         let v = p.0.value in
         let j = i + length k + 1 in
-        let we : i + length k ≡ e = cc in
-        let wt : text_at j v ≡ t = cc in
-        let wn : cursor_at (i + length (k ++ 61 ∷ written v)) ≡ n = cc in
+        let we : i + length k ≡ e = parts.0 in
+        let wt : text_at j v ≡ t = parts.1 in
+        let wn : cursor_at (i + length (k ++ 61 ∷ written v)) ≡ n = parts.2 in
         let h = on_some (FieldIn m (drop i s)) (field_in m (drop i s)) a in
         let x : drop i s ≡ k ++ 61 ∷ (written v ++ p.1) = h.text ∙ append_assoc k (61 ∷ written v) p.1 in
         let kh = text_here s i k (61 ∷ written v ++ p.1) x in

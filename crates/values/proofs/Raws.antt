@@ -3,13 +3,12 @@ use Prim.Native.Nat.{ℕ}
 use mathlib.Core.Path.{◌≡◌, refl, sym, ap, ◌∙◌}
 use mathlib.Core.Bool.{Bool, true, false, not, ◌&&◌}
 use mathlib.Core.List.{[], ◌∷◌, tail}
-use mathlib.Core.Option.{Option, none, some}
+use Rattle.std.specs.Prelude.{Option, None, Some}
 use borrow.Author.Tests.{eqb-true}
 use Rattle.values.specs.Bytes.{Bytes, is, empty, begins, any}
 use Rattle.values.specs.Integer.{is_no_digit, is_plain, value_if, unsigned_read, without_sign, integer_read, number_of}
 use Rattle.values.specs.Value.{Value, text_of, meaning_of, unescaped, prepend, is_escapable, quoted_text, in_quotes, is_bracketed, read_unquoted, read_value}
 use Rattle.values.specs.Field.{read_key, with_value, may_bracket, with_key, read_field}
-use Rattle.values.specs.declared.integer.IntegerRead.TheVariants.{Refused}
 use Rattle.values.proofs.Tests.{pass, fail, test, or_l, or_r, or_on, and_r}
 use Rattle.values.proofs.Lists.{OnSome}
 use Rattle.values.proofs.Values.{bracketed_is, bracketed_not}
@@ -22,17 +21,17 @@ Slashed false p = any (is 92) p.0 ≡ true → any is_escapable (unescaped false
 
 put_escaped : (b : ℕ) → is_escapable b ≡ true → (a : Option (Bytes × Bytes)) → OnSome (Slashed true) (prepend b a)
 unfolding any
-put_escaped b e none = tt
-put_escaped b e (some p) = rw (unescaped_escaped b p.0 e, any, e)
+put_escaped b e None = tt
+put_escaped b e (Some p) = rw (unescaped_escaped b p.0 e, any, e)
 
 put_slash : (b : ℕ) → is 92 b ≡ true → (a : Option (Bytes × Bytes)) → OnSome (Slashed true) a → OnSome (Slashed false) (prepend b a)
-put_slash b e none h = tt
-put_slash b e (some p) h = λ u. rw (unescaped_slash b p.0 e) h
+put_slash b e None h = tt
+put_slash b e (Some p) h = λ u. rw (unescaped_slash b p.0 e) h
 
 put_plain : (b : ℕ) → is 92 b ≡ false → (a : Option (Bytes × Bytes)) → OnSome (Slashed false) a → OnSome (Slashed false) (prepend b a)
 unfolding any
-put_plain b e none h = tt
-put_plain b e (some p) h = λ u. rw (unescaped_plain b p.0 e, any) (or_on (is_escapable b) (h (rw (any, e) at u)))
+put_plain b e None h = tt
+put_plain b e (Some p) h = λ u. rw (unescaped_plain b p.0 e, any) (or_on (is_escapable b) (h (rw (any, e) at u)))
 
 slashed : (e : Bool) (bs : Bytes) → OnSome (Slashed e) (quoted_text e bs)
 unfolding quoted_text any
@@ -83,11 +82,11 @@ sign_left sign (b ∷ t) e = elim (test (sign && is 43 b)) [
 ]
 
 -- an escapable byte refuses the text
-refused : (sign : Bool) (bound : ℕ) (t : Bytes) → any is_escapable t ≡ true → integer_read sign bound t ≡ Refused
+refused : (sign : Bool) (bound : ℕ) (t : Bytes) → any is_escapable t ≡ true → integer_read sign bound t ≡ None
 unfolding unsigned_read
 refused sign bound t e = rw (unsigned_read, sign_left sign t e) (off (not (empty (without_sign sign t))))
   where
-    off : (q : Bool) → value_if (q && false) (number_of (without_sign sign t)) (is_plain t) ≡ Refused
+    off : (q : Bool) → value_if (q && false) (number_of (without_sign sign t)) (is_plain t) ≡ None
     off true = refl
     off false = refl
 
@@ -103,8 +102,8 @@ Raw sign bound v = integer_read sign bound (meaning_of v) ≡ integer_read sign 
 
 module _ (sign : Bool) (bound : ℕ) where
   in_quotes_lem : (a : Option (Bytes × Bytes)) → OnSome (Slashed false) a → OnSome (λ p. Raw sign bound p.0) (in_quotes a)
-  in_quotes_lem none h = tt
-  in_quotes_lem (some p) h = raw_quoted sign bound p h
+  in_quotes_lem None h = tt
+  in_quotes_lem (Some p) h = raw_quoted sign bound p h
 
   unquoted : (m : Bool) (bs : Bytes) → OnSome (λ p. Raw sign bound p.0) (read_unquoted m bs)
   unquoted true bs = elim (test (is_bracketed bs)) [
@@ -121,12 +120,12 @@ module _ (sign : Bool) (bound : ℕ) where
   ]
 
   with_value_lem : (k : Bytes) (a : Option (Value × Bytes)) → OnSome (λ p. Raw sign bound p.0) a → OnSome (λ p. Raw sign bound p.0.value) (with_value k a)
-  with_value_lem k none h = tt
-  with_value_lem k (some p) h = h
+  with_value_lem k None h = tt
+  with_value_lem k (Some p) h = h
 
   with_key_lem : (m : Bool) (a : Option (Bytes × Bytes)) → OnSome (λ p. Raw sign bound p.0.value) (with_key m a)
-  with_key_lem m none = tt
-  with_key_lem m (some p) = with_value_lem p.0 (read_value (may_bracket m p.0) p.1) (value_raw (may_bracket m p.0) p.1)
+  with_key_lem m None = tt
+  with_key_lem m (Some p) = with_value_lem p.0 (read_value (may_bracket m p.0) p.1) (value_raw (may_bracket m p.0) p.1)
 
   pub field_raw : (m : Bool) (bs : Bytes) → OnSome (λ p. Raw sign bound p.0.value) (read_field m bs)
   unfolding read_field

@@ -5,7 +5,7 @@ use native.Mathlib.Nat.{le_trans, lt_of_le_of_lt, lt_of_lt_of_le}
 use mathlib.Core.Path.{◌≡◌, refl, ◌∙◌}
 use mathlib.Core.Bool.{Bool, true, false, ◌&&◌}
 use mathlib.Core.List.{List, [], ◌∷◌}
-use mathlib.Core.Option.{Option, none, some}
+use Rattle.std.specs.Prelude.{Option, None, Some}
 use lib.Dec.{leb, ltb}
 use borrow.Author.Tests.{le-leb, lt-leb, leb-true, ltb-true}
 use Rattle.values.specs.Utf8.{Range, Character, within, look, characters, followers}
@@ -23,11 +23,11 @@ step false false true hit more = more
 step false false false hit more = split
 
 abbrev pub span : List Character → ℕ → ℕ → Found
-span [] lo hi = one none
+span [] lo hi = one None
 span (r ∷ rs) lo hi =
-    step (leb r.first.low lo && leb hi r.first.high) (ltb hi r.first.low) (ltb r.first.high lo) (one (some r.follow)) (span rs lo hi)
+    step (leb r.first.low lo && leb hi r.first.high) (ltb hi r.first.low) (ltb r.first.high lo) (one (Some r.follow)) (span rs lo hi)
 
-in_row : (r : Character) (rs : List Character) (b : ℕ) → within r.first b ≡ true → look (r ∷ rs) b ≡ some r.follow
+in_row : (r : Character) (rs : List Character) (b : ℕ) → within r.first b ≡ true → look (r ∷ rs) b ≡ Some r.follow
 in_row r rs b e = rw (e, look)
 
 off_row : (r : Character) (rs : List Character) (b : ℕ) → within r.first b ≡ false → look (r ∷ rs) b ≡ look rs b
@@ -35,7 +35,7 @@ off_row r rs b e = rw (e, look)
 
 module _ (r : Character) (rs : List Character) (lo hi b : ℕ) {x : Option (List Range)} (l : lo ≤ b) (h : b ≤ hi) (later : span rs lo hi ≡ one x → look rs b ≡ x) where
   go : (i u o : Bool) → (leb r.first.low lo && leb hi r.first.high) ≡ i → ltb hi r.first.low ≡ u → ltb r.first.high lo ≡ o
-      → step i u o (one (some r.follow)) (span rs lo hi) ≡ one x → look (r ∷ rs) b ≡ x
+      → step i u o (one (Some r.follow)) (span rs lo hi) ≡ one x → look (r ∷ rs) b ≡ x
   go true u o ei eu eo e =
       let low = leb r.first.low lo in
       let high = leb hi r.first.high in

@@ -2,9 +2,10 @@
 use Prim.Native.Nat.{ℕ, ◌+◌, ◌-◌, ◌≤◌, ◌<◌}
 use native.Mathlib.Omega.{arith}
 use mathlib.Core.Path.{◌≡◌, refl, sym, ap, ap₂, ◌∙◌}
-use mathlib.Core.Bool.{true, false}
+use mathlib.Core.Bool.{Bool, true, false}
 use mathlib.Core.List.{[], ◌∷◌}
 use lib.Dec.{eqb}
+use lib.Pointwise.{pointwise}
 use lib.ListN.{length, get_or, drop, take, length-drop, drop_of_length-le}
 use lib.Seq.{take_all, take-nil}
 use borrow.Author.Tests.{eqb-true, eq-eqb, ne_eqb}
@@ -83,50 +84,19 @@ module _ {a b : Bytes} {i : ℕ} (g : Ending a b i) where
 
 pub ruleset sames = (lengths_differ, end_same, bytes_differ, bytes_agree, all_agree)
 
-starts_hit : (x y : ℕ) (p s : Bytes) → x ≡ y → starts (y ∷ p) (x ∷ s) ≡ starts p s
+-- the library's test of a prefix is that of the rules
+starts_pointwise : (p s : Bytes) → pointwise eqb p (take (length p) s) ≡ starts p s
 unfolding starts
-starts_hit x y p s e = rw (eq-eqb x y e, starts)
-
-starts_miss : (x y : ℕ) (p s : Bytes) → (x ≡ y → ⊥) → starts (y ∷ p) (x ∷ s) ≡ false
-unfolding starts
-starts_miss x y p s n = rw (ne_eqb x y n, starts)
-
-starts_short : (p s : Bytes) → length s < length p → starts p s ≡ false
-unfolding starts
-starts_short [] s h = absurd (omega arith)
-starts_short (c ∷ p) [] h = refl
-starts_short (c ∷ p) (b ∷ s) h = elim (test (eqb b c)) [
-  | pass e ↦ rw (starts, e) (starts_short p s (omega arith))
-  | fail e ↦ rw (starts, e)
+starts_pointwise [] s = refl
+starts_pointwise (c ∷ p) [] = refl
+starts_pointwise (c ∷ p) (b ∷ s) = elim (test (eqb b c)) [
+  | pass e ↦ rw (starts, e, eqb-true b c e, eq-eqb c c refl) (starts_pointwise p s)
+  | fail e ↦ rw (starts, e, ne_eqb c b (λ z. both (eq-eqb b c (sym z)) e))
 ]
 
--- the bytes before i are those of p
-pub record Starting (p s : Bytes) (i : ℕ) : Type 0 where
-  pub long : length p ≤ length s
-  pub still : starts p s ≡ starts (drop i p) (drop i s)
-
-pub too_short : (p s : Bytes) → length s < length p → false ≡ starts p s
-too_short p s h = sym (starts_short p s h)
-
-pub start_same : (p s : Bytes) → length p ≤ length s → Starting p s 0
-start_same p s h = record { long = h; still = refl }
-
-module _ {p s : Bytes} {i : ℕ} (g : Starting p s i) where
-  pub start_differs : i < length p → (get_or s i 0 ≡ get_or p i 0 → ⊥) → false ≡ starts p s
-  start_differs h n =
-      let l = g.long in
-      sym (g.still ∙ rw (here p i h, here s i (omega arith), starts_miss (get_or s i 0) (get_or p i 0) (drop (i + 1) p) (drop (i + 1) s) n))
-
-  pub start_agrees : i < length p → get_or s i 0 ≡ get_or p i 0 → Starting p s (i + 1)
-  start_agrees h e =
-      let l = g.long in
-      record { long = l; still = g.still ∙ rw (here p i h, here s i (omega arith), starts_hit (get_or s i 0) (get_or p i 0) (drop (i + 1) p) (drop (i + 1) s) e) }
-
-  pub starts_all : length p ≤ i → true ≡ starts p s
-  unfolding starts
-  starts_all h = sym (g.still ∙ rw (drop_of_length-le p h))
-
-pub ruleset prefixes = (too_short, start_same, start_differs, start_agrees, starts_all)
+-- what answers the needs of `starts_with`
+pub starts_by : (p s : Bytes) {q : Bool} → q ≡ pointwise eqb p (take (length p) s) → q ≡ starts p s
+starts_by p s e = e ∙ starts_pointwise p s
 
 -- A part of a slice, as far as there is any
 

@@ -1,12 +1,12 @@
 -- Scans to the first byte of a class, a turn of each on plain values. Assumes nothing.
 use Prim.Native.Nat.{ℕ, ◌+◌, ◌≤◌, ◌<◌}
 use native.Mathlib.Omega.{arith}
-use mathlib.Core.Path.{◌≡◌, refl, sym, ap, ◌∙◌}
+use mathlib.Core.Path.{◌≡◌, refl, sym, ◌∙◌}
 use mathlib.Core.Bool.{Bool, true, false}
 use lib.Dec.{eqb}
 use lib.ListN.{length, get_or, drop, drop_of_length-le}
-use borrow.Author.Tests.{eq-eqb, ne_eqb}
-use Rattle.values.specs.Bytes.{Bytes, is, before}
+use borrow.Author.Tests.{ne_eqb}
+use Rattle.values.specs.Bytes.{Bytes, before}
 use Rattle.values.specs.Field.{ends_key}
 use Rattle.values.proofs.Lists.{here, before_hit, before_miss}
 
@@ -41,33 +41,6 @@ module _ {t : ℕ → Bool} {s : Bytes} {start i : ℕ} (g : Scanning t s start 
 -- what answers the needs of a scan by a class
 pub ruleset turns = (started, hit, miss, ended)
 
--- a scan for one byte
-module _ {x : ℕ} {s : Bytes} {start i : ℕ} (g : Scanning (is x) s start i) (h : i < length s) where
-  pub met : get_or s i 0 ≡ x → i ≡ stop_of (is x) s start
-  met e = stops g h (eq-eqb (get_or s i 0) x e)
-
-  pub passed : (get_or s i 0 ≡ x → ⊥) → Scanning (is x) s start (i + 1)
-  passed ne = goes g h (ne_eqb (get_or s i 0) x ne)
-
--- the second byte of a turn
-module _ {x : ℕ} {s : Bytes} {start i : ℕ} (g : Scanning (is x) s start i) (h : i < length s) (ne : get_or s i 0 ≡ x → ⊥) where
-  pub ended_behind : length s ≤ i + 1 → i + 1 ≡ stop_of (is x) s start
-  ended_behind = ended (passed g h ne)
-
-  pub met_behind : i + 1 < length s → get_or s (i + 1) 0 ≡ x → i + 1 ≡ stop_of (is x) s start
-  met_behind = met (passed g h ne)
-
-  pub passed_behind : i + 1 < length s → (get_or s (i + 1) 0 ≡ x → ⊥) → Scanning (is x) s start (i + 1 + 1)
-  passed_behind = passed (passed g h ne)
-
--- what answers the needs of `find`
-pub ruleset finds = (started, met, ended, ended_behind, met_behind, passed_behind)
-
--- what answers the needs of `ends_key`
-pub key_byte : {b : ℕ} (x : ℕ) → ends_key x ≡ true → b ≡ x → true ≡ ends_key b
-key_byte x e q = sym (ap ends_key q ∙ e)
-
+-- a byte that ends a key, where it is none of the first four
 pub last_key_byte : (b : ℕ) → (b ≡ 61 → ⊥) → (b ≡ 44 → ⊥) → (b ≡ 60 → ⊥) → (b ≡ 62 → ⊥) → eqb b 34 ≡ ends_key b
 last_key_byte b p q r t = simp (ne_eqb b 61 p, ne_eqb b 44 q, ne_eqb b 60 r, ne_eqb b 62 t)
-
-pub ruleset key_bytes_lem = (key_byte, last_key_byte)

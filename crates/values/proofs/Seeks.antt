@@ -2,11 +2,9 @@
 use Prim.Native.Nat.{ℕ, ◌+◌, ◌≤◌, ◌<◌}
 use native.Mathlib.Omega.{arith}
 use mathlib.Core.Path.{◌≡◌, refl, sym, ◌∙◌}
-use mathlib.Core.Bool.{Bool, true, false, ◌||◌}
+use mathlib.Core.Bool.{Bool, true, false, ◌||◌, or_assoc}
 use lib.ListN.{length, get_or, drop, drop_of_length-le}
-use borrow.Author.Tests.{eq-eqb, ne_eqb}
 use Rattle.values.specs.Bytes.{Bytes, is, any}
-use Rattle.values.proofs.Tests.{or_on}
 use Rattle.values.proofs.Lists.{here}
 
 -- one is among the bytes where it was found before k, or is among those from k on
@@ -23,11 +21,8 @@ module _ {t : ℕ → Bool} {s : Bytes} {found : Bool} {k : ℕ} (g : Seeking t 
   turn = g.same ∙ rw (here s k)
 
   -- q is what the code's test of the byte answered
-  pub seek_met : {q : Bool} → q ≡ t (get_or s k 0) → q ≡ true → Seeking t s true (k + 1)
-  seek_met a e = record { inside = omega arith; same = turn ∙ or_on found (rw (← a, e)) }
-
-  pub seek_unmet : {q : Bool} → q ≡ t (get_or s k 0) → q ≡ false → Seeking t s found (k + 1)
-  seek_unmet a e = record { inside = omega arith; same = turn ∙ rw (← a, e) }
+  pub seek_on : {q : Bool} → q ≡ t (get_or s k 0) → Seeking t s (found || q) (k + 1)
+  seek_on {q} a = record { inside = omega arith; same = turn ∙ rw (← a) (sym (or_assoc found q _)) }
 
 pub all_seen : {t : ℕ → Bool} {s : Bytes} {found : Bool} {k : ℕ} → Seeking t s found k → length s ≤ k → found ≡ any t s
 unfolding any
@@ -38,14 +33,4 @@ all_seen {t} {s} {found} g h = sym (g.same ∙ rw (drop_of_length-le s h) (whole
     whole false = refl
 
 -- what answers the needs of such a loop
-pub ruleset seeks = (sought, seek_met, seek_unmet, all_seen)
-
--- the same for one byte
-module _ {x : ℕ} {s : Bytes} {found : Bool} {k : ℕ} (g : Seeking (is x) s found k) (h : k < length s) where
-  pub byte_met : get_or s k 0 ≡ x → Seeking (is x) s true (k + 1)
-  byte_met e = seek_met g h (sym (eq-eqb (get_or s k 0) x e)) refl
-
-  pub byte_unmet : (get_or s k 0 ≡ x → ⊥) → Seeking (is x) s found (k + 1)
-  byte_unmet ne = seek_unmet g h (sym (ne_eqb (get_or s k 0) x ne)) refl
-
-pub ruleset seeks_byte = (sought, byte_met, byte_unmet, all_seen)
+pub ruleset seeks = (sought, seek_on, all_seen)

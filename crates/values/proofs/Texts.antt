@@ -4,18 +4,18 @@ use native.Mathlib.Omega.{arith}
 use mathlib.Core.Path.{◌≡◌, refl}
 use mathlib.Core.Bool.{true, false, ◌&&◌}
 use mathlib.Core.List.{List, [], ◌∷◌, ◌++◌}
-use mathlib.Core.Option.{Option, none, some}
+use Rattle.std.specs.Prelude.{Option, None, Some}
 use borrow.Author.Tests.{lt-leb}
 use Rattle.values.specs.Bytes.{Bytes}
 use Rattle.values.specs.Utf8.{Range, Character, within, look, characters, followers, completes, is_utf8}
 use Rattle.values.proofs.Tests.{pass, fail, test}
 use Rattle.values.proofs.Rows.{spans}
 
-pub begin_bad : (b : ℕ) (t : Bytes) → followers b ≡ none → completes [] (b ∷ t) ≡ false
+pub begin_bad : (b : ℕ) (t : Bytes) → followers b ≡ None → completes [] (b ∷ t) ≡ false
 unfolding completes
 begin_bad b t e = rw (e, completes)
 
-pub begin : (b : ℕ) (t : Bytes) {p : List Range} → followers b ≡ some p → completes [] (b ∷ t) ≡ completes p t
+pub begin : (b : ℕ) (t : Bytes) {p : List Range} → followers b ≡ Some p → completes [] (b ∷ t) ≡ completes p t
 unfolding completes
 begin b t e = rw (e, completes)
 
@@ -28,12 +28,12 @@ unfolding completes
 next b t r p e = rw (e, completes)
 
 pub data Led (o : Option (List Range)) : Type 0 where
-  no_row : o ≡ none → Led o
-  in_row : (p : List Range) → o ≡ some p → Led o
+  no_row : o ≡ None → Led o
+  in_row : (p : List Range) → o ≡ Some p → Led o
 
 pub led : (o : Option (List Range)) → Led o
-led none = no_row refl
-led (some p) = in_row p refl
+led None = no_row refl
+led (Some p) = in_row p refl
 
 -- every byte after a first one is 128 or more
 abbrev pub High : List Range → Type 0
@@ -45,8 +45,8 @@ HighRows [] = Unit {0}
 HighRows (r ∷ rs) = High r.follow × HighRows rs
 
 abbrev pub HighLook : Option (List Range) → Type 0
-HighLook none = Unit {0}
-HighLook (some p) = High p
+HighLook None = Unit {0}
+HighLook (Some p) = High p
 
 pub look_high : (rs : List Character) (b : ℕ) → HighRows rs → HighLook (look rs b)
 look_high [] b h = tt
@@ -55,7 +55,7 @@ look_high (r ∷ rs) b h = elim (test (within r.first b)) [
   | fail e ↦ rw (e, look) (look_high rs b h.1)
 ]
 
-pub followers_high : (b : ℕ) {p : List Range} → followers b ≡ some p → High p
+pub followers_high : (b : ℕ) {p : List Range} → followers b ≡ Some p → High p
 unfolding followers
 followers_high b e = rw e at (look_high characters b (omega arith))
 

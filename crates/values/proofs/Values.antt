@@ -4,7 +4,7 @@ use native.Mathlib.Omega.{arith}
 use mathlib.Core.Path.{◌≡◌, refl, sym, ap, ◌∙◌}
 use mathlib.Core.Bool.{Bool, true, false, not}
 use mathlib.Core.List.{[], ◌∷◌, ◌++◌}
-use mathlib.Core.Option.{Option, none, some}
+use Rattle.std.specs.Prelude.{Option, None, Some}
 use lib.Dec.{eqb}
 use lib.ListN.{length, get_or, take, drop, length-append, length-take, length-drop, take-append-drop}
 use lib.Seq.{drop-drop}
@@ -13,20 +13,15 @@ use Rattle.values.specs.Bytes.{Bytes, is, any, begins, before, from}
 use Rattle.values.specs.Value.{written, prepend, is_escapable, quoted_text, in_quotes, read_quoted, is_stop, read_bare, is_bracketed, read_bracketed, read_values, read_unquoted, read_value}
 use Rattle.values.specs.Places.{cursor_at, byte_at, closing_at, value_placed, escaped_from, value_at}
 use Rattle.values.specs.declared.cursor.Cursor.{Cursor}
-use Rattle.values.specs.declared.cursor.ByteRead.{ByteRead}
-use Rattle.values.specs.declared.cursor.ByteRead.TheVariants.{Byte, End}
-use Rattle.values.specs.declared.string.Closing.{Closing}
-use Rattle.values.specs.declared.string.Closing.TheVariants.{At, Missing}
-use Rattle.values.specs.declared.string.ValueRead.{ValueRead}
-use Rattle.values.specs.declared.string.ValueRead.TheVariants as value
 use Rattle.values.proofs.Tests.{not_true, not_false, and_off, or_l, or_r}
-use Rattle.values.proofs.Lists.{there, past, stands, drop_past, here, from_at, from_none, from_some}
+use Rattle.values.proofs.Lists.{there, past, stands, drop_past, here, from_at, from_none, from_some, some_pair, none_not, some_not}
 use Rattle.values.proofs.Scans.{stop_of}
 use Rattle.values.proofs.Cursors.{byte_read, byte_there}
+use Rattle.values.specs.declared.string.Text.{Text}
 
 closing_put : (i b : ℕ) (x : Option (Bytes × Bytes)) → closing_at i (prepend b x) ≡ closing_at (i + 1) x
-closing_put i b none = refl
-closing_put i b (some p) = let e : i + suc (length p.0) ≡ i + 1 + length p.0 = omega arith in rw e
+closing_put i b None = refl
+closing_put i b (Some p) = let e : i + suc (length p.0) ≡ i + 1 + length p.0 = omega arith in rw e
 
 -- the text before i goes on with no closingAt quote
 pub record Quoting (s : Bytes) (start : ℕ) (escaped : Bool) (i : ℕ) : Type 0 where
@@ -36,13 +31,13 @@ pub open_quote : (s : Bytes) (start : ℕ) → Quoting s start false start
 open_quote s start = record { still = refl }
 
 module _ {s : Bytes} {start : ℕ} {escaped : Bool} {i : ℕ} (g : Quoting s start escaped i) where
-  pub never_closed : length s ≤ i → Missing ≡ closing_at start (quoted_text false (drop start s))
+  pub never_closed : length s ≤ i → None ≡ closing_at start (quoted_text false (drop start s))
   unfolding quoted_text
-  never_closed h = sym (g.still ∙ rw (drop_past s i h) (none escaped))
+  never_closed h = sym (g.still ∙ rw (drop_past s i h) (at_end escaped))
     where
-      none : (e : Bool) → closing_at i (quoted_text e []) ≡ Missing
-      none true = refl
-      none false = refl
+      at_end : (e : Bool) → closing_at i (quoted_text e []) ≡ None
+      at_end true = refl
+      at_end false = refl
 
   module _ (h : i < length s) where
     abbrev b : ℕ
@@ -55,7 +50,7 @@ module _ {s : Bytes} {start : ℕ} {escaped : Bool} {i : ℕ} (g : Quoting s sta
     turn = g.still ∙ rw (here s i)
 
     -- q is what the code's test of the byte answered
-    pub bad_escape : escaped ≡ true → {q : Bool} → q ≡ is_escapable b → not q ≡ true → Missing ≡ closing_at start (quoted_text false (drop start s))
+    pub bad_escape : escaped ≡ true → {q : Bool} → q ≡ is_escapable b → not q ≡ true → None ≡ closing_at start (quoted_text false (drop start s))
     unfolding quoted_text
     bad_escape e {q} a n = sym (turn ∙ rw (e, quoted_text, ← a, not_true q n))
 
@@ -63,7 +58,7 @@ module _ {s : Bytes} {start : ℕ} {escaped : Bool} {i : ℕ} (g : Quoting s sta
     unfolding quoted_text
     good_escape e {q} a n = record { still = turn ∙ rw (e, quoted_text, ← a, not_false q n) (closing_put i b (quoted_text false t)) }
 
-    pub closed : escaped ≡ false → b ≡ 34 → At i (cursor_at (i + 1)) ≡ closing_at start (quoted_text false (drop start s))
+    pub closed : escaped ≡ false → b ≡ 34 → Some (i, cursor_at (i + 1)) ≡ closing_at start (quoted_text false (drop start s))
     unfolding quoted_text
     closed e w = let z : i + 0 ≡ i = omega arith in sym (turn ∙ rw (e, quoted_text, eq-eqb b 34 w) (rw z))
 
@@ -82,8 +77,8 @@ plain_past (b ∷ xs) ys i e =
     (closing_put i b (quoted_text false (xs ++ ys)) ∙ plain_past xs ys (i + 1) (or_r (is_escapable b) (any is_escapable xs) e))
 
 module _ {s : Bytes} {start i : ℕ} (g : Quoting s start false i) where
-  pub plain_skipped : 16 ≤ length s → i ≤ length s - 16 → {q : Bool} → q ≡ any is_escapable (take (i + 16 - i) (drop i s)) → q ≡ false → Quoting s start false (i + 16)
-  plain_skipped w l a e =
+  pub plain_skipped : {m : ℕ} → m ≡ length s - i → 16 ≤ m → {q : Bool} → q ≡ any is_escapable (take (i + 16 - i) (drop i s)) → q ≡ false → Quoting s start false (i + 16)
+  plain_skipped v w a e =
       let n : i + 16 - i ≡ 16 = omega arith in
       let m : length (take 16 (drop i s)) ≡ 16 = omega (arith, length-take 16 (drop i s), length-drop i s) in
       let d : drop 16 (drop i s) ≡ drop (i + 16) s = drop-drop 16 i s in
@@ -105,7 +100,7 @@ pub ruleset closes = (from_plain, never_closed, bad_escape, good_escape, closed,
 
 -- what answers the needs of `parse_raw_string`
 pub bare_placed : (s : Bytes) (i : ℕ) {e : ℕ} → e ≡ stop_of is_stop s i
-    → value.Value (record { start = i; end = e; quoted = false }) (cursor_at e) ≡ value_placed i (read_bare (drop i s))
+    → Some (record { start = i; end = e; quoted = false }, cursor_at e) ≡ value_placed i (read_bare (drop i s))
 unfolding written
 bare_placed s i a = rw a
 
@@ -113,46 +108,47 @@ escaped_quote : (i b : ℕ) (bs : Bytes) → b ≡ 34 → escaped_from i (b ∷ 
 unfolding begins
 escaped_quote i b bs e = rw (eq-eqb b 34 e, escaped_from)
 
-escaped_other : (i b : ℕ) (bs : Bytes) → (b ≡ 34 → ⊥) → escaped_from i (b ∷ bs) ≡ value.Refused
+escaped_other : (i b : ℕ) (bs : Bytes) → (b ≡ 34 → ⊥) → escaped_from i (b ∷ bs) ≡ None
 unfolding begins
 escaped_other i b bs ne = rw (ne_eqb b 34 ne, escaped_from)
 
-quoted_placed : (i j : ℕ) → j ≡ i + 1 → (x : Option (Bytes × Bytes)) {e : ℕ} {n : Cursor} → closing_at j x ≡ At e n
-    → value.Value (record { start = j; end = e; quoted = true }) n ≡ value_placed i (in_quotes x)
+quoted_placed : (i j : ℕ) → j ≡ i + 1 → (x : Option (Bytes × Bytes)) {e : ℕ} {n : Cursor} → closing_at j x ≡ Some (e, n)
+    → Some (record { start = j; end = e; quoted = true }, n) ≡ value_placed i (in_quotes x)
 unfolding written
-quoted_placed i j h none q = cc
-quoted_placed i j h (some p) {e} {n} q =
-    let a : e ≡ j + length p.0 = cc in
-    let b : n ≡ cursor_at (j + length p.0 + 1) = cc in
+quoted_placed i j h None q = none_not q
+quoted_placed i j h (Some p) {e} {n} q =
+    let w = some_pair q in
+    let a : e ≡ j + length p.0 = sym w.0 in
+    let b : n ≡ cursor_at (j + length p.0 + 1) = sym w.1 in
     let d : i + suc (length (p.0 ++ 34 ∷ [])) ≡ i + 1 + length p.0 + 1 = rw (length-append p.0 (34 ∷ [])) (omega arith) in
     rw (a, b, h, d)
 
-quoted_refused : (i j : ℕ) (x : Option (Bytes × Bytes)) → closing_at j x ≡ Missing → value.Refused ≡ value_placed i (in_quotes x)
-quoted_refused i j none q = refl
-quoted_refused i j (some p) q = cc
+quoted_refused : (i j : ℕ) (x : Option (Bytes × Bytes)) → closing_at j x ≡ None → None ≡ value_placed i (in_quotes x)
+quoted_refused i j None q = refl
+quoted_refused i j (Some p) q = some_not q
 
 -- r is the byte that the code read at i
-module _ (s : Bytes) (i : ℕ) {r : ByteRead} (a : r ≡ byte_at s i) where
-  pub no_quote : r ≡ End → value.Refused ≡ escaped_from i (drop i s)
+module _ (s : Bytes) (i : ℕ) {r : Option (ℕ × Cursor)} (a : r ≡ byte_at s i) where
+  pub no_quote : r ≡ None → None ≡ escaped_from i (drop i s)
   unfolding begins
   no_quote e = elim (stands s i) [
-    | there h ↦ let f : Byte (get_or s i 0) (cursor_at (i + 1)) ≡ End = byte_there s i h ∙ sym a ∙ e in cc
+    | there h ↦ some_not (byte_there s i h ∙ sym a ∙ e)
     | past h ↦ rw (drop_past s i h)
   ]
 
-  module _ {b : ℕ} {c : Cursor} (e : r ≡ Byte b c) where
+  module _ {b : ℕ} {c : Cursor} (e : r ≡ Some (b, c)) where
     rest_is : drop i s ≡ b ∷ drop c.at s
     rest_is = let t = byte_read s i (sym a ∙ e) in here s i t.2 ∙ rw (t.0, t.1)
 
-    pub other_byte : (b ≡ 34 → ⊥) → value.Refused ≡ escaped_from i (drop i s)
+    pub other_byte : (b ≡ 34 → ⊥) → None ≡ escaped_from i (drop i s)
     other_byte ne = sym (rw rest_is (escaped_other i b (drop c.at s) ne))
 
     -- k is what the code's scan answered
-    module _ (w : b ≡ 34) {k : Closing} (f : k ≡ closing_at c.at (quoted_text false (drop c.at s))) where
-      pub not_closed : k ≡ Missing → value.Refused ≡ escaped_from i (drop i s)
+    module _ (w : b ≡ 34) {k : Option (ℕ × Cursor)} (f : k ≡ closing_at c.at (quoted_text false (drop c.at s))) where
+      pub not_closed : k ≡ None → None ≡ escaped_from i (drop i s)
       not_closed m = quoted_refused i c.at (quoted_text false (drop c.at s)) (sym f ∙ m) ∙ sym (rw rest_is (escaped_quote i b (drop c.at s) w))
 
-      pub closed_at : {e : ℕ} {n : Cursor} → k ≡ At e n → value.Value (record { start = c.at; end = e; quoted = true }) n ≡ escaped_from i (drop i s)
+      pub closed_at : {e : ℕ} {n : Cursor} → k ≡ Some (e, n) → Some (record { start = c.at; end = e; quoted = true }, n) ≡ escaped_from i (drop i s)
       closed_at m =
           quoted_placed i c.at (ap (λ (d : Cursor). d.at) (byte_read s i (sym a ∙ e)).1) (quoted_text false (drop c.at s)) (sym f ∙ m)
           ∙ sym (rw rest_is (escaped_quote i b (drop c.at s) w))
@@ -173,7 +169,7 @@ unfolding begins
 begins_at c s i h = rw (here s i)
 
 -- where the code reads a bare value, r is what it answered
-module _ (s : Bytes) (i : ℕ) {r : ValueRead} (a : r ≡ value_placed i (read_bare (drop i s))) where
+module _ (s : Bytes) (i : ℕ) {r : Option (Text × Cursor)} (a : r ≡ value_placed i (read_bare (drop i s))) where
   not_bracketed : is_bracketed (drop i s) ≡ false → r ≡ value_placed i (read_values (drop i s))
   not_bracketed e = a ∙ ap (value_placed i) (sym (bracketed_not (drop i s) e))
 
@@ -189,7 +185,7 @@ module _ (s : Bytes) (i : ℕ) {r : ValueRead} (a : r ≡ value_placed i (read_b
       not_bracketed (and_off (begins 91 (drop i s)) (from_none (is 93) (drop i s) (from_at (is 93) s i ∙ rw (← q) (drop_past s k h))))
 
 pub values_closed : (s : Bytes) (i : ℕ) → i < length s → get_or s i 0 ≡ 91 → {k : ℕ} → k ≡ stop_of (is 93) s i → k < length s
-    → value.Value (record { start = i; end = k + 1; quoted = false }) (cursor_at (k + 1)) ≡ value_placed i (read_values (drop i s))
+    → Some (record { start = i; end = k + 1; quoted = false }, cursor_at (k + 1)) ≡ value_placed i (read_values (drop i s))
 unfolding written
 values_closed s i h w {k} q l =
     let f : from (is 93) (drop i s) ≡ get_or s k 0 ∷ drop (k + 1) s = from_at (is 93) s i ∙ rw (← q) (here s k l) in
@@ -214,16 +210,16 @@ value_none true = refl
 value_none false = refl
 
 -- r is the byte that the code read at i, and v what it answered of the value
-module _ (m : Bool) (s : Bytes) (i : ℕ) {r : ByteRead} (a : r ≡ byte_at s i) where
-  pub value_past : r ≡ End → {v : ValueRead} → v ≡ value_placed i (read_bare (drop i s)) → v ≡ value_at m s i
+module _ (m : Bool) (s : Bytes) (i : ℕ) {r : Option (ℕ × Cursor)} (a : r ≡ byte_at s i) where
+  pub value_past : r ≡ None → {v : Option (Text × Cursor)} → v ≡ value_placed i (read_bare (drop i s)) → v ≡ value_at m s i
   unfolding value_at
   value_past e f = elim (stands s i) [
-    | there h ↦ let g : Byte (get_or s i 0) (cursor_at (i + 1)) ≡ End = byte_there s i h ∙ sym a ∙ e in cc
+    | there h ↦ some_not (byte_there s i h ∙ sym a ∙ e)
     | past h ↦ f ∙ rw (drop_past s i h) (ap (value_placed i) (sym (value_none m)))
   ]
 
-  module _ {b : ℕ} {c : Cursor} (e : r ≡ Byte b c) where
-    pub value_quote : b ≡ 34 → {v : ValueRead} → v ≡ escaped_from i (drop i s) → v ≡ value_at m s i
+  module _ {b : ℕ} {c : Cursor} (e : r ≡ Some (b, c)) where
+    pub value_quote : b ≡ 34 → {v : Option (Text × Cursor)} → v ≡ escaped_from i (drop i s) → v ≡ value_at m s i
     unfolding value_at
     value_quote w f =
         f ∙ rw (rest_is s i a e) (escaped_quote i b (drop c.at s) w ∙ ap (value_placed i) (sym (value_quoted m b (drop c.at s) w)))
@@ -232,11 +228,11 @@ module _ (m : Bool) (s : Bytes) (i : ℕ) {r : ByteRead} (a : r ≡ byte_at s i)
       unquoted : read_value m (drop i s) ≡ read_unquoted m (drop i s)
       unquoted = rw (rest_is s i a e) (value_other m b (drop c.at s) ne)
 
-      pub value_values : m ≡ true → {v : ValueRead} → v ≡ value_placed i (read_values (drop i s)) → v ≡ value_at m s i
+      pub value_values : m ≡ true → {v : Option (Text × Cursor)} → v ≡ value_placed i (read_values (drop i s)) → v ≡ value_at m s i
       unfolding value_at
       value_values t f = f ∙ rw (unquoted, t)
 
-      pub value_raw : m ≡ false → {v : ValueRead} → v ≡ value_placed i (read_bare (drop i s)) → v ≡ value_at m s i
+      pub value_raw : m ≡ false → {v : Option (Text × Cursor)} → v ≡ value_placed i (read_bare (drop i s)) → v ≡ value_at m s i
       unfolding value_at
       value_raw t f = f ∙ rw (unquoted, t)
 

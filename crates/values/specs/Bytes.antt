@@ -1,5 +1,5 @@
 -- Bytes, and the few things that the rules say of a run of them. Assumes nothing.
-use Rattle.std.specs.Prelude.{ℕ, ◌-◌, Bool, true, false, ◌||◌, List, [], ◌∷◌, eqb, take, drop}
+use Rattle.std.specs.Prelude.{ℕ, ◌-◌, ◌≡◌, Bool, true, false, ◌||◌, List, [], ◌∷◌, eqb, take, drop}
 use Prim.Native.Char.{code}
 use Prim.Native.String.{String, [] as ε, ◌∷◌ as ◌∷ᵗ◌}
 
@@ -64,6 +64,10 @@ CLOSE = 93
 -- a byte is c
 abbrev pub is : ℕ → ℕ → Bool
 is c b = eqb b c
+
+-- what a call answers of a byte is what the test says
+abbrev pub Tells : (ℕ → Bool → Type 0) → (ℕ → Bool) → Type 0
+Tells answers t = (b : ℕ) (q : Bool) → answers b q → q ≡ t b
 
 abbrev pub empty : Bytes → Bool
 empty [] = true

@@ -1,5 +1,5 @@
 -- Worked examples, one table for each definition, computed by the checker. Assumes nothing.
-use Rattle.std.specs.Prelude.{ℕ, ◌-◌, ◌^◌, ◌≡◌, refl, Bool, true, false, not, ◌&&◌, List, [], ◌∷◌, ◌++◌, map, length, replicate}
+use Rattle.std.specs.Prelude.{ℕ, ◌-◌, ◌^◌, ◌≡◌, refl, Bool, true, false, not, ◌&&◌, List, [], ◌∷◌, ◌++◌, map, length, replicate, Option, Some, None}
 use Rattle.values.specs.Bytes.{Bytes, ascii, begins, any, before, from, same}
 use Rattle.values.specs.Utf8.{is_utf8, is_ascii, completes, followers}
 use Rattle.values.specs.Fitting.{all_fit, byte_before, part_fits, is_cut}
@@ -8,12 +8,8 @@ use Rattle.values.specs.Value.{written, quoted_text, read_values, read_value, un
 use Rattle.values.specs.Field.{read_key, read_field, written_field}
 use Rattle.values.specs.Hash.{offset_basis, hash_byte, hashed, hash_of}
 use Rattle.values.specs.Places.{cursor_at, unescaped_at, field_at}
-use Rattle.values.specs.declared.cursor.ByteRead.{ByteRead}
-use Rattle.values.specs.declared.cursor.ByteRead.TheVariants.{Byte, End}
-use Rattle.values.specs.declared.integer.IntegerRead.TheVariants as integer
 use Rattle.values.specs.declared.string.Text.{Text}
-use Rattle.values.specs.declared.field.FieldRead.{FieldRead}
-use Rattle.values.specs.declared.field.FieldRead.TheVariants.{Field, Refused}
+use Rattle.values.specs.declared.cursor.Cursor.{Cursor}
 
 -- every row's second part is what f gives of its first
 abbrev pub Table : {A B : Type 0} → (A → B) → List (A × B) → Type 0
@@ -57,22 +53,22 @@ ascii_table = refl
 
 -- 64 bits with a sign, leading zeros without limit, both sides of the bound, and whether it is plainly spelled
 u64_table : Table u64_read (
-    (ascii "5", integer.Value 5 true)
-    ∷ (ascii "+5", integer.Value 5 false)
-    ∷ (ascii "007", integer.Value 7 false)
-    ∷ (ascii "0", integer.Value 0 true)
-    ∷ (ascii "00", integer.Value 0 false)
-    ∷ (ascii "+0", integer.Value 0 false)
-    ∷ (ascii "10", integer.Value 10 true)
-    ∷ (replicate 40 48 ++ ascii "9", integer.Value 9 false)
-    ∷ (ascii "18446744073709551615", integer.Value (2 ^ 64 - 1) true)
-    ∷ (ascii "18446744073709551616", integer.Refused)
-    ∷ (ascii "-0", integer.Refused)
-    ∷ (ascii "+", integer.Refused)
-    ∷ (ascii "++5", integer.Refused)
-    ∷ (ascii " 5", integer.Refused)
-    ∷ (ascii "5x", integer.Refused)
-    ∷ ([], integer.Refused)
+    (ascii "5", Some (5, true))
+    ∷ (ascii "+5", Some (5, false))
+    ∷ (ascii "007", Some (7, false))
+    ∷ (ascii "0", Some (0, true))
+    ∷ (ascii "00", Some (0, false))
+    ∷ (ascii "+0", Some (0, false))
+    ∷ (ascii "10", Some (10, true))
+    ∷ (replicate 40 48 ++ ascii "9", Some (9, false))
+    ∷ (ascii "18446744073709551615", Some (2 ^ 64 - 1, true))
+    ∷ (ascii "18446744073709551616", None)
+    ∷ (ascii "-0", None)
+    ∷ (ascii "+", None)
+    ∷ (ascii "++5", None)
+    ∷ (ascii " 5", None)
+    ∷ (ascii "5x", None)
+    ∷ ([], None)
     ∷ []
     )
 unfolding opened
@@ -80,11 +76,11 @@ u64_table = refl
 
 -- a version's part takes no sign
 u32_table : Table u32_read (
-    (ascii "0004", integer.Value 4 false)
-    ∷ (ascii "4294967295", integer.Value (2 ^ 32 - 1) true)
-    ∷ (ascii "4294967296", integer.Refused)
-    ∷ (ascii "+4", integer.Refused)
-    ∷ ([], integer.Refused)
+    (ascii "0004", Some (4, false))
+    ∷ (ascii "4294967295", Some (2 ^ 32 - 1, true))
+    ∷ (ascii "4294967296", None)
+    ∷ (ascii "+4", None)
+    ∷ ([], None)
     ∷ []
     )
 unfolding opened
@@ -100,30 +96,30 @@ bare_at a e = record { start = a; end = e; quoted = false }
 abbrev pub quoted_at : ℕ → ℕ → Text
 quoted_at a e = record { start = a; end = e; quoted = true }
 
-abbrev pub field_of : Bool → Bytes × ℕ → FieldRead
+abbrev pub field_of : Bool → Bytes × ℕ → Option (ℕ × Text × Cursor)
 field_of meta p = field_at meta p.0 p.1
 
 -- fields of document 01's lines; places past the end, `"` alone, a backslash as the last byte and before another byte
 field_table : Table (field_of false) (
-    ((ascii "ID=W07,K=0.98>", 0), Field 2 (bare_at 3 6) (cursor_at 6))
-    ∷ ((ascii "ID=W07,K=0.98>", 7), Field 8 (bare_at 9 13) (cursor_at 13))
-    ∷ ((ascii "K=\"0.98\",ID=\"W07\">", 0), Field 1 (quoted_at 3 7) (cursor_at 8))
-    ∷ ((ascii "a=\"x\\\"y\\\\\"z", 0), Field 1 (quoted_at 3 9) (cursor_at 10))
-    ∷ ((ascii "a=\\,", 0), Field 1 (bare_at 2 3) (cursor_at 3))
-    ∷ ((ascii "a=", 0), Field 1 (bare_at 2 2) (cursor_at 2))
-    ∷ ((ascii "a=b", 0), Field 1 (bare_at 2 3) (cursor_at 3))
-    ∷ ((ascii "Values=[a,b]>", 0), Field 6 (bare_at 7 9) (cursor_at 9))
-    ∷ (([], 0), Refused)
-    ∷ ((ascii "a=b", 3), Refused)
-    ∷ ((ascii "a=b", 9), Refused)
-    ∷ ((ascii "=b", 0), Refused)
-    ∷ ((ascii "ab", 0), Refused)
-    ∷ ((ascii "a,b=c", 0), Refused)
-    ∷ ((ascii "a\"=c", 0), Refused)
-    ∷ ((ascii "\"", 0), Refused)
-    ∷ ((ascii "a=\"", 0), Refused)
-    ∷ ((ascii "a=\"\\", 0), Refused)
-    ∷ ((ascii "a=\"\\x\"", 0), Refused)
+    ((ascii "ID=W07,K=0.98>", 0), Some (2, bare_at 3 6, cursor_at 6))
+    ∷ ((ascii "ID=W07,K=0.98>", 7), Some (8, bare_at 9 13, cursor_at 13))
+    ∷ ((ascii "K=\"0.98\",ID=\"W07\">", 0), Some (1, quoted_at 3 7, cursor_at 8))
+    ∷ ((ascii "a=\"x\\\"y\\\\\"z", 0), Some (1, quoted_at 3 9, cursor_at 10))
+    ∷ ((ascii "a=\\,", 0), Some (1, bare_at 2 3, cursor_at 3))
+    ∷ ((ascii "a=", 0), Some (1, bare_at 2 2, cursor_at 2))
+    ∷ ((ascii "a=b", 0), Some (1, bare_at 2 3, cursor_at 3))
+    ∷ ((ascii "Values=[a,b]>", 0), Some (6, bare_at 7 9, cursor_at 9))
+    ∷ (([], 0), None)
+    ∷ ((ascii "a=b", 3), None)
+    ∷ ((ascii "a=b", 9), None)
+    ∷ ((ascii "=b", 0), None)
+    ∷ ((ascii "ab", 0), None)
+    ∷ ((ascii "a,b=c", 0), None)
+    ∷ ((ascii "a\"=c", 0), None)
+    ∷ ((ascii "\"", 0), None)
+    ∷ ((ascii "a=\"", 0), None)
+    ∷ ((ascii "a=\"\\", 0), None)
+    ∷ ((ascii "a=\"\\x\"", 0), None)
     ∷ []
     )
 unfolding opened
@@ -131,28 +127,28 @@ field_table = refl
 
 -- META's Values from 4.3
 meta_table : Table (field_of true) (
-    ((ascii "Values=[a,b]>", 0), Field 6 (bare_at 7 12) (cursor_at 12))
-    ∷ ((ascii "Values=[a>", 0), Field 6 (bare_at 7 9) (cursor_at 9))
-    ∷ ((ascii "Values=\"[a\",K=]>", 0), Field 6 (quoted_at 8 10) (cursor_at 11))
-    ∷ ((ascii "Value=[a,b]>", 0), Field 5 (bare_at 6 8) (cursor_at 8))
+    ((ascii "Values=[a,b]>", 0), Some (6, bare_at 7 12, cursor_at 12))
+    ∷ ((ascii "Values=[a>", 0), Some (6, bare_at 7 9, cursor_at 9))
+    ∷ ((ascii "Values=\"[a\",K=]>", 0), Some (6, quoted_at 8 10, cursor_at 11))
+    ∷ ((ascii "Value=[a,b]>", 0), Some (5, bare_at 6 8, cursor_at 8))
     ∷ []
     )
 unfolding opened
 meta_table = refl
 
-abbrev pub unescape : (Bool × Bytes) × ℕ → ByteRead
+abbrev pub unescape : (Bool × Bytes) × ℕ → Option (ℕ × Cursor)
 unescape p = unescaped_at p.0.0 p.0.1 p.1
 
 unescape_table : Table unescape (
-    (((true, ascii "a\\\"b"), 0), Byte 97 (cursor_at 1))
-    ∷ (((true, ascii "a\\\"b"), 1), Byte 34 (cursor_at 3))
-    ∷ (((true, ascii "a\\"), 1), Byte 92 (cursor_at 2))
-    ∷ (((true, ascii "a\\b"), 1), Byte 92 (cursor_at 2))
-    ∷ (((true, ascii "\\\\\""), 0), Byte 92 (cursor_at 2))
-    ∷ (((true, ascii "\\\\\""), 2), Byte 34 (cursor_at 3))
-    ∷ (((false, ascii "a\\"), 1), Byte 92 (cursor_at 2))
-    ∷ (((true, ascii "a"), 1), End)
-    ∷ (((false, ascii "a"), 7), End)
+    (((true, ascii "a\\\"b"), 0), Some (97, cursor_at 1))
+    ∷ (((true, ascii "a\\\"b"), 1), Some (34, cursor_at 3))
+    ∷ (((true, ascii "a\\"), 1), Some (92, cursor_at 2))
+    ∷ (((true, ascii "a\\b"), 1), Some (92, cursor_at 2))
+    ∷ (((true, ascii "\\\\\""), 0), Some (92, cursor_at 2))
+    ∷ (((true, ascii "\\\\\""), 2), Some (34, cursor_at 3))
+    ∷ (((false, ascii "a\\"), 1), Some (92, cursor_at 2))
+    ∷ (((true, ascii "a"), 1), None)
+    ∷ (((false, ascii "a"), 7), None)
     ∷ []
     )
 unfolding opened

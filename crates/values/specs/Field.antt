@@ -1,7 +1,6 @@
 -- Document 01, "Records": a field of a map. Assumes nothing.
-use Rattle.std.specs.Prelude.{ℕ, Bool, true, false, not, ◌||◌, ◌&&◌}
+use Rattle.std.specs.Prelude.{ℕ, Bool, true, false, not, ◌||◌, ◌&&◌, Option, None, Some}
 use mathlib.Core.List.{◌∷◌, ◌++◌, tail}
-use Rattle.std.proofs.Math.Option.{Option, none, some}
 use Rattle.values.specs.Bytes.{Bytes, ascii, is, empty, begins, any, before, from, same, COMMA, EQUALS, GREATER, LESS, QUOTE}
 use Rattle.values.specs.Value.{Value, written, read_value}
 
@@ -27,21 +26,21 @@ is_key k = not (empty k) && not (any is_forbidden k)
 -- up to the first `=`, and past it
 unfoldable pub read_key : Bytes → Option (Bytes × Bytes)
 read_key bs = elim (is_key (before (is EQUALS) bs) && begins EQUALS (from (is EQUALS) bs)) [
-  | true ↦ some (before (is EQUALS) bs, tail (from (is EQUALS) bs))
-  | false ↦ none
+  | true ↦ Some (before (is EQUALS) bs, tail (from (is EQUALS) bs))
+  | false ↦ None
 ]
 
 abbrev pub with_value : Bytes → Option (Value × Bytes) → Option (Field × Bytes)
-with_value k none = none
-with_value k (some p) = some (record { key = k; value = p.0 }, p.1)
+with_value k None = None
+with_value k (Some p) = Some (record { key = k; value = p.0 }, p.1)
 
 -- only the value of Values may be bracketed
 abbrev pub may_bracket : Bool → Bytes → Bool
 may_bracket brackets k = brackets && same k (ascii "Values")
 
 abbrev pub with_key : Bool → Option (Bytes × Bytes) → Option (Field × Bytes)
-with_key brackets none = none
-with_key brackets (some p) = with_value p.0 (read_value (may_bracket brackets p.0) p.1)
+with_key brackets None = None
+with_key brackets (Some p) = with_value p.0 (read_value (may_bracket brackets p.0) p.1)
 
 -- `brackets`: the map is a META, from 4.3
 unfoldable pub read_field : Bool → Bytes → Option (Field × Bytes)

@@ -1,7 +1,6 @@
 -- UTF-8 by RFC 3629, section 4: a text is a run of characters, and a character is a first byte with the bytes that must follow it, each
 -- within a range. Assumes nothing.
-use Rattle.std.specs.Prelude.{ℕ, Bool, true, false, ◌&&◌, List, [], ◌∷◌, leb, ltb}
-use Rattle.std.proofs.Math.Option.{Option, none, some}
+use Rattle.std.specs.Prelude.{ℕ, Bool, true, false, ◌&&◌, List, [], ◌∷◌, leb, ltb, Option, None, Some}
 use Rattle.values.specs.Bytes.{Bytes}
 
 -- the bytes from low to high
@@ -43,8 +42,8 @@ characters =
 
 -- what follows the first byte b by the rows; nothing, where no character begins with b
 abbrev pub look : List Character → ℕ → Option (List Range)
-look [] b = none
-look (r ∷ rs) b = elim (within r.first b) [ true ↦ some r.follow | false ↦ look rs b ]
+look [] b = None
+look (r ∷ rs) b = elim (within r.first b) [ true ↦ Some r.follow | false ↦ look rs b ]
 
 unfoldable pub followers : ℕ → Option (List Range)
 followers b = look characters b
@@ -53,7 +52,7 @@ followers b = look characters b
 unfoldable pub completes : List Range → Bytes → Bool
 completes [] [] = true
 completes (r ∷ due) [] = false
-completes [] (b ∷ bs) = elim (followers b) [ none ↦ false | some due ↦ completes due bs ]
+completes [] (b ∷ bs) = elim (followers b) [ None ↦ false | Some due ↦ completes due bs ]
 completes (r ∷ due) (b ∷ bs) = elim (within r b) [ true ↦ completes due bs | false ↦ false ]
 
 abbrev pub is_utf8 : Bytes → Bool

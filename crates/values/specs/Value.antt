@@ -1,7 +1,6 @@
 -- Document 01, "Records": a value of a map's field, as it stands in the line and by its meaning; and how the house form writes one. Assumes nothing.
-use Rattle.std.specs.Prelude.{ℕ, Bool, true, false, ◌||◌, ◌&&◌}
+use Rattle.std.specs.Prelude.{ℕ, Bool, true, false, ◌||◌, ◌&&◌, Option, None, Some}
 use mathlib.Core.List.{[], ◌∷◌, ◌++◌, tail}
-use Rattle.std.proofs.Math.Option.{Option, none, some}
 use Rattle.values.specs.Bytes.{Bytes, is, begins, any, before, from, BACKSLASH, CLOSE, COMMA, GREATER, OPEN, QUOTE}
 
 -- quoted: the bytes between the quotes; bare: the bytes as they stand, those of a bracketed value too
@@ -42,18 +41,18 @@ meaning_of v = meaning (is_quoted v) (text_of v)
 
 -- what was read, and the bytes after it
 abbrev pub prepend : ℕ → Option (Bytes × Bytes) → Option (Bytes × Bytes)
-prepend b none = none
-prepend b (some p) = some (b ∷ p.0, p.1)
+prepend b None = None
+prepend b (Some p) = Some (b ∷ p.0, p.1)
 
 -- up to the next unescaped `"`, and past it; a backslash stands only before `"` or a backslash
 unfoldable pub quoted_text : Bool → Bytes → Option (Bytes × Bytes)
-quoted_text after [] = none
-quoted_text true (b ∷ bs) = elim (is_escapable b) [ true ↦ prepend b (quoted_text false bs) | false ↦ none ]
-quoted_text false (b ∷ bs) = elim (is QUOTE b) [ true ↦ some ([], bs) | false ↦ prepend b (quoted_text (is BACKSLASH b) bs) ]
+quoted_text after [] = None
+quoted_text true (b ∷ bs) = elim (is_escapable b) [ true ↦ prepend b (quoted_text false bs) | false ↦ None ]
+quoted_text false (b ∷ bs) = elim (is QUOTE b) [ true ↦ Some ([], bs) | false ↦ prepend b (quoted_text (is BACKSLASH b) bs) ]
 
 abbrev pub in_quotes : Option (Bytes × Bytes) → Option (Value × Bytes)
-in_quotes none = none
-in_quotes (some p) = some (quoted p.0, p.1)
+in_quotes None = None
+in_quotes (Some p) = Some (quoted p.0, p.1)
 
 -- from past its first `"`
 abbrev pub read_quoted : Bytes → Option (Value × Bytes)
@@ -64,11 +63,11 @@ abbrev pub is_stop : ℕ → Bool
 is_stop b = is COMMA b || is GREATER b
 
 abbrev pub read_bare : Bytes → Option (Value × Bytes)
-read_bare bs = some (bare (before is_stop bs), from is_stop bs)
+read_bare bs = Some (bare (before is_stop bs), from is_stop bs)
 
 -- through the first `]`
 abbrev pub read_bracketed : Bytes → Option (Value × Bytes)
-read_bracketed bs = some (bare (before (is CLOSE) bs ++ CLOSE ∷ []), tail (from (is CLOSE) bs))
+read_bracketed bs = Some (bare (before (is CLOSE) bs ++ CLOSE ∷ []), tail (from (is CLOSE) bs))
 
 -- begins `[`, and a `]` follows
 abbrev pub is_bracketed : Bytes → Bool

@@ -1,7 +1,6 @@
 -- Writing into a lent output: bytes past its end are counted and not written. What is written is held against bytes that are given.
 -- Assumes nothing.
-use Rattle.std.specs.Prelude.{ℕ, ◌+◌, ◌-◌, ◌^◌, ◌≤◌, min, ◌≡◌, Bool, true, false, ◌&&◌, [], ◌∷◌, eqb, ltb, length, get_or}
-use Rattle.std.proofs.Math.Option.{Option, none, some}
+use Rattle.std.specs.Prelude.{ℕ, ◌+◌, ◌-◌, ◌^◌, ◌≤◌, min, ◌≡◌, Bool, true, false, ◌&&◌, [], ◌∷◌, eqb, ltb, length, get_or, Option, None, Some}
 use Rattle.std.proofs.lemmas.List.Edits.{sets}
 use Rattle.values.specs.Bytes.{Bytes}
 use Rattle.values.specs.declared.sink.Sink.{Sink}
@@ -20,13 +19,13 @@ is_at given at b = ltb at (length given) && eqb (get_or given at 0) b
 
 -- the first place, from `at` on, where the text is not what is given
 unfoldable pub differing : Bytes → ℕ → Bytes → Option ℕ
-differing given at [] = none
-differing given at (b ∷ text) = elim (is_at given at b) [ true ↦ differing given (onward at 1) text | false ↦ some at ]
+differing given at [] = None
+differing given at (b ∷ text) = elim (is_at given at b) [ true ↦ differing given (onward at 1) text | false ↦ Some at ]
 
 -- the smaller one of a place and a place that there may be
 abbrev pub sooner : ℕ → Option ℕ → ℕ
-sooner n none = n
-sooner n (some p) = min n p
+sooner n None = n
+sooner n (Some p) = min n p
 
 -- text was put where s stands: written into out, which left it as `left`, and held against `given`; next stands after the text
 pub record Puts (given out : Bytes) (s : Sink) (text : Bytes) (next : Sink) (left : Bytes) : Type 0 where

@@ -27,7 +27,5 @@ pub fn set(words: &mut [u64], n: usize)
     if words.len() <= at {
         return;
     }
-    let bit = bit_of(n as u64);
-    let word = words[at];
-    words[at] = word | bit;
+    words[at] |= bit_of(n as u64);
 }

@@ -8,12 +8,6 @@ pub struct Cursor {
     pub at: usize,
 }
 
-#[derive(Clone, Copy)]
-pub enum ByteRead {
-    Byte(u8, Cursor),
-    End,
-}
-
 // What a backslash may stand before between quotes.
 pub fn is_escapable(b: u8) -> bool
     ensures { result ≡ is_escapable b }
@@ -22,36 +16,33 @@ pub fn is_escapable(b: u8) -> bool
 }
 
 impl Cursor {
-    pub fn next_byte(self, s: &[u8]) -> ByteRead
+    pub fn next_byte(self, s: &[u8]) -> Option<(u8, Cursor)>
         ensures { result ≡ byte_at s.now self.at }
     {
         let at = self.at;
         if at < s.len() {
-            ByteRead::Byte(s[at], Cursor { at: at + 1 })
+            Some((s[at], Cursor { at: at + 1 }))
         } else {
-            ByteRead::End
+            None
         }
     }
 
     // The next byte of the text's meaning, which stands between quotes or bare.
-    pub fn next_unescaped(self, s: &[u8], quoted: bool) -> ByteRead
+    pub fn next_unescaped(self, s: &[u8], quoted: bool) -> Option<(u8, Cursor)>
         ensures { result ≡ unescaped_at quoted s.now self.at }
     {
-        let ByteRead::Byte(b, next) = self.next_byte(s) else {
-            return ByteRead::End;
+        let Some((b, next)) = self.next_byte(s) else {
+            return None;
         };
-        if !quoted {
-            return ByteRead::Byte(b, next);
+        if !quoted || b != b'\\' {
+            return Some((b, next));
         }
-        if b != b'\\' {
-            return ByteRead::Byte(b, next);
-        }
-        let ByteRead::Byte(e, after) = next.next_byte(s) else {
-            return ByteRead::Byte(b, next);
+        let Some((e, after)) = next.next_byte(s) else {
+            return Some((b, next));
         };
         if is_escapable(e) {
-            return ByteRead::Byte(e, after);
+            return Some((e, after));
         }
-        ByteRead::Byte(b, next)
+        Some((b, next))
     }
 }

@@ -3,7 +3,7 @@ ghost use Rattle.std.specs.Prelude.{◌≡◌};
 ghost use Rattle.values.specs.Value.{meaning};
 ghost use Rattle.values.specs.Hash.{wrapping_product, hash_byte, hash_of, wide_step, wide_from};
 
-use crate::cursor::{ByteRead, Cursor};
+use crate::cursor::Cursor;
 
 const OFFSET_BASIS: u32 = 2166136261;
 
@@ -28,13 +28,11 @@ pub fn hash_of(kind: u8, text: &[u8], quoted: bool) -> u32
 {
     let mut hash = hash_byte(OFFSET_BASIS, kind);
     let mut c = Cursor { at: 0 };
-    loop {
-        let ByteRead::Byte(b, next) = c.next_unescaped(text, quoted) else {
-            return hash;
-        };
+    while let Some((b, next)) = c.next_unescaped(text, quoted) {
         hash = hash_byte(hash, b);
         c = next;
     }
+    hash
 }
 
 pub const WIDE_BASIS: u64 = 14695981039346656037;
@@ -54,14 +52,12 @@ pub fn wide_from(start: u64, text: &[u8], quoted: bool) -> u64
 {
     let mut hash = start;
     let mut c = Cursor { at: 0 };
-    loop {
-        let ByteRead::Byte(a, second) = c.next_unescaped(text, quoted) else {
-            return hash;
-        };
-        let ByteRead::Byte(b, next) = second.next_unescaped(text, quoted) else {
+    while let Some((a, second)) = c.next_unescaped(text, quoted) {
+        let Some((b, next)) = second.next_unescaped(text, quoted) else {
             return wide_step(hash, a as u16);
         };
         hash = wide_step(hash, (a as u16) * 256 + (b as u16));
         c = next;
     }
+    hash
 }

@@ -60,13 +60,7 @@ pub fn is_met(marks: &[u64], hash: u64) -> bool
     ensures { result ≡ is_met marks.now hash }
 {
     let end = hash::wide_step(hash, 0);
-    if !is_set(marks, end) {
-        return false;
-    }
-    if marks.len() < MANY {
-        return true;
-    }
-    is_set(marks, hash::wide_step(end, 1))
+    is_set(marks, end) && (marks.len() < MANY || is_set(marks, hash::wide_step(end, 1)))
 }
 
 // The same, and the text is marked.
@@ -104,7 +98,5 @@ pub fn note(marks: &mut [u64], n: u64)
         return;
     }
     let at = word_of(marks.len(), n);
-    let bit = bits::bit_of(n / 0x1_0000_0000);
-    let word = marks[at];
-    marks[at] = word | bit;
+    marks[at] |= bits::bit_of(n / 0x1_0000_0000);
 }

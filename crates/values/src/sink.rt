@@ -21,10 +21,7 @@ impl Sink {
         if differs <= at {
             return differs;
         }
-        if given.len() <= at {
-            return at;
-        }
-        if given[at] == b {
+        if at < given.len() && given[at] == b {
             return differs;
         }
         at
@@ -56,21 +53,15 @@ pub fn put_byte(out: &mut [u8], given: &[u8], s: Sink, b: u8) -> Sink
 fn count_on(at: usize, n: usize) -> usize
     ensures { result ≡ onward at n }
 {
-    if n <= 0xFFFF_FFFF_FFFF_FFFF - at {
-        return at + n;
-    }
-    0xFFFF_FFFF_FFFF_FFFF
+    at.saturating_add(n)
 }
 
 fn put_each(out: &mut [u8], given: &[u8], s: Sink, text: &[u8]) -> Sink
     ensures { Puts given.now out.old s text.now result out.new }
 {
     let mut next = s;
-    let mut i: usize = 0;
-    while i < text.len() {
-        let b = text[i];
-        i += 1;
-        next = put_byte(out, given, next, b);
+    for b in text {
+        next = put_byte(out, given, next, *b);
     }
     next
 }
@@ -81,13 +72,11 @@ pub fn put_bytes(out: &mut [u8], given: &[u8], s: Sink, text: &[u8]) -> Sink
 {
     let at = s.at;
     let differs = s.differs;
-    if out.len() <= at {
-        if differs <= at {
-            return Sink {
-                at: count_on(at, text.len()),
-                differs,
-            };
-        }
+    if out.len() <= at && differs <= at {
+        return Sink {
+            at: count_on(at, text.len()),
+            differs,
+        };
     }
     put_each(out, given, s, text)
 }

@@ -8,13 +8,8 @@ pub fn is_ascii(s: &[u8]) -> bool
     ensures { result ≡ is_ascii s.now }
 {
     let mut highest: u8 = 0;
-    let mut i: usize = 0;
-    while i < s.len() {
-        let b = s[i];
-        i += 1;
-        if highest < b {
-            highest = b;
-        }
+    for b in s {
+        highest = highest.max(*b);
     }
     highest < 0x80
 }
@@ -58,14 +53,11 @@ fn all_fit(s: &[u8], mut third: u8, mut second: u8, mut nearest: u8) -> bool
     ensures { result ≡ all_fit third second nearest s.now }
 {
     let mut fit = true;
-    let mut i: usize = 0;
-    while i < s.len() {
-        let b = s[i];
-        i += 1;
-        fit = fit & fits(third, second, nearest, b);
+    for b in s {
+        fit &= fits(third, second, nearest, *b);
         third = second;
         second = nearest;
-        nearest = b;
+        nearest = *b;
     }
     fit
 }
@@ -108,6 +100,7 @@ fn is_cut(s: &[u8]) -> bool
 }
 
 // By blocks of 32 bytes, unless all is ASCII.
+// Kept: each block is looked at with the three bytes before it, which `chunks` doesn't lend.
 pub fn utf8(s: &[u8]) -> bool
     ensures { result ≡ is_utf8 s.now }
 {

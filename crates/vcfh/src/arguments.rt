@@ -9,29 +9,23 @@ use std::rt::Env;
 pub fn arg(rt: HostRuntime, number: usize, buffer: &mut [u8]) -> usize
     ensures { result ≤ length buffer.new }
 {
-    match rt.arg(number, buffer) {
-        Ok(n) => n,
-        Err(_) => 0,
-    }
+    rt.arg(number, buffer).unwrap_or(0)
+}
+
+// Whether the argument of this number is this word.
+pub fn is(rt: HostRuntime, number: usize, word: &[u8]) -> bool {
+    let mut buffer = io::buffer();
+    let end = arg(rt, number, &mut buffer);
+    &buffer[..end] == word
 }
 
 // Whether there is an argument of this number.
 fn is_there(rt: HostRuntime, number: usize) -> bool {
-    match rt.arg(number, &mut []) {
-        Ok(_) => true,
-        Err(FillError::TooLong) => true,
-        Err(FillError::NotPresent) => false,
-    }
+    !matches!(rt.arg(number, &mut []), Err(FillError::NotPresent))
 }
 
 // How many arguments there are, the program's name among them.
 pub fn count(rt: HostRuntime) -> usize {
-    let mut n = 0;
-    while n < 0x1_0000_0000 {
-        if !is_there(rt, n) {
-            return n;
-        }
-        n += 1;
-    }
-    n
+    let most = 0x1_0000_0000;
+    (0..most).find(|n| !is_there(rt, *n)).unwrap_or(most)
 }

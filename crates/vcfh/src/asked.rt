@@ -1,6 +1,5 @@
 // What the table of reserved IDs asks of a line, in words.
 use crate::say;
-use records::definition::Definition;
 use records::file_format::FileFormat;
 use records::number::{Number, ValueType};
 use records::{definition, key};
@@ -8,12 +7,10 @@ use records::{definition, key};
 // A letter of one byte has a blank behind it.
 fn say_letter(a: u8, b: u8) {
     if b == b' ' {
-        let one = [a];
-        say::text(2, &one);
-        return;
+        say::text(2, &[a]);
+    } else {
+        say::text(2, &[a, b]);
     }
-    let two = [a, b];
-    say::text(2, &two);
 }
 
 fn say_number(number: Number) {
@@ -36,12 +33,12 @@ fn say_type(kind: ValueType) {
 // The Number and Type of an ID under a key, in a version.
 pub fn say_asked(version: FileFormat, name: &[u8], id: &[u8], quoted: bool) {
     match definition::definition_of(version, key::map_key_of(name), id, quoted) {
-        Definition::Of(number, kind) => {
+        Some((number, kind)) => {
             say::text(2, b"Number=");
             say_number(number);
             say::text(2, b" and Type=");
             say_type(kind);
         }
-        Definition::Unreserved => say::text(2, b"something else"),
+        None => say::text(2, b"something else"),
     }
 }

@@ -2,25 +2,14 @@
 use crate::say;
 use lines::line;
 use sam::contigs;
-use sam::contigs::ContigsOutcome;
 use sam::refusal::SamRefusal;
 use values::bytes;
 
 // The value of a line's SN, no bytes if there is none.
 fn name_in(l: &[u8]) -> &[u8] {
-    let mut at = 0;
-    while at < l.len() {
-        let end = bytes::find(l, at, b'\t');
-        let tag = bytes::part(l, at, end);
-        if bytes::starts_with(tag, b"SN:") {
-            return bytes::part(tag, 3, tag.len());
-        }
-        if l.len() <= end {
-            break;
-        }
-        at = end + 1;
-    }
-    &l[..0]
+    l.split(|b| *b == b'\t')
+        .find_map(|tag| tag.strip_prefix(b"SN:"))
+        .unwrap_or(b"")
 }
 
 fn say_twice(l: &[u8]) {
@@ -54,8 +43,8 @@ fn say_lines(sam: &[u8], out: &mut [u8]) {
     let answer = contigs::contigs(sam, out);
     let outcome = answer.outcome;
     match outcome {
-        ContigsOutcome::Accepted => say::text(1, bytes::part(out, 0, answer.length)),
-        ContigsOutcome::Refused(refusal) => {
+        Ok(()) => say::text(1, bytes::part(out, 0, answer.length)),
+        Err(refusal) => {
             say::tell(b"n");
             say::refused(refusal.number(), answer.line, answer.start);
             let found = line::next_line(sam, answer.start);
@@ -66,18 +55,14 @@ fn say_lines(sam: &[u8], out: &mut [u8]) {
 
 // Where the first line that does not begin with `@` stands: the header of a whole SAM ends there.
 fn header_end(s: &[u8]) -> usize {
-    let mut at = 0;
-    while at < s.len() {
-        if s[at] != b'@' {
-            return at;
-        }
-        let lf = bytes::find(s, at, b'\n');
-        if s.len() <= lf {
-            return s.len();
-        }
-        at = lf + 1;
+    if !s.starts_with(b"@") {
+        return 0;
     }
-    s.len()
+    let mut ends = s.windows(2);
+    match ends.position(|pair| matches!(pair, [b'\n', b] if *b != b'@')) {
+        Some(n) => n + 1,
+        None => s.len(),
+    }
 }
 
 // `full`: there may be more than was read, and the header is asked for alone.

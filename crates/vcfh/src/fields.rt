@@ -1,11 +1,9 @@
 // What is wrong with the fields of a map, in a sentence on standard error.
 use crate::{asked, say};
-use records::field::FieldFound;
 use records::file_format::FileFormat;
 use records::{field, key};
 use values::bytes;
 use values::cursor::Cursor;
-use values::field::{FieldRead, KeyRead, Separator};
 use values::string::Text;
 
 // A record's key stands between `##` and the first `=`.
@@ -27,13 +25,11 @@ fn stuck_place(l: &[u8], version: FileFormat) -> usize {
     let key = key::map_key_of(key_of(l));
     let brackets = key.has_brackets(version);
     let mut c = Cursor { at: first_field(l) };
-    let mut k = 0;
-    while k < l.len() {
-        k += 1;
-        let FieldRead::Field(_, _, next) = c.split_field(l, brackets) else {
+    for _ in 0..l.len() {
+        let Some((_, _, next)) = c.split_field(l, brackets) else {
             return c.at;
         };
-        let Separator::Comma(d) = next.consume_separator(l) else {
+        let Some(d) = next.consume_separator(l) else {
             return next.at;
         };
         c = d;
@@ -49,39 +45,13 @@ fn say_column(at: usize) {
     }
 }
 
-fn is_blank(b: u8) -> bool {
-    match b {
-        b' ' => true,
-        b'\t' => true,
-        b'\r' => true,
-        _ => false,
-    }
-}
-
 fn are_blanks(s: &[u8]) -> bool {
-    let mut i = 0;
-    while i < s.len() {
-        if !is_blank(s[i]) {
-            return false;
-        }
-        i += 1;
-    }
-    true
+    s.iter().all(|b| matches!(*b, b' ' | b'\t' | b'\r'))
 }
 
 // How many of the first bytes are shown: at most 40, and no part of a character that takes several.
 fn shown_length(s: &[u8]) -> usize {
-    let mut i = 0;
-    while i < s.len() {
-        if 0x7F < s[i] {
-            return i;
-        }
-        if i == 40 {
-            return i;
-        }
-        i += 1;
-    }
-    i
+    s.iter().take(40).take_while(|b| b.is_ascii()).count()
 }
 
 // A text from here on, cut where it is long.
@@ -122,7 +92,7 @@ fn say_unended(l: &[u8], at: usize) {
 // 8: the value is not a whole map.
 pub fn say_no_map(l: &[u8], version: FileFormat) {
     let value = bytes::part(l, bytes::find(l, 2, b'='), l.len());
-    if bytes::starts_with(value, b"=<") {
+    if value.starts_with(b"=<") {
         say_unended(l, stuck_place(l, version));
         return;
     }
@@ -131,50 +101,27 @@ pub fn say_no_map(l: &[u8], version: FileFormat) {
     say::text(2, b" line has no < after its =\n");
 }
 
-fn ends_name(b: u8) -> bool {
-    match b {
-        b'=' => true,
-        b',' => true,
-        b'<' => true,
-        b'>' => true,
-        b'"' => true,
-        _ => false,
-    }
+fn ends_name(b: &u8) -> bool {
+    matches!(*b, b'=' | b',' | b'<' | b'>' | b'"')
 }
 
-fn name_end(l: &[u8], start: usize) -> usize {
-    let mut i = start;
-    while i < l.len() {
-        if ends_name(l[i]) {
-            return i;
-        }
-        i += 1;
-    }
-    i
+fn say_odd_name(name: &[u8], what: &[u8]) {
+    say_rest(name);
+    say::text(2, what);
 }
 
-// 9: no key and `=` stand here.
-fn say_no_key(l: &[u8], at: usize) {
-    let end = name_end(l, at);
-    let rest = bytes::part(l, end, l.len());
-    if end == at {
-        if bytes::starts_with(rest, b"=") {
-            say::text(2, b"there is nothing before the =\n");
-            return;
-        }
-        say::text(2, b"a field is missing\n");
-        return;
+// 9: no key and `=` stand at the start of the field.
+fn say_no_key(field: &[u8]) {
+    let end = field.iter().position(ends_name);
+    let name = bytes::part(field, 0, end.unwrap_or(field.len()));
+    let after = end.map(|end| field[end]);
+    match (name, after) {
+        ([], Some(b'=')) => say::text(2, b"there is nothing before the =\n"),
+        ([], _) => say::text(2, b"a field is missing\n"),
+        (_, Some(b'"')) => say_odd_name(name, b" has a quote in its name\n"),
+        (_, Some(b'<')) => say_odd_name(name, b" has a < in its name\n"),
+        _ => say_odd_name(name, b" has no =\n"),
     }
-    say_rest(bytes::part(l, at, end));
-    if bytes::starts_with(rest, b"\"") {
-        say::text(2, b" has a quote in its name\n");
-        return;
-    }
-    if bytes::starts_with(rest, b"<") {
-        say::text(2, b" has a < in its name\n");
-        return;
-    }
-    say::text(2, b" has no =\n");
 }
 
 // 9: the field that cannot be read, and its column.
@@ -183,7 +130,7 @@ pub fn say_bad_field(l: &[u8], version: FileFormat) {
     let c = Cursor { at };
     say_column(at);
     match c.parse_key(l) {
-        KeyRead::Key(equals, _) => {
+        Some((equals, _)) => {
             say::text(2, b"the quoted value of ");
             say_rest(bytes::part(l, at, equals));
             say::text(
@@ -191,15 +138,15 @@ pub fn say_bad_field(l: &[u8], version: FileFormat) {
                 b" does not end, or has a backslash that is not followed by a quote or a backslash\n",
             );
         }
-        KeyRead::Refused => say_no_key(l, at),
+        None => say_no_key(bytes::part(l, at, l.len())),
     }
 }
 
 // What a field of the map has, no bytes if it has none.
 fn value_of(l: &[u8], name: &[u8]) -> Text {
     match field::find_field(l, first_field(l), false, name) {
-        FieldFound::Found(text) => text,
-        FieldFound::Missing => Text {
+        Some(text) => text,
+        None => Text {
             start: 0,
             end: 0,
             quoted: false,

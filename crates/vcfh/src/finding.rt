@@ -1,54 +1,22 @@
 // The entry of an ID, found by an index of the table. Asked is an argument: `find-`, the name of the kind, `=` and the ID.
-ghost use Rattle.std.specs.Prelude.{◌≡◌, length};
+ghost use Rattle.std.specs.Prelude.{◌<◌, ◌^◌};
 
 use crate::form::FORM;
-use crate::{arguments, say, spelled};
+use crate::{arguments, room, say, spelled};
 use entries::{kind, table};
 use header::shown;
-use index::find::Found;
 use index::{build, find};
 use values::bytes;
 
-// Room for any argument that a program may have. As with `io::buffer`, the contract gives only the length.
-fn argument_buffer() -> [u8; 131072]
-    ensures { 131072 ≡ length result }
-{
-    [0; 131072]
-}
-
-// The places of an index, two for each of 4,096 entries, of 65,536, or of all that a large case has room for.
-fn few_places() -> [u32; 8192]
-    ensures { 8192 ≡ length result }
-{
-    [0; 8192]
-}
-
-fn many_places() -> [u32; 131072]
-    ensures { 131072 ≡ length result }
-{
-    [0; 131072]
-}
-
-fn all_places() -> [u32; 2000000]
-    ensures { 2000000 ≡ length result }
-{
-    [0; 2000000]
-}
-
 fn kind_of(name: &[u8]) -> u64 {
-    if bytes::same(name, b"INFO") {
-        return kind::INFO as u64;
-    }
-    if bytes::same(name, b"FILTER") {
-        return kind::FILTER as u64;
-    }
-    if bytes::same(name, b"FORMAT") {
-        return kind::FORMAT as u64;
-    }
-    if bytes::same(name, b"ALT") {
-        return kind::ALTERNATIVE_ALLELE as u64;
-    }
-    kind::CONTIG as u64
+    let kind = match name {
+        b"INFO" => kind::INFO,
+        b"FILTER" => kind::FILTER,
+        b"FORMAT" => kind::FORMAT,
+        b"ALT" => kind::ALTERNATIVE_ALLELE,
+        _ => kind::CONTIG,
+    };
+    kind as u64
 }
 
 fn name_in(asked: &[u8]) -> &[u8] {
@@ -85,41 +53,19 @@ fn say_search(header: &[u8], table: &[u64], asked: &[u8], index: &mut [u32]) {
     let search = find::find(header, table, FORM, index, kind, id_in(asked));
     let found = search.found;
     match found {
-        Found::Entry(n) => say_entry(header, table, n, search.looked),
-        Found::Nothing => say_none(search.looked),
+        Some(n) => say_entry(header, table, n, search.looked),
+        None => say_none(search.looked),
     }
 }
 
-// With the first places of the index.
-fn look_in(header: &[u8], table: &[u64], asked: &[u8], places: usize, index: &mut [u32]) {
-    if index.len() < places {
-        return;
+// With the first places of an index.
+fn look_in<const PLACES: usize>(header: &[u8], table: &[u64], asked: &[u8], places: usize)
+    requires { PLACES < 2 ^ 61 }
+{
+    let mut index: [u32; PLACES] = room::filled(0);
+    if places <= index.len() {
+        say_search(header, table, asked, &mut index[..places]);
     }
-    say_search(header, table, asked, &mut index[..places]);
-}
-
-fn look_few(header: &[u8], table: &[u64], asked: &[u8], places: usize) {
-    let mut index = few_places();
-    look_in(header, table, asked, places, &mut index);
-}
-
-fn look_many(header: &[u8], table: &[u64], asked: &[u8], places: usize) {
-    let mut index = many_places();
-    look_in(header, table, asked, places, &mut index);
-}
-
-fn look_all(header: &[u8], table: &[u64], asked: &[u8], places: usize) {
-    let mut index = all_places();
-    look_in(header, table, asked, places, &mut index);
-}
-
-// Kept apart from the other cases, as `large_case_apart` is.
-fn look_all_apart(turns: usize, header: &[u8], table: &[u64], asked: &[u8], places: usize) {
-    if turns == 0 {
-        return;
-    }
-    look_all_apart(turns / 0x1_0000_0000, header, table, asked, places);
-    look_all(header, table, asked, places);
 }
 
 // With as many places as twice the table's entries, of which there are 1,000,000 at most.
@@ -130,19 +76,22 @@ fn look(rt: HostRuntime, turns: usize, header: &[u8], table: &[u64], asked: &[u8
     }
     let places = 2 * entries;
     if places <= 8192 {
-        look_few(header, table, asked, places);
+        look_in::<8192>(header, table, asked, places);
     } else if places <= 131072 {
-        look_many(header, table, asked, places);
+        look_in::<131072>(header, table, asked, places);
     } else if crate::may_be_large(rt) {
-        look_all_apart(turns, header, table, asked, places);
+        room::apart(
+            turns,
+            &mut || look_in::<2000000>(header, table, asked, places),
+        );
     } else {
         say::tell(b"i");
     }
 }
 
-// Among these entries; the argument of this number says what is looked for.
+// Among these entries; the argument of this number says what is looked for. There is room for any argument that a program may have.
 pub fn say_found(rt: HostRuntime, count: usize, header: &[u8], table: &[u64], number: usize) {
-    let mut word = argument_buffer();
+    let mut word: [u8; 131072] = room::filled(0);
     let end = arguments::arg(rt, number, &mut word);
     look(rt, count, header, table, &word[..end]);
 }

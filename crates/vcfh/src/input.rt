@@ -43,6 +43,7 @@ impl Source {
         ensures { IfOk result (λ n. n ≤ length buffer.new) }
     {
         let mut done = 0;
+        // Kept: no plainer: each turn goes on by as much as was read.
         while done < buffer.len() {
             let n = self.read_some(&mut buffer[done..])?;
             if n == 0 {
@@ -56,15 +57,15 @@ impl Source {
 
 // The first bytes of what gzip packed.
 fn is_packed(s: &[u8]) -> bool {
-    bytes::starts_with(s, b"\x1F\x8B")
+    s.starts_with(b"\x1F\x8B")
 }
 
-// Begun: only the first bytes were taken of a text that is read as it comes.
+// The first bytes, if they are not of what gzip packed. Begun: only these were taken of a text that is read as it comes.
 #[derive(Clone, Copy)]
-pub enum Start {
+pub enum Start<'a> {
     Packed,
-    Begun(usize),
-    Bytes(usize),
+    Begun(&'a [u8]),
+    Bytes(&'a [u8]),
 }
 
 // Reads on from a place; answers where the input or the buffer ends.
@@ -78,7 +79,7 @@ pub fn fill(source: &Source, buffer: &mut [u8], from: usize) -> Result<usize> {
 
 // Fills the buffer, but takes only the first two bytes of a packed input, so that bin/vcfh can hand all of it to gzip, and of a text
 // that is `streamed`.
-pub fn read_start(source: &Source, buffer: &mut [u8], streamed: bool) -> Result<Start> {
+pub fn read_start<'a>(source: &Source, buffer: &'a mut [u8], streamed: bool) -> Result<Start<'a>> {
     let mut two = [0u8; 2];
     let k = source.read_full(&mut two)?;
     if is_packed(&two) {
@@ -86,32 +87,26 @@ pub fn read_start(source: &Source, buffer: &mut [u8], streamed: bool) -> Result<
     }
     let next = output::put_bytes(buffer, 0, bytes::part(&two, 0, k));
     if k < 2 {
-        return Ok(Start::Bytes(k));
+        return Ok(Start::Bytes(bytes::part(buffer, 0, k)));
     }
-    if streamed {
-        if two[0] != b'B' {
-            return Ok(Start::Begun(k));
-        }
+    if streamed && two[0] != b'B' {
+        return Ok(Start::Begun(bytes::part(buffer, 0, k)));
     }
-    Ok(Start::Bytes(fill(source, buffer, next)?))
+    let end = fill(source, buffer, next)?;
+    Ok(Start::Bytes(bytes::part(buffer, 0, end)))
 }
 
-// A number of 32 bits, from its lowest byte on.
-fn number_of(a: u8, b: u8, c: u8, d: u8) -> usize {
-    (a as usize) + 256 * (b as usize) + 65536 * (c as usize) + 16777216 * (d as usize)
-}
-
-// The bytes that a BCF's text takes: their number stands after its first five bytes.
+// The bytes that a BCF's text takes: their number stands after its first five bytes, from its lowest byte on.
 fn text_length(s: &[u8]) -> usize {
-    if s.len() < 9 {
-        return 0;
+    match s {
+        [_, _, _, _, _, a, b, c, d, ..] => u32::from_le_bytes([*a, *b, *c, *d]) as usize,
+        _ => 0,
     }
-    number_of(s[5], s[6], s[7], s[8])
 }
 
 // The text of a BCF, which ends before the first zero; of anything else all of it.
 pub fn text(s: &[u8]) -> &[u8] {
-    if !bytes::starts_with(s, b"BCF\x02") {
+    if !s.starts_with(b"BCF\x02") {
         return s;
     }
     let text = bytes::piece(s, 9, text_length(s));

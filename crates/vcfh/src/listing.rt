@@ -55,23 +55,15 @@ fn say_entry(header: &[u8], table: &[u64], n: usize, kind: u8, line: usize) {
     say_key(kind, l);
 }
 
-// Each line has one entry, and the samples stand in the last line.
-fn line_of(kind: u8, own: usize, last: usize) -> usize {
-    if kind == kind::SAMPLE {
-        return last;
-    }
-    own
-}
-
-pub fn say_entries(header: &[u8], table: &[u64], count: usize) {
+pub fn say_entries(header: &[u8], table: &[u64]) {
     say::text(1, b"entry  kind       line   ID               key\n");
     let mut line = 0;
-    let mut n = 0;
-    while n < count {
-        let own = n + 1;
+    for n in 0..table::count(table, FORM) {
         let kind = table::get(table, FORM, n).kind;
-        line = line_of(kind, own, line);
+        // Each line has one entry, and the samples stand in the last line.
+        if kind != kind::SAMPLE {
+            line = n + 1;
+        }
         say_entry(header, table, n, kind, line);
-        n = own;
     }
 }

@@ -2,22 +2,18 @@
 use crate::form::FORM;
 use crate::{notes, say};
 use dictionary::string_maps;
-use dictionary::string_maps::DictionaryOutcome;
+use dictionary::string_maps::DictionaryRefusal;
 use entries::entry::Entry;
 use entries::{part, table};
-use header::file_format_option::FileFormatOption;
-use values::cursor::{ByteRead, Cursor};
+use records::file_format::FileFormat;
+use values::cursor::Cursor;
 
 // What the ID means.
 pub fn say_id(header: &[u8], e: Entry) {
     let id = part::id_part(header, e);
     let mut c = Cursor { at: 0 };
-    loop {
-        let ByteRead::Byte(b, next) = c.next_unescaped(id, e.quoted) else {
-            return;
-        };
-        let one = [b; 1];
-        say::shown(1, &one);
+    while let Some((b, next)) = c.next_unescaped(id, e.quoted) {
+        say::shown(1, &[b]);
         c = next;
     }
 }
@@ -30,41 +26,21 @@ fn say_pair(label: &[u8], header: &[u8], table: &[u64], entry: u64, number: u64)
 }
 
 fn say_pairs(label: &[u8], header: &[u8], table: &[u64], words: &[u64], pairs: usize) {
-    let mut k = 0;
-    while k < pairs {
-        if words.len() / 2 <= k {
-            return;
-        }
-        let at = 2 * k;
-        k += 1;
-        say_pair(label, header, table, words[at], words[at + 1]);
+    for pair in words.chunks_exact(2).take(pairs) {
+        say_pair(label, header, table, pair[0], pair[1]);
     }
 }
 
-// 34 to 36, in a sentence.
-fn say_why(number: u64) {
-    if number == 34 {
-        say::text(
-            2,
-            b"some lines of a dictionary have an IDX and others have none\n",
-        );
-    } else if number == 35 {
-        say::text(2, b"one ID has two numbers, or two IDs have one number\n");
-    } else {
-        say::text(2, b"there are more than 32,768 strings or contigs\n");
-    }
-}
-
-fn say_refused(number: u64) {
+fn say_refused(number: u64, why: &[u8]) {
     say::tell(b"n");
     say::refused(number, 0, 0);
-    say_why(number);
+    say::text(2, why);
 }
 
 // Whether the header was read: else it is for the caller to say why not.
 pub fn say_numbers(
     header: &[u8],
-    imposed: FileFormatOption,
+    imposed: Option<FileFormat>,
     table: &mut [u64],
     strings: &mut [u64],
     contigs: &mut [u64],
@@ -72,23 +48,26 @@ pub fn say_numbers(
     let answer = string_maps::dictionaries(header, imposed, FORM, table, strings, contigs);
     let outcome = answer.outcome;
     match outcome {
-        DictionaryOutcome::Accepted(version, _) => {
+        Ok((version, _)) => {
             say_pairs(b"string\t", header, table, strings, answer.strings);
             say_pairs(b"contig\t", header, table, contigs, answer.contigs);
-            notes::say_notes(header, table, answer.entries, version);
+            notes::say_notes(header, table::kept(table, FORM, answer.entries), version);
             true
         }
-        DictionaryOutcome::Refused(_) => false,
-        DictionaryOutcome::PartlyIndexed => {
-            say_refused(34);
+        Err(DictionaryRefusal::Unread(_)) => false,
+        Err(DictionaryRefusal::PartlyIndexed) => {
+            say_refused(
+                34,
+                b"some lines of a dictionary have an IDX and others have none\n",
+            );
             true
         }
-        DictionaryOutcome::NumberClash => {
-            say_refused(35);
+        Err(DictionaryRefusal::NumberClash) => {
+            say_refused(35, b"one ID has two numbers, or two IDs have one number\n");
             true
         }
-        DictionaryOutcome::SliceTooSmall => {
-            say_refused(36);
+        Err(DictionaryRefusal::SliceTooSmall) => {
+            say_refused(36, b"there are more than 32,768 strings or contigs\n");
             true
         }
     }

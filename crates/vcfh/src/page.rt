@@ -1,30 +1,34 @@
 // The sheet of a season, and its pages. What is `kept` from file to file is the sheet, in the first 39 words.
 use crate::form::FORM;
 use crate::{arguments, say};
-use header::file_format_option::FileFormatOption;
 use header::parser::Outcome;
-use season::add::AddOutcome;
-use season::merge::MergeOutcome;
+use records::file_format::FileFormat;
+use season::merge::SeasonRefusal;
 use season::{add, merge, place};
-use values::integer::IntegerRead;
-use values::{bytes, integer};
+use values::integer;
+
+// The kinds of entries as the verb `entries` names them, from that of the number 1 on.
+const KINDS: [&str; 10] = [
+    "fileformat",
+    "INFO",
+    "FILTER",
+    "FORMAT",
+    "ALT",
+    "contig",
+    "map",
+    "text",
+    "columns",
+    "sample",
+];
 
 fn sheet_in(kept: &[u64; 40]) -> [u64; 39] {
     let mut sheet = [0u64; 39];
-    let mut i = 0;
-    while i < 39 {
-        sheet[i] = kept[i];
-        i += 1;
-    }
+    sheet.copy_from_slice(&kept[..39]);
     sheet
 }
 
 fn keep(sheet: &[u64; 39], kept: &mut [u64; 40]) {
-    let mut i = 0;
-    while i < 39 {
-        kept[i] = sheet[i];
-        i += 1;
-    }
+    kept[..39].copy_from_slice(sheet);
 }
 
 fn say_too_large() {
@@ -36,14 +40,14 @@ fn say_too_large() {
 // What is told of a header that is counted: `.` if it is accepted, `,` if it is refused.
 fn tell_counted(own: Outcome) {
     match own {
-        Outcome::Accepted(_, _) => say::tell(b"."),
-        Outcome::Refused(_) => say::tell(b","),
+        Ok((_, _)) => say::tell(b"."),
+        Err(_) => say::tell(b","),
     }
 }
 
 pub fn count_header(
     header: &[u8],
-    imposed: FileFormatOption,
+    imposed: Option<FileFormat>,
     table: &mut [u64],
     kept: &mut [u64; 40],
 ) {
@@ -51,11 +55,11 @@ pub fn count_header(
     let outcome = answer.outcome;
     let sheet = answer.sheet;
     match outcome {
-        AddOutcome::Added(own) => {
+        Ok(own) => {
             keep(&sheet, kept);
             tell_counted(own);
         }
-        AddOutcome::TotalTooLarge => say_too_large(),
+        Err(SeasonRefusal::TotalTooLarge) => say_too_large(),
     }
 }
 
@@ -75,44 +79,22 @@ fn say_total(n: u64) {
     say::text(1, b"\n");
 }
 
-// As the verb `entries` names the kinds.
-fn say_kind(kind: usize) {
-    match kind {
-        1 => say::text(1, b"fileformat"),
-        2 => say::text(1, b"INFO"),
-        3 => say::text(1, b"FILTER"),
-        4 => say::text(1, b"FORMAT"),
-        5 => say::text(1, b"ALT"),
-        6 => say::text(1, b"contig"),
-        7 => say::text(1, b"map"),
-        8 => say::text(1, b"text"),
-        9 => say::text(1, b"columns"),
-        _ => say::text(1, b"sample"),
-    }
-}
-
 // A line for each number that came.
 fn say_refused(kept: &[u64; 40]) {
-    let mut n: usize = 1;
-    while n < 28 {
+    for n in 1..28 {
         let total = kept[place::REFUSED + n];
-        let number = n as u64;
-        n += 1;
         if total != 0 {
-            say::numbered(1, b"refused ", number);
+            say::numbered(1, b"refused ", n as u64);
             say_total(total);
         }
     }
 }
 
 fn say_entries(kept: &[u64; 40]) {
-    let mut kind: usize = 1;
-    while kind < 11 {
-        let total = kept[place::ENTRIES + kind];
+    for (kind, total) in KINDS.iter().zip(&kept[place::ENTRIES + 1..]) {
         say::text(1, b"entries ");
-        say_kind(kind);
-        say_total(total);
-        kind += 1;
+        say::text(1, kind.as_bytes());
+        say_total(*total);
     }
 }
 
@@ -127,180 +109,105 @@ pub fn say_page(kept: &[u64; 40]) {
     say_entries(kept);
 }
 
+fn place_of_number(number: &[u8]) -> Option<usize> {
+    match integer::parse_u64(number) {
+        Some((n, true)) if 1 <= n && n <= 27 => Some(place::REFUSED + n as usize),
+        _ => None,
+    }
+}
+
+fn place_of_kind(name: &[u8]) -> Option<usize> {
+    let mut kinds = (place::ENTRIES + 1..39).zip(KINDS);
+    let (place, _) = kinds.find(|(_, kind)| kind.as_bytes() == name)?;
+    Some(place)
+}
+
+fn place_of(label: &[u8]) -> Option<usize> {
+    if let Some(number) = label.strip_prefix(b"refused ") {
+        return place_of_number(number);
+    }
+    if let Some(kind) = label.strip_prefix(b"entries ") {
+        return place_of_kind(kind);
+    }
+    match label {
+        b"read" => Some(place::READ),
+        b"accepted" => Some(place::ACCEPTED),
+        _ => None,
+    }
+}
+
 // What a line of a page says: a total and its place.
-#[derive(Clone, Copy)]
-enum Line {
-    Total(usize, u64),
-    Wrong,
-}
-
-// 39: there is no such place.
-fn place_of_number(number: &[u8]) -> usize {
-    let IntegerRead::Value(n, plain) = integer::parse_u64(number) else {
-        return 39;
-    };
-    if !plain {
-        return 39;
+fn line_of(l: &[u8]) -> Option<(usize, u64)> {
+    let mut parts = l.splitn(2, |b| *b == b'\t');
+    let place = place_of(parts.next()?)?;
+    match integer::parse_u64(parts.next()?) {
+        Some((n, true)) => Some((place, n)),
+        _ => None,
     }
-    if n == 0 {
-        return 39;
-    }
-    if 27 < n {
-        return 39;
-    }
-    place::REFUSED + n as usize
-}
-
-fn place_of_kind(name: &[u8]) -> usize {
-    if bytes::same(name, b"fileformat") {
-        return place::ENTRIES + 1;
-    }
-    if bytes::same(name, b"INFO") {
-        return place::ENTRIES + 2;
-    }
-    if bytes::same(name, b"FILTER") {
-        return place::ENTRIES + 3;
-    }
-    if bytes::same(name, b"FORMAT") {
-        return place::ENTRIES + 4;
-    }
-    if bytes::same(name, b"ALT") {
-        return place::ENTRIES + 5;
-    }
-    place_of_later_kind(name)
-}
-
-fn place_of_later_kind(name: &[u8]) -> usize {
-    if bytes::same(name, b"contig") {
-        return place::ENTRIES + 6;
-    }
-    if bytes::same(name, b"map") {
-        return place::ENTRIES + 7;
-    }
-    if bytes::same(name, b"text") {
-        return place::ENTRIES + 8;
-    }
-    if bytes::same(name, b"columns") {
-        return place::ENTRIES + 9;
-    }
-    if bytes::same(name, b"sample") {
-        return place::ENTRIES + 10;
-    }
-    39
-}
-
-fn place_of(label: &[u8]) -> usize {
-    if bytes::same(label, b"read") {
-        return place::READ;
-    }
-    if bytes::same(label, b"accepted") {
-        return place::ACCEPTED;
-    }
-    if bytes::starts_with(label, b"refused ") {
-        return place_of_number(bytes::part(label, 8, label.len()));
-    }
-    if bytes::starts_with(label, b"entries ") {
-        return place_of_kind(bytes::part(label, 8, label.len()));
-    }
-    39
-}
-
-fn line_of(l: &[u8]) -> Line {
-    let tab = bytes::find(l, 0, b'\t');
-    if l.len() <= tab {
-        return Line::Wrong;
-    }
-    let IntegerRead::Value(n, plain) = integer::parse_u64(bytes::part(l, tab + 1, l.len())) else {
-        return Line::Wrong;
-    };
-    if !plain {
-        return Line::Wrong;
-    }
-    Line::Total(place_of(bytes::part(l, 0, tab)), n)
 }
 
 // Whether a line may stand after another: a page has every line but those of numbers by which nothing is refused.
 fn follows(last: usize, place: usize) -> bool {
-    if last < 1 {
-        return place == 1;
-    }
-    if 38 <= last {
-        return place == 0;
-    }
-    if place <= last {
-        return false;
-    }
-    if last < 29 {
-        return place <= 29;
-    }
-    place == last + 1
-}
-
-fn merge_page(page: [u64; 39], kept: &mut [u64; 40]) -> bool {
-    let answer = merge::merge(sheet_in(kept), page);
-    let outcome = answer.outcome;
-    let sheet = answer.sheet;
-    match outcome {
-        MergeOutcome::Merged => {
-            keep(&sheet, kept);
-            true
-        }
-        MergeOutcome::TotalTooLarge => false,
+    match last {
+        place::READ => place == place::ACCEPTED,
+        38.. => place == place::READ,
+        place::ACCEPTED..=28 => last < place && place <= 29,
+        _ => place == last + 1,
     }
 }
 
+// Why pages are not merged.
 #[derive(Clone, Copy)]
-enum Merged {
-    Whole,
+enum Unmerged {
     NoPage,
     TooLarge,
 }
 
-// Pages one after another, each of which is merged at its last line.
-fn merge_text(text: &[u8], kept: &mut [u64; 40]) -> Merged {
-    let mut page = [0u64; 39];
-    let mut last: usize = 38;
-    let mut at = 0;
-    while at < text.len() {
-        let lf = bytes::find(text, at, b'\n');
-        if text.len() <= lf {
-            return Merged::NoPage;
+fn merge_page(page: [u64; 39], kept: &mut [u64; 40]) -> Result<(), Unmerged> {
+    let answer = merge::merge(sheet_in(kept), page);
+    match answer.outcome {
+        Ok(()) => {
+            keep(&answer.sheet, kept);
+            Ok(())
         }
-        let Line::Total(place, n) = line_of(bytes::part(text, at, lf)) else {
-            return Merged::NoPage;
-        };
-        at = lf + 1;
+        Err(SeasonRefusal::TotalTooLarge) => Err(Unmerged::TooLarge),
+    }
+}
+
+// Pages one after another, each of which is merged at its last line.
+fn merge_text(text: &[u8], kept: &mut [u64; 40]) -> Result<(), Unmerged> {
+    let mut page = [0u64; 39];
+    let mut last = 38;
+    for line in text.split_inclusive(|b| *b == b'\n') {
+        let l = line.strip_suffix(b"\n").ok_or(Unmerged::NoPage)?;
+        let (place, n) = line_of(l).ok_or(Unmerged::NoPage)?;
         if !follows(last, place) {
-            return Merged::NoPage;
+            return Err(Unmerged::NoPage);
         }
         last = place;
-        if 39 <= place {
-            return Merged::NoPage;
-        }
-        page[place] = n;
+        *page.get_mut(place).ok_or(Unmerged::NoPage)? = n;
         if place == 38 {
-            if !merge_page(page, kept) {
-                return Merged::TooLarge;
-            }
+            merge_page(page, kept)?;
             page = [0u64; 39];
         }
     }
     if last == 38 {
-        return Merged::Whole;
+        Ok(())
+    } else {
+        Err(Unmerged::NoPage)
     }
-    Merged::NoPage
 }
 
 // `.` is told of pages that are merged, `b` of what are none.
 pub fn merge_pages(text: &[u8], kept: &mut [u64; 40]) {
-    if text.len() == 0 {
+    if text.is_empty() {
         say::tell(b"b");
         return;
     }
     match merge_text(text, kept) {
-        Merged::Whole => say::tell(b"."),
-        Merged::NoPage => say::tell(b"b"),
-        Merged::TooLarge => say_too_large(),
+        Ok(()) => say::tell(b"."),
+        Err(Unmerged::NoPage) => say::tell(b"b"),
+        Err(Unmerged::TooLarge) => say_too_large(),
     }
 }
 
@@ -308,5 +215,5 @@ pub fn merge_pages(text: &[u8], kept: &mut [u64; 40]) {
 pub fn is_asked(rt: HostRuntime) -> bool {
     let mut word = io::buffer();
     let end = arguments::arg(rt, 2, &mut word);
-    bytes::starts_with(&word[..end], b"season")
+    word[..end].starts_with(b"season")
 }

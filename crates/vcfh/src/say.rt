@@ -1,6 +1,4 @@
 // Writing for people.
-ghost use Rattle.std.specs.Prelude.{◌≤◌};
-
 use std::io::ErrorKind;
 use std_io::io::last_error;
 use values::bytes;
@@ -16,9 +14,9 @@ fn tell_failed_write() {
     let error = last_error();
     if error.kind() == ErrorKind::BrokenPipe {
         tell(b"p");
-        return;
+    } else {
+        tell(b"w");
     }
-    tell(b"w");
 }
 
 pub fn text(fd: i32, s: &[u8]) {
@@ -45,38 +43,13 @@ pub fn refused(number: u64, line: usize, start: usize) {
     text(2, bytes::part(&out, 0, end));
 }
 
-fn is_control(b: u8) -> bool {
-    if b < 0x20 {
-        return true;
-    }
-    b == 0x7F
-}
-
-// Where the first control character stands, from `start` on, or the end.
-fn control_place(s: &[u8], start: usize) -> usize
-    ensures { start ≤ result }
-{
-    let mut i = start;
-    while i < s.len() {
-        if is_control(s[i]) {
-            return i;
-        }
-        i += 1;
-    }
-    i
-}
-
 // Bytes of a header: a control character is shown as `?`, since it might move a terminal's cursor.
 pub fn shown(fd: i32, s: &[u8]) {
-    let mut at = 0;
-    while at < s.len() {
-        let end = control_place(s, at);
-        text(fd, bytes::part(s, at, end));
-        if s.len() <= end {
-            return;
+    for (n, run) in s.split(|b| b.is_ascii_control()).enumerate() {
+        if n != 0 {
+            text(fd, b"?");
         }
-        text(fd, b"?");
-        at = end + 1;
+        text(fd, run);
     }
 }
 

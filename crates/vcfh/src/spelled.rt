@@ -6,33 +6,22 @@ use header::shown;
 use records::file_format::FileFormat;
 use records::key::MapKey;
 use records::record;
-use records::record::RecordRead;
+use records::record::Record;
 use records::tag::Tag;
 use spelling::odd;
 use values::cursor::Cursor;
-use values::field::{FieldRead, Separator};
-use values::integer::IntegerRead;
 use values::{bytes, integer};
 
 fn is_odd(value: &[u8]) -> bool {
     match integer::parse_u64(value) {
-        IntegerRead::Value(_, plain) => !plain,
-        IntegerRead::Refused => false,
+        Some((_, plain)) => !plain,
+        None => false,
     }
 }
 
 fn is_odd_field(key: MapKey, version: FileFormat, name: &[u8], value: &[u8]) -> bool {
-    match key.tag(version, name) {
-        Tag::Number => is_odd(value),
-        Tag::Length => is_odd(value),
-        Tag::Idx => is_odd(value),
-        Tag::Id => false,
-        Tag::ValueType => false,
-        Tag::Description => false,
-        Tag::Md5 => false,
-        Tag::Url => false,
-        Tag::Other => false,
-    }
+    let tag = key.tag(version, name);
+    matches!(tag, Tag::Number | Tag::Length | Tag::Idx) && is_odd(value)
 }
 
 // Whether a field was said, this one or one before.
@@ -52,17 +41,15 @@ fn say_fields(l: &[u8], key: MapKey, version: FileFormat, start: usize) {
     let brackets = key.has_brackets(version);
     let mut c = Cursor { at: start };
     let mut said = false;
-    let mut turns = 0;
-    while turns < l.len() {
-        turns += 1;
+    for _ in 0..l.len() {
         let at = c.at;
-        let FieldRead::Field(equals, text, next) = c.split_field(l, brackets) else {
+        let Some((equals, text, next)) = c.split_field(l, brackets) else {
             return;
         };
         let value = bytes::part(l, text.start, text.end);
         let odd = is_odd_field(key, version, bytes::part(l, at, equals), value);
         said = say_field(bytes::part(l, at, next.at), odd, said);
-        let Separator::Comma(more) = next.consume_separator(l) else {
+        let Some(more) = next.consume_separator(l) else {
             return;
         };
         c = more;
@@ -70,23 +57,14 @@ fn say_fields(l: &[u8], key: MapKey, version: FileFormat, start: usize) {
 }
 
 fn say_numbers(l: &[u8], version: FileFormat) {
-    match record::parse_record(l, version) {
-        RecordRead::Map(map) => {
-            let key = map.key;
-            say_fields(l, key, version, fields::first_field(l));
-        }
-        RecordRead::FileFormat(_) => {}
-        RecordRead::Text(_) => {}
-        RecordRead::Refused(_) => {}
+    if let Ok(Record::Map(map)) = record::parse_record(l, version) {
+        say_fields(l, map.key, version, fields::first_field(l));
     }
 }
 
 // The line of an entry that is a map.
 pub fn line_of(n: usize) -> u64 {
-    if n < 0xFFFF_FFFF {
-        return n as u64 + 1;
-    }
-    0
+    if n < 0xFFFF_FFFF { n as u64 + 1 } else { 0 }
 }
 
 // Number, line, key, ID and the fields.
@@ -106,17 +84,9 @@ fn say_entry(header: &[u8], table: &[u64], n: usize, version: FileFormat) {
 
 // Of an accepted header's entries; the list has room for all that a header of this memory can have. A map stands in the line of its
 // entry's number and one.
-pub fn say_odd(header: &[u8], table: &[u64], count: usize, version: FileFormat, list: &mut [u64]) {
-    let kept = table::kept(table, FORM, count);
-    let answer = odd::odd_entries(header, kept, FORM, version, list);
-    let listed = answer.listed;
-    let mut k = 0;
-    while k < listed {
-        if list.len() <= k {
-            return;
-        }
-        let n = list[k] as usize;
-        k += 1;
-        say_entry(header, table, n, version);
+pub fn say_odd(header: &[u8], table: &[u64], version: FileFormat, list: &mut [u64]) {
+    let answer = odd::odd_entries(header, table, FORM, version, list);
+    for n in list.iter().take(answer.listed) {
+        say_entry(header, table, *n as usize, version);
     }
 }

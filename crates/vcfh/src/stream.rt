@@ -2,33 +2,22 @@
 use crate::form::FORM;
 use crate::input::Source;
 use feed::cable;
-use feed::cable::{FeedAnswer, FeedOutcome, FeedState};
-use header::parser::{Outcome, ReadAnswer};
+use feed::cable::{FeedAnswer, FeedState};
+use header::parser::ReadAnswer;
 use lookup::end;
 use records::refusal::Refusal;
-use std::io::Result;
-use values::{bytes, output};
+use values::bytes;
 
-// What came of the bytes so far: the buffer is full, an answer, or a read failed.
+// Why there is no answer: the buffer is full, or a read failed.
 #[derive(Clone, Copy)]
-pub enum Streamed {
+pub enum Unanswered {
     Full(FeedState),
-    Answered(FeedAnswer),
     Failed,
-}
-
-#[derive(Clone, Copy)]
-enum Step {
-    Next(FeedState),
-    Over(Streamed),
 }
 
 // Whether a line begins the column line; the piece goes on after what is held of it.
 fn begins_columns(line: &[u8], piece: &[u8]) -> bool {
-    let mut start = [0u8; 6];
-    let next = output::put_bytes(&mut start, 0, bytes::part(line, 0, 6));
-    output::put_bytes(&mut start, next, bytes::part(piece, 0, 6));
-    bytes::same(&start, b"#CHROM")
+    line.iter().chain(piece).take(6).eq(b"#CHROM")
 }
 
 // How many bytes of a piece are the header's, which ends with its column line.
@@ -59,70 +48,25 @@ pub fn take(state: FeedState, piece: &[u8], buffer: &mut [u8], table: &mut [u64]
     answer
 }
 
-fn is_over(answer: FeedAnswer) -> bool {
-    let outcome = answer.outcome;
-    match outcome {
-        FeedOutcome::More => false,
-        FeedOutcome::Accepted(_, _) => true,
-        FeedOutcome::Refused(_) => true,
-    }
-}
-
-// How many bytes to read at once: no more than the buffer has room for.
-fn most(state: FeedState, piece: &[u8], buffer: &[u8]) -> usize {
-    let held = state.held;
-    if buffer.len() <= held {
-        return 0;
-    }
-    let room = buffer.len() - held;
-    if room < piece.len() {
-        return room;
-    }
-    piece.len()
-}
-
-// What is there now of the input, no more than so many bytes.
-fn read_some(source: &Source, piece: &mut [u8], most: usize) -> Result<usize> {
-    if piece.len() < most {
-        return Ok(0);
-    }
-    source.read_some(&mut piece[..most])
-}
-
-// Where nothing was read: at the input's end.
-fn end_reading(state: FeedState, buffer: &[u8], table: &mut [u64]) -> Streamed {
-    Streamed::Answered(cable::close(state, FORM, buffer, table))
-}
-
-// The bytes that were read, fed.
-fn feed_piece(state: FeedState, piece: &[u8], buffer: &mut [u8], table: &mut [u64]) -> Step {
-    let answer = take(state, piece, buffer, table);
-    if is_over(answer) {
-        return Step::Over(Streamed::Answered(answer));
-    }
-    let next = answer.state;
-    Step::Next(next)
-}
-
-// What is there of the input is read, once.
+// What is there of the input, no more than the buffer has room for, is read once and fed, or the input's end.
 fn read_next(
     source: &Source,
     state: FeedState,
     piece: &mut [u8],
     buffer: &mut [u8],
     table: &mut [u64],
-) -> Step {
-    let size = most(state, piece, buffer);
-    if size == 0 {
-        return Step::Over(Streamed::Full(state));
+) -> Result<FeedAnswer, Unanswered> {
+    let most = piece.len().min(buffer.len().saturating_sub(state.held));
+    if most == 0 {
+        return Err(Unanswered::Full(state));
     }
-    let Ok(n) = read_some(source, piece, size) else {
-        return Step::Over(Streamed::Failed);
+    let Ok(n) = source.read_some(&mut piece[..most]) else {
+        return Err(Unanswered::Failed);
     };
     if n == 0 {
-        return Step::Over(end_reading(state, buffer, table));
+        return Ok(cable::close(state, FORM, buffer, table));
     }
-    feed_piece(state, bytes::part(piece, 0, n), buffer, table)
+    Ok(take(state, bytes::part(piece, 0, n), buffer, table))
 }
 
 // Reads on until an answer is there or the buffer is full.
@@ -132,26 +76,25 @@ pub fn read_on(
     piece: &mut [u8],
     buffer: &mut [u8],
     table: &mut [u64],
-) -> Streamed {
+) -> Result<FeedAnswer, Unanswered> {
     let mut state = from;
-    let mut k: usize = 0;
-    while k < 0x1_0000_0000 {
-        k += 1;
-        match read_next(source, state, piece, buffer, table) {
-            Step::Next(next) => state = next,
-            Step::Over(streamed) => return streamed,
+    for _ in 0..0x1_0000_0000_u64 {
+        let answer = read_next(source, state, piece, buffer, table)?;
+        if !matches!(answer.outcome, None) {
+            return Ok(answer);
         }
+        state = answer.state;
     }
-    Streamed::Failed
+    Err(Unanswered::Failed)
 }
 
 // The answer as a reading's.
 pub fn read_answer(answer: FeedAnswer) -> ReadAnswer {
     let outcome = answer.outcome;
     let told = match outcome {
-        FeedOutcome::More => Outcome::Refused(Refusal::Empty),
-        FeedOutcome::Accepted(version, samples) => Outcome::Accepted(version, samples),
-        FeedOutcome::Refused(x) => Outcome::Refused(x),
+        None => Err(Refusal::Empty),
+        Some(Ok((version, samples))) => Ok((version, samples)),
+        Some(Err(x)) => Err(x),
     };
     ReadAnswer {
         outcome: told,
@@ -163,12 +106,7 @@ pub fn read_answer(answer: FeedAnswer) -> ReadAnswer {
 
 // The words of a table, in a larger one.
 pub fn copy_words(words: &[u64], table: &mut [u64]) {
-    let mut k = 0;
-    while k < words.len() {
-        if table.len() <= k {
-            return;
-        }
-        table[k] = words[k];
-        k += 1;
+    for (to, from) in table.iter_mut().zip(words) {
+        *to = *from;
     }
 }

@@ -1,29 +1,29 @@
 // Whether a header is its own house form.
 use crate::form::FORM;
 use crate::{notes, say, why};
-use header::file_format_option::FileFormatOption;
-use header::parser::Outcome;
+use entries::table;
 use house::form;
+use records::file_format::FileFormat;
 
 fn say_it(holds: bool, differs: usize) {
     if holds {
         say::text(1, b"yes\n");
-        return;
+    } else {
+        say::tell(b"d");
+        say::numbered(1, b"no offset=", differs as u64);
+        say::text(1, b"\n");
     }
-    say::tell(b"d");
-    say::numbered(1, b"no offset=", differs as u64);
-    say::text(1, b"\n");
 }
 
-pub fn say_verdict(header: &[u8], imposed: FileFormatOption, table: &mut [u64]) {
+pub fn say_verdict(header: &[u8], imposed: Option<FileFormat>, table: &mut [u64]) {
     let answer = form::is_house(header, imposed, FORM, table);
     let outcome = answer.outcome;
     match outcome {
-        Outcome::Accepted(version, _) => {
+        Ok((version, _)) => {
             say_it(answer.holds, answer.differs);
-            notes::say_notes(header, table, answer.entries, version);
+            notes::say_notes(header, table::kept(table, FORM, answer.entries), version);
         }
-        Outcome::Refused(refusal) => {
+        Err(refusal) => {
             say::refused(refusal.number(), answer.line, answer.start);
             why::say_why_no_form(refusal, header, imposed, answer.start);
         }

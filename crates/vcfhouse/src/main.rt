@@ -2,8 +2,6 @@
 #![tactic(auto)]
 
 use entries::form::Form;
-use header::file_format_option::FileFormatOption;
-use header::parser::Outcome;
 use house::form::HouseAnswer;
 use records::refusal::Refusal;
 use values::bytes;
@@ -17,10 +15,10 @@ fn say_refused(refusal: Refusal, line: usize, start: usize) {
 fn say_answer(answer: HouseAnswer, form: &[u8]) {
     let outcome = answer.outcome;
     match outcome {
-        Outcome::Accepted(_, _) => {
+        Ok((_, _)) => {
             io::write_all(1, bytes::part(form, 0, answer.length));
         }
-        Outcome::Refused(refusal) => say_refused(refusal, answer.line, answer.start),
+        Err(refusal) => say_refused(refusal, answer.line, answer.start),
     }
 }
 
@@ -35,12 +33,6 @@ fn main() {
     }
     let mut table = [0u64; 8192];
     let mut form = io::large_buffer();
-    let answer = house::form::house_form(
-        &buffer[..n],
-        FileFormatOption::None,
-        Form::First,
-        &mut table,
-        &mut form,
-    );
+    let answer = house::form::house_form(&buffer[..n], None, Form::First, &mut table, &mut form);
     say_answer(answer, &form);
 }

@@ -34,8 +34,8 @@ pub fn step_at(h: &[u8], table: &[u64], form: Form, at: usize) -> Stepped
 {
     let found = shown::entry(h, table, form, at);
     match found {
-        Shown::Part { start: _, end: _ } => Stepped { found, at: at + 1 },
-        Shown::Refused => Stepped { found, at },
+        Some(_) => Stepped { found, at: at + 1 },
+        None => Stepped { found, at },
     }
 }
 
@@ -52,10 +52,7 @@ impl<'a> View<'a> {
     {
         let p = step_at(self.header, table, form, self.at);
         Moved {
-            view: View {
-                header: self.header,
-                at: p.at,
-            },
+            view: View { at: p.at, ..self },
             found: p.found,
         }
     }
@@ -77,12 +74,12 @@ pub fn count_from(h: &[u8], table: &[u64], form: Form, first: usize) -> usize
     ensures { result ≡ length (shown_from form h.now table.now first) }
 {
     let mut at = first;
+    // Kept: no plainer. The walk goes from step to step to the first refusal; there is nothing that a `for` could go over.
     loop {
         let p = step_from(h, table, form, at);
-        let found = p.found;
-        match found {
-            Shown::Part { start: _, end: _ } => at = p.at,
-            Shown::Refused => return at - first,
+        match p.found {
+            Some(_) => at = p.at,
+            None => return at - first,
         }
     }
 }

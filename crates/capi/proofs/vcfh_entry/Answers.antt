@@ -2,9 +2,6 @@ use Rattle.capi.proofs.Answers.{parts}
 use Rattle.std.proofs.Common.{rules}
 use Rattle.capi.proofs.vcfh_entry.Goals as goal
 
-pub entry-shown-requires : goal.entry-shown-requires
-entry-shown-requires c = search (parts, rules)
-
 pub part_of-requires : goal.part_of-requires
 part_of-requires c = search (parts, rules)
 

@@ -1,10 +1,11 @@
-use lib.ListN.{length}
-use Prim.Native.Nat.{◌-◌, ◌≤◌}
-use mathlib.Core.Path.{◌≡◌}
+use Rattle.std.proofs.Common.{length, ◌+◌, ◌≤◌}
+use Rattle.std.specs.Slice.Iter.{split_inclusive_rest}
 use Rattle.cases.proofs.replay.Given as goal
 
-abbrev pub invariant-loop-at : goal.invariant-loop-at
-invariant-loop-at l = (l.cases ≤ l.at) × (l.wrong ≤ l.at) × (l.at ≤ length l.file) × (length l.input ≡ length l.initial.input) × (length l.form ≡ length l.initial.form)
-
-abbrev pub decreases-loop-at : goal.decreases-loop-at
-decreases-loop-at l = length l.file - l.at
+-- each case takes a byte at least
+abbrev pub invariant-loop-piece : goal.invariant-loop-piece
+invariant-loop-piece l =
+    (goal.iterator-loop-piece).can_next l.piece-iterator ×
+    (goal.iterator-loop-piece).is_finite l.piece-iterator ×
+    (l.cases + length (split_inclusive_rest l.piece-iterator) ≤ length l.file) ×
+    (l.wrong ≤ l.cases)

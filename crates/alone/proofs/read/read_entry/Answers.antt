@@ -8,9 +8,6 @@ line_part-l-requires c = search (entry, rules)
 pub read_alone-requires : goal.read_alone-requires
 read_alone-requires c = search (entry, rules)
 
-pub enum_known-map : goal.enum_known-map
-enum_known-map c = search (entry, rules)
-
 pub key_length-requires : goal.key_length-requires
 key_length-requires c = search (entry, rules)
 
@@ -18,25 +15,16 @@ pub tells-requires : goal.tells-requires
 tells-requires c = search (entry, rules)
 
 pub returns-then-tells : goal.returns-then-tells
-returns-then-tells c = search (entry, rules)
-
-pub enum_known-key_length : goal.enum_known-key_length
-enum_known-key_length c = search (entry, rules)
-
-pub tells-requires-in-Plain : goal.tells-requires-in-Plain
-tells-requires-in-Plain c = search (entry, rules)
+returns-then-tells c = let e = rw c.in-Some-Map.field-0-is at c.in-Some-Map.is in search (entry, e, rules)
 
 pub plain-requires : goal.plain-requires
 plain-requires c = search (entry, rules)
 
-pub enum_told-1 : goal.enum_told-1
-enum_told-1 c = search (entry, rules)
-
 pub returns-else-tells : goal.returns-else-tells
-returns-else-tells c = search (entry, rules)
+returns-else-tells c = let e = rw c.in-Some-Map.field-0-is at c.in-Some-Map.is in search (entry, e, rules)
 
-pub returns-in-Plain : goal.returns-in-Plain
-returns-in-Plain c = search (entry, rules)
+pub returns-in-Some-Plain : goal.returns-in-Some-Plain
+returns-in-Some-Plain c = let e = rw c.in-Some-Plain.field-0-is at c.in-Some-Plain.is in search (entry, e, rules)
 
-pub returns-in-Refused : goal.returns-in-Refused
-returns-in-Refused c = search (entry, rules)
+pub returns-in-None : goal.returns-in-None
+returns-in-None c = search (entry, rules)

@@ -8,8 +8,5 @@ counted-requires c = search (told_counts, rules)
 pub returns-then-counted-e : goal.returns-then-counted-e
 returns-then-counted-e c = search (told_counts, rules)
 
-pub counted-requires-2 : goal.counted-requires-2
-counted-requires-2 c = search (told_counts, rules)
-
-pub returns : goal.returns
-returns c = search (told_counts, rules)
+pub returns-else-counted-e : goal.returns-else-counted-e
+returns-else-counted-e c = search (told_counts, rules)

@@ -5,8 +5,8 @@ use Rattle.capi.proofs.feeds.vcfh_feed.Goals as goal
 pub returns-then-state-ne0 : goal.returns-then-state-ne0
 returns-then-state-ne0 c = search (feeds, rules)
 
-pub returns-in-Unknown : goal.returns-in-Unknown
-returns-in-Unknown c = search (feeds, rules)
+pub returns-in_default : goal.returns-in_default
+returns-in_default c = search (feeds, rules)
 
-pub returns-else-state-ne0 : goal.returns-else-state-ne0
-returns-else-state-ne0 c = search (feeds, c.fed.ensures, c.feed.ensures, c.open_state-was.ensures, c.phase_by.ensures, c.form_of-named.ensures, rules)
+pub returns : goal.returns
+returns c = search (feeds, c.fed.ensures, c.feed.ensures, c.open_state-was.ensures, c.phase_by.ensures, c.form_of-named.ensures, rules)

@@ -2,8 +2,5 @@ use Rattle.columns.proofs.Classes.{counted}
 use Rattle.std.proofs.Common.{rules}
 use Rattle.columns.proofs.header_line.count_all.Goals as goal
 
-pub shape_of-marks : goal.shape_of-marks
-shape_of-marks c = search (counted, rules)
-
 pub returns : goal.returns
 returns c = search (counted, rules)

@@ -5,17 +5,8 @@ use Rattle.columns.proofs.header_line.doubt_name.Goals as goal
 pub returns-then-hash-classes : goal.returns-then-hash-classes
 returns-then-hash-classes c = search (doubted, rules)
 
-pub shape_of-marks-then-not-meet_hash : goal.shape_of-marks-then-not-meet_hash
-shape_of-marks-then-not-meet_hash c = search (doubted, rules)
-
 pub returns-then-not-meet_hash : goal.returns-then-not-meet_hash
 returns-then-not-meet_hash c = search (doubted, rules)
-
-pub shape_of-marks : goal.shape_of-marks
-shape_of-marks c = search (doubted, rules)
-
-pub shape_of-doubts : goal.shape_of-doubts
-shape_of-doubts c = search (doubted, rules)
 
 pub returns : goal.returns
 returns c = search (doubted, rules)

@@ -5,14 +5,8 @@ use Rattle.columns.proofs.header_line.is_repeated.Goals as goal
 pub returns-then-not-is_met : goal.returns-then-not-is_met
 returns-then-not-is_met c = search (repeats, rules)
 
-pub shape_of-marks-then-not-meet_hash : goal.shape_of-marks-then-not-meet_hash
-shape_of-marks-then-not-meet_hash c = search (repeats, rules)
-
 pub returns-then-not-meet_hash : goal.returns-then-not-meet_hash
 returns-then-not-meet_hash c = search (repeats, rules)
-
-pub shape_of-marks : goal.shape_of-marks
-shape_of-marks c = search (repeats, rules)
 
 pub returns : goal.returns
 returns c = search (repeats, rules)

@@ -1,10 +1,5 @@
-use Prim.Native.Nat.{◌-◌}
-use Rattle.entries.specs.Tables.{room}
 use Rattle.dictionary.proofs.Markings.{Marked}
 use Rattle.dictionary.proofs.marking.mark_lines.Given as goal
 
 abbrev pub invariant-loop-k : goal.invariant-loop-k
 invariant-loop-k l = Marked l.sought l.class l.asked l.h l.kept l.initial.marks l.marks l.initial.slots l.slots l.lines l.k
-
-abbrev pub decreases-loop-k : goal.decreases-loop-k
-decreases-loop-k l = room l.asked.form l.kept - l.k

@@ -1,9 +1,5 @@
 use Rattle.dictionary.proofs.Markings.{Passed}
-use Prim.Native.Nat.{◌-◌}
 use Rattle.dictionary.proofs.marking.mark_sought.Given as goal
 
 abbrev pub invariant-loop-at : goal.invariant-loop-at
 invariant-loop-at l = Passed l.sought l.asked l.h l.kept l.initial.marks l.marks l.of l.at
-
-abbrev pub decreases-loop-at : goal.decreases-loop-at
-decreases-loop-at l = l.of - l.at

@@ -3,20 +3,11 @@ use Rattle.dictionary.proofs.Slotting.{twice}
 use Rattle.std.proofs.Common.{rules}
 use Rattle.dictionary.proofs.place.find_beside.Goals as goal
 
-pub kept-requires : goal.kept-requires
-kept-requires c = search (besides, twice, rules)
-
-pub search_beside-requires : goal.search_beside-requires
-search_beside-requires c = search (besides, twice, rules)
-
 pub returns-then-marks-line : goal.returns-then-marks-line
 returns-then-marks-line c = search (besides, twice, rules)
 
 pub overflow_mul-line : goal.overflow_mul-line
 overflow_mul-line c = search (besides, twice, rules)
-
-pub is_set-requires : goal.is_set-requires
-is_set-requires c = search (besides, twice, rules)
 
 pub returns-then-is_set : goal.returns-then-is_set
 returns-then-is_set c = search (besides, twice, rules)
@@ -26,9 +17,6 @@ overflow_mul-line-2 c = search (besides, twice, rules)
 
 pub overflow_add-line : goal.overflow_add-line
 overflow_add-line c = search (besides, twice, rules)
-
-pub is_set-requires-2 : goal.is_set-requires-2
-is_set-requires-2 c = search (besides, twice, rules)
 
 pub returns-then-is_set-2 : goal.returns-then-is_set-2
 returns-then-is_set-2 c = search (besides, twice, rules)

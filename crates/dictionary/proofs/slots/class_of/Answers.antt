@@ -5,8 +5,5 @@ use Rattle.dictionary.proofs.slots.class_of.Goals as goal
 pub returns-then-classes-eq0 : goal.returns-then-classes-eq0
 returns-then-classes-eq0 c = search (slotted, rules)
 
-pub nonzero_rem-result : goal.nonzero_rem-result
-nonzero_rem-result c = search (slotted, rules)
-
 pub returns : goal.returns
 returns c = search (slotted, rules)

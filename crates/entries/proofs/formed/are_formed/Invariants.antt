@@ -1,9 +1,5 @@
 use Rattle.entries.proofs.Plains.{Forming}
-use Prim.Native.Nat.{◌-◌}
 use Rattle.entries.proofs.formed.are_formed.Given as goal
 
 abbrev pub invariant-loop-n : goal.invariant-loop-n
 invariant-loop-n l = Forming l.form l.h l.table l.from l.to l.n
-
-abbrev pub decreases-loop-n : goal.decreases-loop-n
-decreases-loop-n l = l.to - l.n

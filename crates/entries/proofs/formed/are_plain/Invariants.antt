@@ -1,9 +1,5 @@
 use Rattle.entries.proofs.Plains.{Plaining}
-use Prim.Native.Nat.{◌-◌}
 use Rattle.entries.proofs.formed.are_plain.Given as goal
 
 abbrev pub invariant-loop-n : goal.invariant-loop-n
 invariant-loop-n l = Plaining l.size l.table l.from l.to l.room l.strays l.excess l.n
-
-abbrev pub decreases-loop-n : goal.decreases-loop-n
-decreases-loop-n l = l.to - l.n

@@ -8,14 +8,5 @@ enum_known-shown c = search (shown_bytes, rules)
 pub part-requires : goal.part-requires
 part-requires c = search (shown_bytes, rules)
 
-pub enum_told-1 : goal.enum_told-1
-enum_told-1 c = search (shown_bytes, rules)
-
 pub slice_bounds-result-end : goal.slice_bounds-result-end
 slice_bounds-result-end c = search (shown_bytes, rules)
-
-pub returns-in-Part : goal.returns-in-Part
-returns-in-Part c = search (shown_bytes, rules)
-
-pub returns-in-Refused : goal.returns-in-Refused
-returns-in-Refused c = search (shown_bytes, rules)

@@ -16,7 +16,7 @@ pub returns-in_default : goal.returns-in_default
 returns-in_default c = search (shown_entries, rules)
 
 pub overflow_add-end : goal.overflow_add-end
-overflow_add-end c = let i = found_inside _ _ _ _ c.entry_at.ensures c.in-Entry.is in
+overflow_add-end c = let i = found_inside _ _ _ _ c.entry_at.ensures c.in-Some.is in
     omega arith
 
 pub returns : goal.returns

@@ -22,11 +22,11 @@ pub returns-then-not-has_id : goal.returns-then-not-has_id
 returns-then-not-has_id c = search (shown_ids, rules)
 
 pub overflow_add-start : goal.overflow_add-start
-overflow_add-start c = let i = found_inside _ _ _ _ c.entry_at.ensures c.in-Entry.is in
+overflow_add-start c = let i = found_inside _ _ _ _ c.entry_at.ensures c.in-Some.is in
     omega arith
 
 pub overflow_add-end : goal.overflow_add-end
-overflow_add-end c = let i = found_inside _ _ _ _ c.entry_at.ensures c.in-Entry.is in
+overflow_add-end c = let i = found_inside _ _ _ _ c.entry_at.ensures c.in-Some.is in
     omega arith
 
 pub returns : goal.returns

@@ -33,7 +33,7 @@ pub overflow_add-start : goal.overflow_add-start
 overflow_add-start c = search (shown_keys, rules)
 
 pub overflow_add-end : goal.overflow_add-end
-overflow_add-end c = key_end_fits _ _ _ _ c.entry_at.ensures c.in-Entry.is (search rules) c.lies_inside.ensures (rw c.if-not-lies_inside.false)
+overflow_add-end c = key_end_fits _ _ _ _ c.entry_at.ensures c.in-Some.is (search rules) c.lies_inside.ensures (rw c.if-not-lies_inside.false)
 
 pub returns : goal.returns
 returns c = search (shown_keys, rules)

@@ -5,12 +5,6 @@ use Rattle.forms.proofs.field.put_number.Goals as goal
 pub parse_u64-requires : goal.parse_u64-requires
 parse_u64-requires c = search (numbers, rules)
 
-pub enum_known-n : goal.enum_known-n
-enum_known-n c = search (numbers, rules)
-
-pub enum_told-1 : goal.enum_told-1
-enum_told-1 c = search (numbers, rules)
-
 pub put_field-requires : goal.put_field-requires
 put_field-requires c = search (numbers, rules)
 

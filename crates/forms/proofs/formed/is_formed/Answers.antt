@@ -14,9 +14,6 @@ same-requires c = search (formeds, rules)
 pub returns-then-same : goal.returns-then-same
 returns-then-same c = search (formeds, rules)
 
-pub returns-then-s-end : goal.returns-then-s-end
-returns-then-s-end c = search (formeds, rules)
-
 pub overflow_add-value : goal.overflow_add-value
 overflow_add-value c = search (formeds, rules)
 
@@ -25,9 +22,6 @@ returns-then-s-value c = search (formeds, rules)
 
 pub bounds-s-value : goal.bounds-s-value
 bounds-s-value c = search (formeds, rules)
-
-pub returns-then-s-value-ne60 : goal.returns-then-s-value-ne60
-returns-then-s-value-ne60 c = search (formeds, rules)
 
 pub map_key_of-key-requires : goal.map_key_of-key-requires
 map_key_of-key-requires c = search (formeds, rules)

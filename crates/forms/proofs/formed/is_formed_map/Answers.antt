@@ -26,12 +26,6 @@ pass_others-requires c = search (maps, rules)
 pub enum_told-1 : goal.enum_told-1
 enum_told-1 c = search (maps, rules)
 
-pub enum_told-in-Other : goal.enum_told-in-Other
-enum_told-in-Other c = search (maps, rules)
-
-pub enum_told-in-Failed : goal.enum_told-in-Failed
-enum_told-in-Failed c = search (maps, rules)
-
 pub returns-in-More : goal.returns-in-More
 returns-in-More c = search (maps, rules)
 
@@ -40,6 +34,3 @@ returns-in-Done c = search (maps, rules)
 
 pub returns-in-Other : goal.returns-in-Other
 returns-in-Other c = search (maps, rules)
-
-pub returns-in-Failed : goal.returns-in-Failed
-returns-in-Failed c = search (maps, rules)

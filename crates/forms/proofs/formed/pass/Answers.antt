@@ -5,9 +5,6 @@ use Rattle.forms.proofs.formed.pass.Goals as goal
 pub split_field-requires : goal.split_field-requires
 split_field-requires c = search (passes, rules)
 
-pub enum_known-equals : goal.enum_known-equals
-enum_known-equals c = search (passes, rules)
-
 pub enum_told-1 : goal.enum_told-1
 enum_told-1 c = search (passes, rules)
 
@@ -38,11 +35,8 @@ consume_separator-requires c = search (passes, rules)
 pub enum_known-d : goal.enum_known-d
 enum_known-d c = search (passes, rules)
 
-pub enum_told-in-Other : goal.enum_told-in-Other
-enum_told-in-Other c = search (passes, rules)
+pub returns-in-Some-consume_separator : goal.returns-in-Some-consume_separator
+returns-in-Some-consume_separator c = search (passes, rules)
 
-pub returns-in-Comma : goal.returns-in-Comma
-returns-in-Comma c = search (passes, rules)
-
-pub returns-in-Other : goal.returns-in-Other
-returns-in-Other c = search (passes, rules)
+pub returns-in-None : goal.returns-in-None
+returns-in-None c = search (passes, rules)

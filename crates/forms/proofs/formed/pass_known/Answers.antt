@@ -9,17 +9,8 @@ enum_told-1 c = search (tabled, refl, rules)
 pub pass_typed-requires : goal.pass_typed-requires
 pass_typed-requires c = search (tabled, refl, rules)
 
-pub enum_told-in-Filter : goal.enum_told-in-Filter
-enum_told-in-Filter c = search (tabled, refl, rules)
-
 pub pass_filter-requires : goal.pass_filter-requires
 pass_filter-requires c = search (tabled, refl, rules)
-
-pub enum_told-in-Format : goal.enum_told-in-Format
-enum_told-in-Format c = search (tabled, refl, rules)
-
-pub pass_typed-requires-in-Format : goal.pass_typed-requires-in-Format
-pass_typed-requires-in-Format c = search (tabled, refl, rules)
 
 pub enum_told-in-AlternativeAllele : goal.enum_told-in-AlternativeAllele
 enum_told-in-AlternativeAllele c = search (tabled, refl, rules)
@@ -33,23 +24,11 @@ enum_told-in-Contig c = search (tabled, refl, rules)
 pub pass_contig-requires : goal.pass_contig-requires
 pass_contig-requires c = search (tabled, refl, rules)
 
-pub enum_told-in-Meta : goal.enum_told-in-Meta
-enum_told-in-Meta c = search (tabled, refl, rules)
-
-pub enum_told-in-Pedigree : goal.enum_told-in-Pedigree
-enum_told-in-Pedigree c = search (tabled, refl, rules)
-
-pub enum_told-in-Other : goal.enum_told-in-Other
-enum_told-in-Other c = search (tabled, refl, rules)
-
 pub returns-in-Info : goal.returns-in-Info
 returns-in-Info c = search (tabled, refl, rules)
 
 pub returns-in-Filter : goal.returns-in-Filter
 returns-in-Filter c = search (tabled, refl, rules)
-
-pub returns-in-Format : goal.returns-in-Format
-returns-in-Format c = search (tabled, refl, rules)
 
 pub returns-in-AlternativeAllele : goal.returns-in-AlternativeAllele
 returns-in-AlternativeAllele c = search (tabled, refl, rules)
@@ -59,9 +38,3 @@ returns-in-Contig c = search (tabled, refl, rules)
 
 pub returns-in-Meta : goal.returns-in-Meta
 returns-in-Meta c = search (tabled, refl, rules)
-
-pub returns-in-Pedigree : goal.returns-in-Pedigree
-returns-in-Pedigree c = search (tabled, refl, rules)
-
-pub returns-in-Other : goal.returns-in-Other
-returns-in-Other c = search (tabled, refl, rules)

@@ -11,12 +11,6 @@ pass_optional-requires c = search (follows_told, follows, rules)
 pub enum_told-1 : goal.enum_told-1
 enum_told-1 c = search (follows_told, follows, rules)
 
-pub enum_told-in-Other : goal.enum_told-in-Other
-enum_told-in-Other c = search (follows_told, follows, rules)
-
-pub enum_told-in-Failed : goal.enum_told-in-Failed
-enum_told-in-Failed c = search (follows_told, follows, rules)
-
 pub returns-in-More : goal.returns-in-More
 returns-in-More c = search (follows_told, follows, rules)
 
@@ -25,6 +19,3 @@ returns-in-Done c = search (follows_told, follows, rules)
 
 pub returns-in-Other : goal.returns-in-Other
 returns-in-Other c = search (follows_told, follows, rules)
-
-pub returns-in-Failed : goal.returns-in-Failed
-returns-in-Failed c = search (follows_told, follows, rules)

@@ -8,14 +8,8 @@ loop-equals-init c = search (passings, rules)
 pub split_field-requires : goal.split_field-requires
 split_field-requires c = search (passings, rules)
 
-pub enum_known-equals : goal.enum_known-equals
-enum_known-equals c = search (passings, rules)
-
 pub enum_told-1 : goal.enum_told-1
 enum_told-1 c = search (passings, rules)
-
-pub returns-in_default : goal.returns-in_default
-returns-in_default c = search (passings, rules)
 
 pub part-name-requires : goal.part-name-requires
 part-name-requires c = search (passings, rules)
@@ -43,9 +37,6 @@ consume_separator-requires c = search (passings, rules)
 
 pub enum_known-d : goal.enum_known-d
 enum_known-d c = search (passings, rules)
-
-pub enum_told-in_default-consume_separator : goal.enum_told-in_default-consume_separator
-enum_told-in_default-consume_separator c = search (passings, rules)
 
 pub returns-in_default-consume_separator : goal.returns-in_default-consume_separator
 returns-in_default-consume_separator c = search (passings, rules)

@@ -8,17 +8,8 @@ loop-equals-init c = copy_all _ _ _ _ _ (search rules) (search rules)
 pub split_field-requires : goal.split_field-requires
 split_field-requires c = search (copies, rules)
 
-pub enum_known-equals : goal.enum_known-equals
-enum_known-equals c = search (copies, rules)
-
 pub enum_told-1 : goal.enum_told-1
 enum_told-1 c = search (copies, rules)
-
-pub shape_of-out-in_default : goal.shape_of-out-in_default
-shape_of-out-in_default c = search (copies, rules)
-
-pub returns-in_default : goal.returns-in_default
-returns-in_default c = search (copies, rules)
 
 pub part-name-requires : goal.part-name-requires
 part-name-requires c = search (copies, rules)
@@ -35,9 +26,6 @@ consume_separator-requires c = search (copies, rules)
 pub enum_known-d : goal.enum_known-d
 enum_known-d c = search (copies, rules)
 
-pub enum_told-in_default-consume_separator : goal.enum_told-in_default-consume_separator
-enum_told-in_default-consume_separator c = search (copies, rules)
-
 pub shape_of-out-in_default-consume_separator : goal.shape_of-out-in_default-consume_separator
 shape_of-out-in_default-consume_separator c = search (copies, rules)
 
@@ -49,3 +37,6 @@ loop-equals-smaller c = search (copies, rules)
 
 pub loop-equals-preserved : goal.loop-equals-preserved
 loop-equals-preserved c = search (copies, rules)
+
+pub returns : goal.returns
+returns c = search (copies, rules)

@@ -5,12 +5,6 @@ use Rattle.forms.proofs.quoting.begins_with.Goals as goal
 pub next_unescaped-requires : goal.next_unescaped-requires
 next_unescaped-requires c = search (beginnings, rules)
 
-pub enum_known-b : goal.enum_known-b
-enum_known-b c = search (beginnings, rules)
-
-pub enum_told-1 : goal.enum_told-1
-enum_told-1 c = search (beginnings, rules)
-
 pub returns-in_default : goal.returns-in_default
 returns-in_default c = search (beginnings, rules)
 

@@ -8,15 +8,6 @@ loop-b-init c = search (stops, rules)
 pub next_unescaped-requires : goal.next_unescaped-requires
 next_unescaped-requires c = search (stops, rules)
 
-pub enum_known-b : goal.enum_known-b
-enum_known-b c = search (stops, rules)
-
-pub enum_told-1 : goal.enum_told-1
-enum_told-1 c = search (stops, rules)
-
-pub returns-in_default : goal.returns-in_default
-returns-in_default c = search (stops, rules)
-
 pub is_stop-requires : goal.is_stop-requires
 is_stop-requires c = search (stops, rules)
 
@@ -28,3 +19,6 @@ loop-b-smaller c = search (stops, rules)
 
 pub loop-b-preserved : goal.loop-b-preserved
 loop-b-preserved c = search (stops, rules)
+
+pub returns : goal.returns
+returns c = search (stops, rules)

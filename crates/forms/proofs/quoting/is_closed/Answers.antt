@@ -8,32 +8,23 @@ loop-b-init c = search (closings, rules)
 pub next_unescaped-requires : goal.next_unescaped-requires
 next_unescaped-requires c = search (closings, rules)
 
-pub enum_known-b : goal.enum_known-b
-enum_known-b c = search (closings, rules)
-
 pub enum_told-1 : goal.enum_told-1
 enum_told-1 c = search (closings, rules)
 
-pub returns-in_default : goal.returns-in_default
-returns-in_default c = search (closings, rules)
-
 pub next_unescaped-requires-then-b-eq93 : goal.next_unescaped-requires-then-b-eq93
 next_unescaped-requires-then-b-eq93 c = search (closings, rules)
-
-pub enum_told-in-End : goal.enum_told-in-End
-enum_told-in-End c = search (closings, rules)
-
-pub enum_told-in_default-next_unescaped : goal.enum_told-in_default-next_unescaped
-enum_told-in_default-next_unescaped c = search (closings, rules)
-
-pub returns-in_default-next_unescaped : goal.returns-in_default-next_unescaped
-returns-in_default-next_unescaped c = search (closings, rules)
-
-pub returns-then-b-eq93 : goal.returns-then-b-eq93
-returns-then-b-eq93 c = search (closings, rules)
 
 pub loop-b-smaller : goal.loop-b-smaller
 loop-b-smaller c = search (closings, rules)
 
 pub loop-b-preserved : goal.loop-b-preserved
 loop-b-preserved c = search (closings, rules)
+
+pub returns-in_default-matches : goal.returns-in_default-matches
+returns-in_default-matches c = search (closings, rules)
+
+pub returns : goal.returns
+returns c = search (closings, rules)
+
+pub returns-in-None : goal.returns-in-None
+returns-in-None c = search (closings, rules)

@@ -26,5 +26,5 @@ returns-then-begins_with c = search (quotings, rules)
 pub has_stop-requires : goal.has_stop-requires
 has_stop-requires c = search (quotings, rules)
 
-pub returns : goal.returns
-returns c = search (quotings, rules)
+pub returns-else-begins_with : goal.returns-else-begins_with
+returns-else-begins_with c = search (quotings, rules)

@@ -23,9 +23,6 @@ shape_of-marks-then-count-h c = search (aheads, rules)
 pub returns-then-count-h : goal.returns-then-count-h
 returns-then-count-h c = search (aheads, rules)
 
-pub enum_told-1 : goal.enum_told-1
-enum_told-1 c = search (aheads, rules)
-
 pub slice_bounds-mark_noted-end-in-Empty : goal.slice_bounds-mark_noted-end-in-Empty
 slice_bounds-mark_noted-end-in-Empty c = search (aheads, rules)
 
@@ -35,20 +32,8 @@ mark_noted-requires-in-Empty c = search (aheads, rules)
 pub enum_known-phase : goal.enum_known-phase
 enum_known-phase c = search (aheads, rules)
 
-pub slice_bounds-mark_lent-end : goal.slice_bounds-mark_lent-end
-slice_bounds-mark_lent-end c = search (aheads, rules)
-
-pub mark_lent-requires : goal.mark_lent-requires
-mark_lent-requires c = search (aheads, rules)
-
-pub enum_told-in-Done : goal.enum_told-in-Done
-enum_told-in-Done c = search (aheads, rules)
-
-pub slice_bounds-mark_noted-end-in-Done : goal.slice_bounds-mark_noted-end-in-Done
-slice_bounds-mark_noted-end-in-Done c = search (aheads, rules)
-
-pub mark_noted-requires-in-Done : goal.mark_noted-requires-in-Done
-mark_noted-requires-in-Done c = search (aheads, rules)
+pub mark_named-requires : goal.mark_named-requires
+mark_named-requires c = search (aheads, rules)
 
 pub shape_of-marks-in-Empty : goal.shape_of-marks-in-Empty
 shape_of-marks-in-Empty c = search (aheads, rules)
@@ -61,9 +46,3 @@ shape_of-marks-in-Ready c = search (aheads, rules)
 
 pub returns-in-Ready : goal.returns-in-Ready
 returns-in-Ready c = search (aheads, rules)
-
-pub shape_of-marks-in-Done : goal.shape_of-marks-in-Done
-shape_of-marks-in-Done c = search (aheads, rules)
-
-pub returns-in-Done : goal.returns-in-Done
-returns-in-Done c = search (aheads, rules)

@@ -11,20 +11,14 @@ parse_record-read-requires c = search (line_notes, rules)
 pub meet_read-requires : goal.meet_read-requires
 meet_read-requires c = search (line_notes, rules)
 
-pub enum_known-new : goal.enum_known-new
-enum_known-new c = search (line_notes, rules)
-
 pub note_names-requires : goal.note_names-requires
 note_names-requires c = search (line_notes, rules)
-
-pub enum_told-1 : goal.enum_told-1
-enum_told-1 c = search (line_notes, rules)
 
 pub shape_of-notes : goal.shape_of-notes
 shape_of-notes c = search (line_notes, rules)
 
-pub returns-in-New : goal.returns-in-New
-returns-in-New c = search (line_notes, rules)
+pub returns-in-Ok : goal.returns-in-Ok
+returns-in-Ok c = search (line_notes, rules)
 
-pub returns-in-Refused : goal.returns-in-Refused
-returns-in-Refused c = search (line_notes, rules)
+pub returns-in-Err : goal.returns-in-Err
+returns-in-Err c = search (line_notes, rules)

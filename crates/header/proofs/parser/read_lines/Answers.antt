@@ -29,15 +29,6 @@ loop-parser-preserved c = search (goings, rules)
 pub enum_known-x : goal.enum_known-x
 enum_known-x c = search (goings, rules)
 
-pub shape_of-table-in-Refused : goal.shape_of-table-in-Refused
-shape_of-table-in-Refused c = search (goings, rules)
-
-pub shape_of-marks-in-Refused : goal.shape_of-marks-in-Refused
-shape_of-marks-in-Refused c = search (goings, rules)
-
-pub returns-in-Refused : goal.returns-in-Refused
-returns-in-Refused c = search (goings, rules)
-
 pub shape_of-table : goal.shape_of-table
 shape_of-table c = search (goings, rules)
 
@@ -46,3 +37,6 @@ shape_of-marks c = search (goings, rules)
 
 pub returns : goal.returns
 returns c = search (goings, rules)
+
+pub returns-in-Err : goal.returns-in-Err
+returns-in-Err c = search (goings, rules)

@@ -29,23 +29,11 @@ slice_bounds-read_part-end c = search (partings, rules)
 pub read_part-requires : goal.read_part-requires
 read_part-requires c = search (partings, rules)
 
-pub enum_known-next : goal.enum_known-next
-enum_known-next c = search (partings, rules)
-
 pub loop-reach-smaller : goal.loop-reach-smaller
 loop-reach-smaller c = search (partings, rules)
 
 pub loop-reach-preserved : goal.loop-reach-preserved
 loop-reach-preserved c = search (partings, rules)
-
-pub enum_known-next-in-Stopped-1 : goal.enum_known-next-in-Stopped-1
-enum_known-next-in-Stopped-1 c = search (partings, rules)
-
-pub shape_of-table-in-Stopped : goal.shape_of-table-in-Stopped
-shape_of-table-in-Stopped c = search (partings, rules)
-
-pub returns-in-Stopped : goal.returns-in-Stopped
-returns-in-Stopped c = search (partings, rules)
 
 pub read_part-requires-2 : goal.read_part-requires-2
 read_part-requires-2 c = search (partings, rules)
@@ -55,3 +43,6 @@ shape_of-table c = search (partings, rules)
 
 pub returns : goal.returns
 returns c = search (partings, rules)
+
+pub returns-in-Err : goal.returns-in-Err
+returns-in-Err c = search (partings, rules)

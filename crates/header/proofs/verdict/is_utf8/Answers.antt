@@ -8,5 +8,5 @@ returns-then-ascii c = search (utf8s, rules)
 pub utf8-requires : goal.utf8-requires
 utf8-requires c = search (utf8s, rules)
 
-pub returns : goal.returns
-returns c = search (utf8s, rules)
+pub returns-else-ascii : goal.returns-else-ascii
+returns-else-ascii c = search (utf8s, rules)

@@ -5,20 +5,11 @@ use Rattle.header.proofs.verdict.judge_columns.Goals as goal
 pub parse_header-requires : goal.parse_header-requires
 parse_header-requires c = search (all_columns, rules)
 
-pub enum_known-samples : goal.enum_known-samples
-enum_known-samples c = search (all_columns, rules)
+pub returns-in-Ok : goal.returns-in-Ok
+returns-in-Ok c = search (all_columns, rules)
 
-pub enum_told-1 : goal.enum_told-1
-enum_told-1 c = search (all_columns, rules)
+pub returns-in-Err-WrongColumn : goal.returns-in-Err-WrongColumn
+returns-in-Err-WrongColumn c = let e = rw c.in-Err-WrongColumn.field-0-is at c.in-Err-WrongColumn.is in search (all_columns, e, rules)
 
-pub enum_told-in-DuplicateSample : goal.enum_told-in-DuplicateSample
-enum_told-in-DuplicateSample c = search (all_columns, rules)
-
-pub returns-in-Columns : goal.returns-in-Columns
-returns-in-Columns c = search (all_columns, rules)
-
-pub returns-in-WrongColumn : goal.returns-in-WrongColumn
-returns-in-WrongColumn c = search (all_columns, rules)
-
-pub returns-in-DuplicateSample : goal.returns-in-DuplicateSample
-returns-in-DuplicateSample c = search (all_columns, rules)
+pub returns-in-Err-DuplicateSample : goal.returns-in-Err-DuplicateSample
+returns-in-Err-DuplicateSample c = let e = rw c.in-Err-DuplicateSample.field-0-is at c.in-Err-DuplicateSample.is in search (all_columns, e, rules)

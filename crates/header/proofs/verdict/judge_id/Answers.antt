@@ -5,38 +5,14 @@ use Rattle.header.proofs.verdict.judge_id.Goals as goal
 pub find_clash-requires : goal.find_clash-requires
 find_clash-requires c = search (ids, rules)
 
-pub enum_told-1 : goal.enum_told-1
-enum_told-1 c = search (ids, rules)
+pub returns-in-None : goal.returns-in-None
+returns-in-None c = search (ids, rules)
 
-pub enum_told-in-TypedId : goal.enum_told-in-TypedId
-enum_told-in-TypedId c = search (ids, rules)
+pub returns-in-Some-TypedId : goal.returns-in-Some-TypedId
+returns-in-Some-TypedId c = let e = rw c.in-Some-TypedId.field-0-is at c.in-Some-TypedId.is in search (ids, e, rules)
 
-pub enum_told-in-Mixed : goal.enum_told-in-Mixed
-enum_told-in-Mixed c = search (ids, rules)
+pub returns-in-Some-Mixed : goal.returns-in-Some-Mixed
+returns-in-Some-Mixed c = let e = rw c.in-Some-Mixed.field-0-is at c.in-Some-Mixed.is in search (ids, e, rules)
 
-pub enum_told-in-OtherId : goal.enum_told-in-OtherId
-enum_told-in-OtherId c = search (ids, rules)
-
-pub shape_of-marks-in-Free : goal.shape_of-marks-in-Free
-shape_of-marks-in-Free c = search (ids, rules)
-
-pub returns-in-Free : goal.returns-in-Free
-returns-in-Free c = search (ids, rules)
-
-pub shape_of-marks-in-TypedId : goal.shape_of-marks-in-TypedId
-shape_of-marks-in-TypedId c = search (ids, rules)
-
-pub returns-in-TypedId : goal.returns-in-TypedId
-returns-in-TypedId c = search (ids, rules)
-
-pub shape_of-marks-in-Mixed : goal.shape_of-marks-in-Mixed
-shape_of-marks-in-Mixed c = search (ids, rules)
-
-pub returns-in-Mixed : goal.returns-in-Mixed
-returns-in-Mixed c = search (ids, rules)
-
-pub shape_of-marks-in-OtherId : goal.shape_of-marks-in-OtherId
-shape_of-marks-in-OtherId c = search (ids, rules)
-
-pub returns-in-OtherId : goal.returns-in-OtherId
-returns-in-OtherId c = search (ids, rules)
+pub returns-in-Some-OtherId : goal.returns-in-Some-OtherId
+returns-in-Some-OtherId c = let e = rw c.in-Some-OtherId.field-0-is at c.in-Some-OtherId.is in search (ids, e, rules)

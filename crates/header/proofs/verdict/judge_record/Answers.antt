@@ -11,23 +11,17 @@ read_record-requires c = search (records, rules)
 pub meet_read-requires : goal.meet_read-requires
 meet_read-requires c = search (records, rules)
 
-pub enum_known-new : goal.enum_known-new
-enum_known-new c = search (records, rules)
-
 pub part-requires : goal.part-requires
 part-requires c = search (records, rules)
 
 pub judge_id-requires : goal.judge_id-requires
 judge_id-requires c = search (records, rules)
 
-pub enum_known-x : goal.enum_known-x
-enum_known-x c = search (records, rules)
-
 pub shape_of-marks : goal.shape_of-marks
 shape_of-marks c = search (records, rules)
 
-pub returns-in-New : goal.returns-in-New
-returns-in-New c = search (records, rules)
+pub returns-in-Ok : goal.returns-in-Ok
+returns-in-Ok c = search (records, rules)
 
-pub returns-in-Refused : goal.returns-in-Refused
-returns-in-Refused c = search (records, rules)
+pub returns-in-Err : goal.returns-in-Err
+returns-in-Err c = search (records, rules)

@@ -8,9 +8,6 @@ count-k-requires c = search (chainings, rules)
 pub loop-k-init : goal.loop-k-init
 loop-k-init c = search (chainings, rules)
 
-pub overflow_sub-k : goal.overflow_sub-k
-overflow_sub-k c = search (chainings, rules)
-
 pub link_entry-requires : goal.link_entry-requires
 link_entry-requires c = search (chainings, rules)
 

@@ -3,6 +3,3 @@ use Rattle.house.proofs.chains.link_by.Given as goal
 
 abbrev pub invariant-loop-k : goal.invariant-loop-k
 invariant-loop-k l = Chaining l.form l.h l.slots l.from l.initial.heads l.initial.kept l.heads l.kept l.k
-
-abbrev pub decreases-loop-k : goal.decreases-loop-k
-decreases-loop-k l = l.k

@@ -1,4 +1,3 @@
-use Prim.Native.Nat.{◌-◌}
 use Rattle.house.proofs.Forms.{columns}
 use Rattle.std.proofs.Common.{rules}
 use Rattle.house.proofs.form.column_line.Goals as goal
@@ -6,14 +5,8 @@ use Rattle.house.proofs.form.column_line.Goals as goal
 pub loop-k-init : goal.loop-k-init
 loop-k-init c = search (columns, rules)
 
-pub count-requires : goal.count-requires
-count-requires c = search (columns, rules)
-
 pub get-e-requires : goal.get-e-requires
 get-e-requires c = search (columns, rules)
-
-pub overflow_add-k : goal.overflow_add-k
-overflow_add-k c = search (columns, rules)
 
 pub line_part-requires : goal.line_part-requires
 line_part-requires c = search (columns, rules)

@@ -10,14 +10,14 @@ overflow_mul-n c = search (lent, rules)
 pub slice_bounds-judge_accepted-end : goal.slice_bounds-judge_accepted-end
 slice_bounds-judge_accepted-end c = search (lent, rules)
 
-pub slice_bounds-judge_accepted-end-in-Accepted : goal.slice_bounds-judge_accepted-end-in-Accepted
-slice_bounds-judge_accepted-end-in-Accepted c = search (lent, length-take-le, rules)
-
 pub judge_accepted-requires : goal.judge_accepted-requires
 judge_accepted-requires c = search (lent, rules)
 
-pub returns-in-Refused : goal.returns-in-Refused
-returns-in-Refused c = search (is_houses, rules)
+pub slice_bounds-judge_accepted-end-in-Ok : goal.slice_bounds-judge_accepted-end-in-Ok
+slice_bounds-judge_accepted-end-in-Ok c = search (lent, rules)
 
-pub returns-in-Accepted : goal.returns-in-Accepted
-returns-in-Accepted c = search (is_houses, lent, rules)
+pub returns-in-Err : goal.returns-in-Err
+returns-in-Err c = search (is_houses, rules)
+
+pub returns-in-Ok : goal.returns-in-Ok
+returns-in-Ok c = search (is_houses, lent, rules)

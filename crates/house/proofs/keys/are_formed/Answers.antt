@@ -1,19 +1,12 @@
 use Rattle.std.proofs.Common.{rules}
-use Prim.Native.Nat.{◌-◌}
 use Rattle.house.proofs.Looks.{formings}
 use Rattle.house.proofs.keys.are_formed.Goals as goal
 
 pub loop-k-init : goal.loop-k-init
 loop-k-init c = search (formings, rules)
 
-pub count-requires : goal.count-requires
-count-requires c = search (formings, rules)
-
 pub get-e-requires : goal.get-e-requires
 get-e-requires c = search (formings, rules)
-
-pub overflow_add-k : goal.overflow_add-k
-overflow_add-k c = search (formings, rules)
 
 pub is_record-requires : goal.is_record-requires
 is_record-requires c = search (formings, rules)
@@ -26,12 +19,6 @@ is_formed-requires c = search (formings, rules)
 
 pub returns-then-not-is_formed : goal.returns-then-not-is_formed
 returns-then-not-is_formed c = search (formings, rules)
-
-pub loop-k-smaller-else-not-is_formed : goal.loop-k-smaller-else-not-is_formed
-loop-k-smaller-else-not-is_formed c = search (formings, rules)
-
-pub loop-k-preserved-else-not-is_formed : goal.loop-k-preserved-else-not-is_formed
-loop-k-preserved-else-not-is_formed c = search (formings, rules)
 
 pub loop-k-smaller : goal.loop-k-smaller
 loop-k-smaller c = search (formings, rules)

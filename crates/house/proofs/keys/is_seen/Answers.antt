@@ -1,5 +1,4 @@
 use Rattle.house.proofs.Others.{sees}
-use Prim.Native.Nat.{◌-◌}
 use Rattle.std.proofs.Common.{rules}
 use Rattle.house.proofs.keys.is_seen.Goals as goal
 

@@ -1,6 +1,5 @@
 use Rattle.house.proofs.Runs.{runs}
 use Rattle.house.proofs.Picks.{pick_start}
-use Prim.Native.Nat.{◌-◌}
 use Rattle.std.proofs.Common.{rules}
 use Rattle.house.proofs.Picks.{pick_other, picks}
 use Rattle.house.proofs.keys.put_key.Goals as goal

@@ -1,6 +1,5 @@
 use Rattle.house.proofs.Others.{put_start, put_one, put_more, put_other, one_less, next_less, see_less}
 use Rattle.house.proofs.Runs.{run_here}
-use Prim.Native.Nat.{◌-◌}
 use Rattle.std.proofs.Common.{rules}
 use Rattle.house.proofs.Others.{puttings}
 use Rattle.house.proofs.keys.put_linked.Goals as goal

@@ -1,5 +1,4 @@
 use Rattle.house.proofs.Others.{other_start}
-use Prim.Native.Nat.{◌-◌}
 use Rattle.std.proofs.Common.{rules}
 use Rattle.house.proofs.Others.{place_inside, others}
 use Rattle.house.proofs.keys.put_others_by.Goals as goal

@@ -1,13 +1,9 @@
-use Prim.Native.Nat.{◌-◌}
 use Rattle.std.proofs.Common.{rules}
 use Rattle.house.proofs.Others.{passes}
 use Rattle.house.proofs.keys.skip_under.Goals as goal
 
 pub loop-k-init : goal.loop-k-init
 loop-k-init c = search (passes, rules)
-
-pub count-requires : goal.count-requires
-count-requires c = search (passes, rules)
 
 pub get-requires : goal.get-requires
 get-requires c = search (passes, rules)
@@ -17,9 +13,6 @@ is_under-requires c = search (passes, rules)
 
 pub returns-then-not-is_under : goal.returns-then-not-is_under
 returns-then-not-is_under c = search (passes, rules)
-
-pub overflow_add-k : goal.overflow_add-k
-overflow_add-k c = search (passes, rules)
 
 pub loop-k-smaller : goal.loop-k-smaller
 loop-k-smaller c = search (passes, rules)

@@ -8,9 +8,6 @@ count-k-requires c = search (linkings, rules)
 pub loop-k-init : goal.loop-k-init
 loop-k-init c = search (linkings, rules)
 
-pub overflow_sub-k : goal.overflow_sub-k
-overflow_sub-k c = search (linkings, rules)
-
 pub get-requires : goal.get-requires
 get-requires c = search (linkings, rules)
 

@@ -3,6 +3,3 @@ use Rattle.house.proofs.links.link_all.Given as goal
 
 abbrev pub invariant-loop-k : goal.invariant-loop-k
 invariant-loop-k l = Linking l.form l.h l.kept l.initial.heads l.initial.links l.heads l.links l.k
-
-abbrev pub decreases-loop-k : goal.decreases-loop-k
-decreases-loop-k l = l.k

@@ -14,9 +14,6 @@ prefix_part-requires c = search (places, rules)
 pub slot_of-slot-requires : goal.slot_of-slot-requires
 slot_of-slot-requires c = search (places, rules)
 
-pub shape_of-heads-then-heads-slot : goal.shape_of-heads-then-heads-slot
-shape_of-heads-then-heads-slot c = search (places, rules)
-
 pub returns-then-heads-slot : goal.returns-then-heads-slot
 returns-then-heads-slot c = search (places, rules)
 

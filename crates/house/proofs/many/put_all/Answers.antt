@@ -1,6 +1,5 @@
 use Rattle.std.proofs.Common.{rules}
 use Rattle.house.proofs.Manys.{same_size, walk_start, walk_more, walks}
-use Prim.Native.Nat.{◌-◌}
 use Rattle.house.proofs.many.put_all.Goals as goal
 
 pub loop-k-init : goal.loop-k-init

@@ -1,6 +1,5 @@
 use Rattle.std.proofs.Common.{rules}
 use Rattle.house.proofs.Manys.{same_size, step_start, steps}
-use Prim.Native.Nat.{◌-◌}
 use Rattle.house.proofs.many.put_each.Goals as goal
 
 pub loop-k-init : goal.loop-k-init

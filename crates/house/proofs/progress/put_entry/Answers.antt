@@ -14,15 +14,6 @@ returns-then-s c = search (entries, rules)
 pub is_formed-requires : goal.is_formed-requires
 is_formed-requires c = search (entries, rules)
 
-pub put_plain-requires-then-is_formed : goal.put_plain-requires-then-is_formed
-put_plain-requires-then-is_formed c = search (entries, rules)
-
-pub shape_of-out-then-is_formed : goal.shape_of-out-then-is_formed
-shape_of-out-then-is_formed c = search (entries, rules)
-
-pub returns-then-is_formed : goal.returns-then-is_formed
-returns-then-is_formed c = search (entries, rules)
-
 pub put_line-put-requires : goal.put_line-put-requires
 put_line-put-requires c = search (entries, rules)
 

@@ -1,4 +1,3 @@
-use Prim.Native.Nat.{◌-◌}
 use Rattle.std.proofs.Common.{rules}
 use Rattle.house.proofs.Runs.{findings}
 use Rattle.house.proofs.run.find_run.Goals as goal
@@ -8,9 +7,6 @@ count-count-requires c = search (findings, rules)
 
 pub get-first-requires : goal.get-first-requires
 get-first-requires c = search (findings, rules)
-
-pub overflow_add-end : goal.overflow_add-end
-overflow_add-end c = search (findings, rules)
 
 pub line_end-stop-requires : goal.line_end-stop-requires
 line_end-stop-requires c = search (findings, rules)
@@ -24,9 +20,6 @@ line_part-requires c = search (findings, rules)
 pub is_short-requires : goal.is_short-requires
 is_short-requires c = search (findings, rules)
 
-pub returns-then-not-is_short : goal.returns-then-not-is_short
-returns-then-not-is_short c = search (findings, rules)
-
 pub loop-end-init : goal.loop-end-init
 loop-end-init c = search (findings, rules)
 
@@ -38,9 +31,6 @@ is_next-requires c = search (findings, rules)
 
 pub returns-then-not-is_next : goal.returns-then-not-is_next
 returns-then-not-is_next c = search (findings, rules)
-
-pub overflow_add-end-in-loop-end : goal.overflow_add-end-in-loop-end
-overflow_add-end-in-loop-end c = search (findings, rules)
 
 pub line_end-stop-requires-in-loop-end : goal.line_end-stop-requires-in-loop-end
 line_end-stop-requires-in-loop-end c = search (findings, rules)

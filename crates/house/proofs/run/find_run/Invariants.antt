@@ -1,10 +1,5 @@
 use Rattle.house.proofs.Runs.{Running}
-use Rattle.entries.specs.Tables.{room}
-use Prim.Native.Nat.{◌-◌}
 use Rattle.house.proofs.run.find_run.Given as goal
 
 abbrev pub invariant-loop-end : goal.invariant-loop-end
 invariant-loop-end l = Running l.form l.h l.kept l.prefix l.limit l.k l.end l.stop
-
-abbrev pub decreases-loop-end : goal.decreases-loop-end
-decreases-loop-end l = room l.form l.kept - l.end

@@ -2,32 +2,17 @@ use Rattle.house.proofs.Runs.{nexts}
 use Rattle.std.proofs.Common.{rules}
 use Rattle.house.proofs.run.is_next.Goals as goal
 
-pub returns-then-h-stop : goal.returns-then-h-stop
-returns-then-h-stop c = search (nexts, rules)
-
 pub overflow_add-stop : goal.overflow_add-stop
 overflow_add-stop c = search (nexts, rules)
-
-pub returns-then-e-stop : goal.returns-then-e-stop
-returns-then-e-stop c = search (nexts, rules)
 
 pub bounds-h-stop : goal.bounds-h-stop
 bounds-h-stop c = search (nexts, rules)
 
-pub returns-then-h-stop-ne10 : goal.returns-then-h-stop-ne10
-returns-then-h-stop-ne10 c = search (nexts, rules)
-
 pub is_under-requires : goal.is_under-requires
 is_under-requires c = search (nexts, rules)
-
-pub returns-then-not-is_under : goal.returns-then-not-is_under
-returns-then-not-is_under c = search (nexts, rules)
 
 pub line_part-requires : goal.line_part-requires
 line_part-requires c = search (nexts, rules)
 
 pub is_short-requires : goal.is_short-requires
 is_short-requires c = search (nexts, rules)
-
-pub returns : goal.returns
-returns c = search (nexts, rules)

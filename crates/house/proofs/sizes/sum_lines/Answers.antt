@@ -1,16 +1,9 @@
-use Prim.Native.Nat.{◌-◌}
 use Rattle.std.proofs.Common.{rules}
 use Rattle.house.proofs.Weights.{summings}
 use Rattle.house.proofs.sizes.sum_lines.Goals as goal
 
 pub loop-k-init : goal.loop-k-init
 loop-k-init c = search (summings, rules)
-
-pub loop-k-smaller-then-is_record : goal.loop-k-smaller-then-is_record
-loop-k-smaller-then-is_record c = search (summings, rules)
-
-pub loop-k-preserved-then-is_record : goal.loop-k-preserved-then-is_record
-loop-k-preserved-then-is_record c = search (summings, rules)
 
 pub loop-k-smaller : goal.loop-k-smaller
 loop-k-smaller c = search (summings, rules)

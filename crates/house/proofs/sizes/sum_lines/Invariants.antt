@@ -1,11 +1,6 @@
-use Prim.Native.Nat.{◌-◌}
 use Rattle.records.specs.Formats.{version_of}
-use Rattle.entries.specs.Tables.{room}
 use Rattle.house.proofs.Weights.{Summing}
 use Rattle.house.proofs.sizes.sum_lines.Given as goal
 
 abbrev pub invariant-loop-k : goal.invariant-loop-k
 invariant-loop-k l = Summing l.form l.limit (version_of l.version) l.h l.kept l.sum l.k
-
-abbrev pub decreases-loop-k : goal.decreases-loop-k
-decreases-loop-k l = room l.form l.kept - l.k

@@ -1,6 +1,6 @@
-use Rattle.std.proofs.Common.{rules}
 use Rattle.ids.proofs.Markings.{fours}
+use Rattle.std.proofs.Common.{rules}
 use Rattle.ids.proofs.names.four.Goals as goal
 
-pub returns : goal.returns
-returns c = search (fours, rules)
+pub returns-clause-four : goal.returns-clause-four
+returns-clause-four c = search (fours, rules)

@@ -1,39 +1,16 @@
-use Rattle.ids.proofs.Seen.{keys}
+use Rattle.ids.proofs.Seen.{keys, keys_miss, keys_other}
 use Rattle.std.proofs.Common.{rules}
 use Rattle.ids.proofs.scan.key_seen.Goals as goal
-
-pub loop-k-init : goal.loop-k-init
-loop-k-init c = search (keys, rules)
-
-pub count-requires : goal.count-requires
-count-requires c = search (keys, rules)
-
-pub get-e-requires : goal.get-e-requires
-get-e-requires c = search (keys, rules)
-
-pub overflow_add-k : goal.overflow_add-k
-overflow_add-k c = search (keys, rules)
-
-pub line_part-line-requires : goal.line_part-line-requires
-line_part-line-requires c = search (keys, rules)
-
-pub starts_with-requires : goal.starts_with-requires
-starts_with-requires c = search (keys, rules)
+use Rattle.ids.proofs.scan.key_seen.Goals.{else-e-kind-via-then-e-kind+else-starts_with, else-e-kind-via-else-e-kind}
 
 pub returns-then-starts_with : goal.returns-then-starts_with
 returns-then-starts_with c = search (keys, rules)
 
-pub loop-k-smaller-else-starts_with : goal.loop-k-smaller-else-starts_with
-loop-k-smaller-else-starts_with c = search (keys, rules)
-
-pub loop-k-preserved-else-starts_with : goal.loop-k-preserved-else-starts_with
-loop-k-preserved-else-starts_with c = search (keys, rules)
-
-pub loop-k-smaller : goal.loop-k-smaller
-loop-k-smaller c = search (keys, rules)
-
 pub loop-k-preserved : goal.loop-k-preserved
-loop-k-preserved c = search (keys, rules)
+loop-k-preserved c = elim c.else-e-kind.branch [
+  | else-e-kind-via-then-e-kind+else-starts_with w ↦ keys_miss c.loop-k.invariant c.count-k-end.ensures c.loop-k-test.true c.get-e.ensures w.if-e-kind.true w.line_part.ensures w.starts_with.ensures w.if-starts_with.false
+  | else-e-kind-via-else-e-kind w ↦ keys_other c.loop-k.invariant c.count-k-end.ensures c.loop-k-test.true c.get-e.ensures w.if-e-kind.false
+]
 
 pub returns : goal.returns
 returns c = search (keys, rules)

@@ -1,9 +1,5 @@
-use Prim.Native.Nat.{◌-◌}
 use Rattle.index.proofs.Building.{Tallying}
 use Rattle.index.proofs.build.tally.Given as goal
 
 abbrev pub invariant-loop-n : goal.invariant-loop-n
 invariant-loop-n l = Tallying l.form l.h l.table l.n l.count l.last
-
-abbrev pub decreases-loop-n : goal.decreases-loop-n
-decreases-loop-n l = l.entries - l.n

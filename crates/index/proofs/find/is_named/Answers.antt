@@ -38,11 +38,11 @@ slice_bounds-text-end c = search (names, rules)
 pub same_meaning-requires : goal.same_meaning-requires
 same_meaning-requires c = search (names, rules)
 
-pub returns-then-quoted : goal.returns-then-quoted
-returns-then-quoted c = search (names, rules)
-
 pub is_same-requires : goal.is_same-requires
 is_same-requires c = search (names, rules)
 
 pub returns : goal.returns
 returns c = search (names, rules)
+
+pub returns-then-e : goal.returns-then-e
+returns-then-e c = search (names, rules)

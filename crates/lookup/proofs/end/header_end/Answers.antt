@@ -1,6 +1,5 @@
 use Rattle.std.proofs.Common.{rules}
 use Rattle.lookup.proofs.Endings.{ends}
-use Prim.Native.Nat.{◌-◌}
 use Rattle.lookup.proofs.end.header_end.Goals as goal
 
 pub loop-at-init : goal.loop-at-init

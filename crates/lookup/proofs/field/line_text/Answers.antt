@@ -5,9 +5,6 @@ use Rattle.lookup.proofs.field.line_text.Goals as goal
 pub read_entry-requires : goal.read_entry-requires
 read_entry-requires c = search (line_texts, rules)
 
-pub enum_known-map : goal.enum_known-map
-enum_known-map c = search (line_texts, rules)
-
 pub line_part-l-requires : goal.line_part-l-requires
 line_part-l-requires c = search (line_texts, rules)
 
@@ -20,17 +17,11 @@ has_brackets-requires c = search (line_texts, rules)
 pub find_field-requires : goal.find_field-requires
 find_field-requires c = search (line_texts, rules)
 
-pub enum_told-1 : goal.enum_told-1
-enum_told-1 c = search (line_texts, rules)
+pub returns-in-Some-Map-clause-found : goal.returns-in-Some-Map-clause-found
+returns-in-Some-Map-clause-found c = search (line_texts, rules)
 
-pub enum_told-in-Refused : goal.enum_told-in-Refused
-enum_told-in-Refused c = search (line_texts, rules)
+pub returns-in-Some-Map-clause-inside : goal.returns-in-Some-Map-clause-inside
+returns-in-Some-Map-clause-inside c = search (line_texts, rules)
 
-pub returns-in-Map : goal.returns-in-Map
-returns-in-Map c = search (line_texts, rules)
-
-pub returns-in-Plain : goal.returns-in-Plain
-returns-in-Plain c = search (line_texts, rules)
-
-pub returns-in-Refused : goal.returns-in-Refused
-returns-in-Refused c = search (line_texts, rules)
+pub returns-in-Some-Plain-clause-found : goal.returns-in-Some-Plain-clause-found
+returns-in-Some-Plain-clause-found c = search (line_texts, rules)

@@ -11,14 +11,11 @@ enum_known-text c = search (moved_texts, rules)
 pub overflow_add-result : goal.overflow_add-result
 overflow_add-result c = search (moved_texts, rules)
 
-pub overflow_add-result-in-Found : goal.overflow_add-result-in-Found
-overflow_add-result-in-Found c = search (moved_texts, rules)
-
 pub enum_told-1 : goal.enum_told-1
 enum_told-1 c = search (moved_texts, rules)
 
-pub returns-in-Found : goal.returns-in-Found
-returns-in-Found c = search (moved_texts, rules)
+pub overflow_add-result-in-Some : goal.overflow_add-result-in-Some
+overflow_add-result-in-Some c = search (moved_texts, rules)
 
-pub returns-in-Missing : goal.returns-in-Missing
-returns-in-Missing c = search (moved_texts, rules)
+pub returns-in-Some : goal.returns-in-Some
+returns-in-Some c = search (moved_texts, rules)

@@ -13,9 +13,3 @@ value-requires c = search (found_values, rules)
 
 pub enum_told-1 : goal.enum_told-1
 enum_told-1 c = search (found_values, rules)
-
-pub returns-in-Entry : goal.returns-in-Entry
-returns-in-Entry c = search (found_values, rules)
-
-pub returns-in-Nothing : goal.returns-in-Nothing
-returns-in-Nothing c = search (found_values, rules)

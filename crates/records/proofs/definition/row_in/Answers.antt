@@ -1,24 +1,16 @@
-use Rattle.std.proofs.Common.{rules}
-use Rattle.records.proofs.Definitions.{looking}
+use Rattle.std.proofs.Common.{refl, rules}
+use Rattle.records.proofs.Definitions.{looking, look_ended, look_hit}
 use Rattle.records.proofs.definition.row_in.Goals as goal
 
-pub loop-at-init : goal.loop-at-init
-loop-at-init c = search (looking, rules)
+pub loop-row-init : goal.loop-row-init
+loop-row-init c = search (looking, rules)
 
-pub returns-then-rows-at : goal.returns-then-rows-at
-returns-then-rows-at c = search (looking, rules)
-
-pub returns-then-rows-end-lt3 : goal.returns-then-rows-end-lt3
-returns-then-rows-end-lt3 c = search (looking, rules)
+pub loop-row-preserved : goal.loop-row-preserved
+loop-row-preserved c = search (looking, rules)
 
 pub returns-then-same : goal.returns-then-same
-returns-then-same c = search (looking, rules)
-
-pub loop-at-smaller : goal.loop-at-smaller
-loop-at-smaller c = search (looking, rules)
-
-pub loop-at-preserved : goal.loop-at-preserved
-loop-at-preserved c = search (looking, rules)
+returns-then-same c =
+    look_hit c.loop-row.invariant c.in-Some.row.now _ c.in-Some.ensures.steps.1.0 c.in-Some.ensures.steps.1.1 refl c.same.ensures c.if-same.true c.number_coded.ensures c.type_coded.ensures
 
 pub returns : goal.returns
-returns c = search (looking, rules)
+returns c = look_ended c.loop-row.invariant c.in-None.ensures.steps.1.0

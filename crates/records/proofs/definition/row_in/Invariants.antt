@@ -1,10 +1,6 @@
+use Rattle.std.specs.Slice.Iter.{chunks_exact_rest, chunks_exact_size}
 use Rattle.records.proofs.Definitions.{Looking}
-use Prim.Native.Nat.{◌-◌}
-use lib.ListN.{length}
 use Rattle.records.proofs.definition.row_in.Given as goal
 
-abbrev pub invariant-loop-at : goal.invariant-loop-at
-invariant-loop-at l = Looking l.rows l.id l.at
-
-abbrev pub decreases-loop-at : goal.decreases-loop-at
-decreases-loop-at l = length l.rows - l.at
+abbrev pub invariant-loop-row : goal.invariant-loop-row
+invariant-loop-row l = Looking l.rows l.id (chunks_exact_size l.row-iterator) (chunks_exact_rest l.row-iterator)

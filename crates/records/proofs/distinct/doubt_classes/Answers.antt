@@ -8,9 +8,6 @@ count-requires c = search (classings, rules)
 pub count-requires-2 : goal.count-requires-2
 count-requires-2 c = search (classings, rules)
 
-pub lesser-fields-requires : goal.lesser-fields-requires
-lesser-fields-requires c = search (classings, rules)
-
 pub overflow_add-classes : goal.overflow_add-classes
 overflow_add-classes c = search (classings, rules)
 
@@ -19,15 +16,6 @@ loop-class-init c = search (classings, rules)
 
 pub doubt_class-end-requires : goal.doubt_class-end-requires
 doubt_class-end-requires c = search (classings, rules)
-
-pub lesser-distinct-requires : goal.lesser-distinct-requires
-lesser-distinct-requires c = search (classings, rules)
-
-pub overflow_add-class : goal.overflow_add-class
-overflow_add-class c = search (classings, rules)
-
-pub loop-class-smaller : goal.loop-class-smaller
-loop-class-smaller c = search (classings, rules)
 
 pub loop-class-preserved : goal.loop-class-preserved
 loop-class-preserved c = search (classings, rules)

@@ -14,20 +14,11 @@ returns-then-hash-classes c = search (doubted, rules)
 pub meet_hash-requires : goal.meet_hash-requires
 meet_hash-requires c = search (doubted, rules)
 
-pub shape_of-marks-then-not-meet_hash : goal.shape_of-marks-then-not-meet_hash
-shape_of-marks-then-not-meet_hash c = search (doubted, rules)
-
-pub returns-then-not-meet_hash : goal.returns-then-not-meet_hash
-returns-then-not-meet_hash c = search (doubted, rules)
-
-pub meet_hash-requires-2 : goal.meet_hash-requires-2
-meet_hash-requires-2 c = search (doubted, rules)
-
-pub shape_of-marks : goal.shape_of-marks
-shape_of-marks c = search (doubted, rules)
-
 pub shape_of-doubts : goal.shape_of-doubts
 shape_of-doubts c = search (doubted, rules)
 
-pub returns : goal.returns
-returns c = search (doubted, rules)
+pub returns-else-meet_hash : goal.returns-else-meet_hash
+returns-else-meet_hash c = search (doubted, rules)
+
+pub returns-then-meet_hash : goal.returns-then-meet_hash
+returns-then-meet_hash c = search (doubted, rules)

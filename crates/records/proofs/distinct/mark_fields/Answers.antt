@@ -8,9 +8,6 @@ loop-equals-init c = search (seekings, rules)
 pub split_field-requires : goal.split_field-requires
 split_field-requires c = search (seekings, rules)
 
-pub enum_known-equals : goal.enum_known-equals
-enum_known-equals c = search (seekings, rules)
-
 pub enum_told-1 : goal.enum_told-1
 enum_told-1 c = search (seekings, rules)
 
@@ -37,9 +34,6 @@ consume_separator-requires c = search (seekings, rules)
 
 pub enum_known-d : goal.enum_known-d
 enum_known-d c = search (seekings, rules)
-
-pub enum_told-in_default-consume_separator : goal.enum_told-in_default-consume_separator
-enum_told-in_default-consume_separator c = search (seekings, rules)
 
 pub shape_of-marks-in_default-consume_separator : goal.shape_of-marks-in_default-consume_separator
 shape_of-marks-in_default-consume_separator c = search (seekings, rules)

@@ -5,12 +5,6 @@ use Rattle.records.proofs.distinct.parse_bare.Goals as goal
 pub next_byte-requires : goal.next_byte-requires
 next_byte-requires c = search (bares, rules)
 
-pub enum_known-b : goal.enum_known-b
-enum_known-b c = search (bares, rules)
-
-pub enum_told-1 : goal.enum_told-1
-enum_told-1 c = search (bares, rules)
-
 pub returns-in_default : goal.returns-in_default
 returns-in_default c = search (bares, rules)
 

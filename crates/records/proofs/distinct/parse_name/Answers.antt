@@ -8,14 +8,8 @@ find_name_end-end-requires c = search (keys, rules)
 pub returns-then-end-start : goal.returns-then-end-start
 returns-then-end-start c = search (keys, rules)
 
-pub returns-then-s-end : goal.returns-then-s-end
-returns-then-s-end c = search (keys, rules)
-
 pub bounds-s-end : goal.bounds-s-end
 bounds-s-end c = search (keys, rules)
-
-pub returns-then-s-end-ne61 : goal.returns-then-s-end-ne61
-returns-then-s-end-ne61 c = search (keys, rules)
 
 pub overflow_add-result : goal.overflow_add-result
 overflow_add-result c = search (keys, rules)

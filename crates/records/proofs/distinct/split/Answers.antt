@@ -11,23 +11,11 @@ returns-then-brackets c = search (skims, rules)
 pub parse_name-requires : goal.parse_name-requires
 parse_name-requires c = search (skims, rules)
 
-pub enum_known-equals : goal.enum_known-equals
-enum_known-equals c = search (skims, rules)
-
-pub enum_told-1 : goal.enum_told-1
-enum_told-1 c = search (skims, rules)
-
 pub returns-in_default : goal.returns-in_default
 returns-in_default c = search (skims, rules)
 
 pub parse_bare-requires : goal.parse_bare-requires
 parse_bare-requires c = search (skims, rules)
-
-pub enum_known-text : goal.enum_known-text
-enum_known-text c = search (skims, rules)
-
-pub enum_told-in_default-parse_bare : goal.enum_told-in_default-parse_bare
-enum_told-in_default-parse_bare c = search (skims, rules)
 
 pub split_field-requires-in_default-parse_bare : goal.split_field-requires-in_default-parse_bare
 split_field-requires-in_default-parse_bare c = search (skims, rules)

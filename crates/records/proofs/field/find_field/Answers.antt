@@ -8,9 +8,6 @@ loop-equals-init c = search (seeks, rules)
 pub split_field-requires : goal.split_field-requires
 split_field-requires c = search (seeks, rules)
 
-pub enum_known-equals : goal.enum_known-equals
-enum_known-equals c = search (seeks, rules)
-
 pub enum_told-1 : goal.enum_told-1
 enum_told-1 c = search (seeks, rules)
 
@@ -31,9 +28,6 @@ consume_separator-requires c = search (seeks, rules)
 
 pub enum_known-d : goal.enum_known-d
 enum_known-d c = search (seeks, rules)
-
-pub enum_told-in_default-consume_separator : goal.enum_told-in_default-consume_separator
-enum_told-in_default-consume_separator c = search (seeks, rules)
 
 pub returns-in_default-consume_separator : goal.returns-in_default-consume_separator
 returns-in_default-consume_separator c = search (seeks, rules)

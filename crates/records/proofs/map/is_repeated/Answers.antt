@@ -11,15 +11,6 @@ get-requires c = search (repeats, rules)
 pub enum_told-1 : goal.enum_told-1
 enum_told-1 c = search (repeats, rules)
 
-pub enum_told-in-Filled : goal.enum_told-in-Filled
-enum_told-in-Filled c = search (repeats, rules)
-
-pub returns-in-Empty : goal.returns-in-Empty
-returns-in-Empty c = search (repeats, rules)
-
-pub returns-in-Filled : goal.returns-in-Filled
-returns-in-Filled c = search (repeats, rules)
-
 pub returns-then-plain : goal.returns-then-plain
 returns-then-plain c = search (repeats, rules)
 
@@ -31,3 +22,9 @@ has_key-requires c = search (repeats, rules)
 
 pub returns : goal.returns
 returns c = search (repeats, rules)
+
+pub returns-in-None : goal.returns-in-None
+returns-in-None c = search (repeats, rules)
+
+pub returns-in-Some : goal.returns-in-Some
+returns-in-Some c = search (repeats, rules)

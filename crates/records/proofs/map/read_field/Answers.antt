@@ -2,9 +2,6 @@ use Rattle.std.proofs.Common.{rules}
 use Rattle.records.proofs.Steps.{steps}
 use Rattle.records.proofs.map.read_field.Goals as goal
 
-pub returns-in-Refused : goal.returns-in-Refused
-returns-in-Refused c = search (steps, rules)
-
 pub returns-in-More : goal.returns-in-More
 returns-in-More c = search (steps, rules)
 

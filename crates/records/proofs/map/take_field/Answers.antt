@@ -8,8 +8,8 @@ returns-in_default c = search (takes, rules)
 pub returns-then-is_repeated : goal.returns-then-is_repeated
 returns-then-is_repeated c = search (takes, rules)
 
-pub returns-in-Refused : goal.returns-in-Refused
-returns-in-Refused c = search (takes, rules)
-
 pub returns-else-is_repeated : goal.returns-else-is_repeated
 returns-else-is_repeated c = search (takes, rules)
+
+pub returns-in-Err : goal.returns-in-Err
+returns-in-Err c = search (takes, rules)

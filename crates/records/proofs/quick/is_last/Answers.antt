@@ -5,12 +5,6 @@ use Rattle.records.proofs.quick.is_last.Goals as goal
 pub plain_field-requires : goal.plain_field-requires
 plain_field-requires c = search (lasts, rules)
 
-pub enum_known-equals : goal.enum_known-equals
-enum_known-equals c = search (lasts, rules)
-
-pub enum_told-1 : goal.enum_told-1
-enum_told-1 c = search (lasts, rules)
-
 pub returns-in_default : goal.returns-in_default
 returns-in_default c = search (lasts, rules)
 

@@ -4,15 +4,3 @@ use Rattle.records.proofs.quick.is_plainly.Goals as goal
 
 pub parse_u64-requires : goal.parse_u64-requires
 parse_u64-requires c = search (plainness, rules)
-
-pub enum_known-plain : goal.enum_known-plain
-enum_known-plain c = search (plainness, rules)
-
-pub enum_told-1 : goal.enum_told-1
-enum_told-1 c = search (plainness, rules)
-
-pub returns-in-Value : goal.returns-in-Value
-returns-in-Value c = search (plainness, rules)
-
-pub returns-in-Refused : goal.returns-in-Refused
-returns-in-Refused c = search (plainness, rules)

@@ -5,12 +5,6 @@ use Rattle.records.proofs.quick.plain_field.Goals as goal
 pub parse_key-requires : goal.parse_key-requires
 parse_key-requires c = search (plains, rules)
 
-pub enum_known-equals : goal.enum_known-equals
-enum_known-equals c = search (plains, rules)
-
-pub enum_told-1 : goal.enum_told-1
-enum_told-1 c = search (plains, rules)
-
 pub returns-in_default : goal.returns-in_default
 returns-in_default c = search (plains, rules)
 
@@ -19,9 +13,6 @@ returns-then-s-start c = search (plains, rules)
 
 pub bounds-s-start : goal.bounds-s-start
 bounds-s-start c = search (plains, rules)
-
-pub returns-then-s-start-eq34 : goal.returns-then-s-start-eq34
-returns-then-s-start-eq34 c = search (plains, rules)
 
 pub find_stop-requires : goal.find_stop-requires
 find_stop-requires c = search (plains, rules)

@@ -20,9 +20,6 @@ returns-then-s-start c = search (maps_quickly, rules)
 pub bounds-s-start : goal.bounds-s-start
 bounds-s-start c = search (maps_quickly, rules)
 
-pub returns-then-s-start-eq34 : goal.returns-then-s-start-eq34
-returns-then-s-start-eq34 c = search (maps_quickly, rules)
-
 pub find_stop-end-requires : goal.find_stop-end-requires
 find_stop-end-requires c = search (maps_quickly, rules)
 

@@ -11,23 +11,11 @@ returns-then-not-starts_with c = search (quickly, rules)
 pub read_key-requires : goal.read_key-requires
 read_key-requires c = search (quickly, rules)
 
-pub enum_known-contig : goal.enum_known-contig
-enum_known-contig c = search (quickly, rules)
-
-pub enum_told-1 : goal.enum_told-1
-enum_told-1 c = search (quickly, rules)
-
 pub returns-in_default : goal.returns-in_default
 returns-in_default c = search (quickly, rules)
 
 pub read_map-requires : goal.read_map-requires
 read_map-requires c = search (quickly, rules)
-
-pub enum_known-end : goal.enum_known-end
-enum_known-end c = search (quickly, rules)
-
-pub enum_told-in_default-read_map : goal.enum_told-in_default-read_map
-enum_told-in_default-read_map c = search (quickly, rules)
 
 pub returns-in_default-read_map : goal.returns-in_default-read_map
 returns-in_default-read_map c = search (quickly, rules)

@@ -8,9 +8,6 @@ find-end-requires c = search (keys, rules)
 pub returns-then-end-eq2 : goal.returns-then-end-eq2
 returns-then-end-eq2 c = search (keys, rules)
 
-pub returns-then-s-end : goal.returns-then-s-end
-returns-then-s-end c = search (keys, rules)
-
 pub part-name-requires : goal.part-name-requires
 part-name-requires c = search (keys, rules)
 

@@ -5,12 +5,6 @@ use Rattle.records.proofs.record.read_record.Goals as goal
 pub read_quick-requires : goal.read_quick-requires
 read_quick-requires c = search (records_quickly, rules)
 
-pub enum_known-contig : goal.enum_known-contig
-enum_known-contig c = search (records_quickly, rules)
-
-pub enum_told-1 : goal.enum_told-1
-enum_told-1 c = search (records_quickly, rules)
-
 pub parse_record-requires : goal.parse_record-requires
 parse_record-requires c = search (records_quickly, rules)
 

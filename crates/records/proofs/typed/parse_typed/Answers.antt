@@ -14,8 +14,5 @@ returns-in_default-typed c = search (all_typed, rules)
 pub returns-in_default-described : goal.returns-in_default-described
 returns-in_default-described c = search (all_typed, rules)
 
-pub returns-in-Refused : goal.returns-in-Refused
-returns-in-Refused c = search (all_typed, rules)
-
-pub returns-in-Filled-described : goal.returns-in-Filled-described
-returns-in-Filled-described c = search (all_typed, rules)
+pub returns-in-Some-described : goal.returns-in-Some-described
+returns-in-Some-described c = search (all_typed, rules)

@@ -11,14 +11,8 @@ returns-then-not-is_map_value c = search (values, rules)
 pub parse_map_value-requires : goal.parse_map_value-requires
 parse_map_value-requires c = search (values, rules)
 
-pub enum_known-id : goal.enum_known-id
-enum_known-id c = search (values, rules)
+pub returns-in-Ok : goal.returns-in-Ok
+returns-in-Ok c = search (values, rules)
 
-pub enum_known-x : goal.enum_known-x
-enum_known-x c = search (values, rules)
-
-pub returns-in-Map : goal.returns-in-Map
-returns-in-Map c = search (values, rules)
-
-pub returns-in-Refused : goal.returns-in-Refused
-returns-in-Refused c = search (values, rules)
+pub returns-in-Err : goal.returns-in-Err
+returns-in-Err c = search (values, rules)

@@ -3,6 +3,3 @@ use Rattle.register.proofs.cells.cell_lines.Given as goal
 
 abbrev pub invariant-loop-k : goal.invariant-loop-k
 invariant-loop-k l = Walked l.form l.h l.kept l.lines l.k
-
-abbrev pub decreases-loop-k : goal.decreases-loop-k
-decreases-loop-k l = l.k

@@ -8,8 +8,8 @@ returns-then-line-eq0 c = search (constants_on, rules)
 pub overflow_sub-line : goal.overflow_sub-line
 overflow_sub-line c = search (constants_on, rules)
 
-pub get-e-requires : goal.get-e-requires
-get-e-requires c = search (constants_on, rules)
+pub get-requires : goal.get-requires
+get-requires c = search (constants_on, rules)
 
 pub constant_of-requires : goal.constant_of-requires
 constant_of-requires c = search (constants_on, rules)

@@ -8,8 +8,8 @@ returns-then-line-eq0 c = search (start_tolds, rules)
 pub overflow_sub-line : goal.overflow_sub-line
 overflow_sub-line c = search (start_tolds, rules)
 
-pub get-e-requires : goal.get-e-requires
-get-e-requires c = search (start_tolds, rules)
+pub get-requires : goal.get-requires
+get-requires c = search (start_tolds, rules)
 
 pub returns : goal.returns
 returns c = search (start_tolds, rules)

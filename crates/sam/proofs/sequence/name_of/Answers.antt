@@ -2,8 +2,5 @@ use Rattle.sam.proofs.Sequences.{value_found}
 use Rattle.std.proofs.Common.{rules}
 use Rattle.sam.proofs.sequence.name_of.Goals as goal
 
-pub find_tag-requires : goal.find_tag-requires
-find_tag-requires c = search (value_found, rules)
-
 pub returns : goal.returns
 returns c = search (value_found, rules)

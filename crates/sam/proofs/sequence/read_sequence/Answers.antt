@@ -5,32 +5,14 @@ use Rattle.sam.proofs.sequence.read_sequence.Goals as goal
 pub returns-then-line : goal.returns-then-line
 returns-then-line c = search (readings, rules)
 
-pub utf8-requires : goal.utf8-requires
-utf8-requires c = search (readings, rules)
-
 pub returns-then-not-utf8 : goal.returns-then-not-utf8
 returns-then-not-utf8 c = search (readings, rules)
-
-pub are_tags-requires : goal.are_tags-requires
-are_tags-requires c = search (readings, rules)
 
 pub returns-then-not-are_tags : goal.returns-then-not-are_tags
 returns-then-not-are_tags c = search (readings, rules)
 
-pub name_of-requires : goal.name_of-requires
-name_of-requires c = search (readings, rules)
-
 pub returns-then-name_of-eq0 : goal.returns-then-name_of-eq0
 returns-then-name_of-eq0 c = search (readings, rules)
-
-pub read_size-requires : goal.read_size-requires
-read_size-requires c = search (readings, rules)
-
-pub enum_known-size : goal.enum_known-size
-enum_known-size c = search (readings, rules)
-
-pub enum_told-1 : goal.enum_told-1
-enum_told-1 c = search (readings, rules)
 
 pub returns-in_default : goal.returns-in_default
 returns-in_default c = search (readings, rules)

@@ -1,30 +1,22 @@
+use mathlib.Core.Bool.{true≢false}
 use Rattle.sam.proofs.Tags.{tag_bytes}
-use Rattle.std.proofs.Common.{rules}
+use Rattle.std.proofs.Common.{rules, sym, ◌∙◌}
 use Rattle.sam.proofs.tag.is_tag.Goals as goal
+use Rattle.sam.proofs.tag.is_tag.Goals.{then-is_ascii_alphabetic, else-is_ascii_alphabetic}
 
-pub returns-then-t-lt4 : goal.returns-then-t-lt4
-returns-then-t-lt4 c = search (tag_bytes, rules)
+pub returns-then-is_ascii_alphanumeric : goal.returns-then-is_ascii_alphanumeric
+returns-then-is_ascii_alphanumeric c =
+    elim c.if-is_ascii_alphabetic.branch [
+      | then-is_ascii_alphabetic w ↦ let last = sym w.value-is ∙ c.if-is_ascii_alphanumeric.true in search (tag_bytes, rules)
+      | else-is_ascii_alphabetic w ↦ absurd (true≢false (sym c.if-is_ascii_alphanumeric.true ∙ w.value-is ∙ w.if-is_ascii_alphabetic.false))
+    ]
 
-pub bounds-t-2 : goal.bounds-t-2
-bounds-t-2 c = search (tag_bytes, rules)
+pub returns-else-is_ascii_alphanumeric : goal.returns-else-is_ascii_alphanumeric
+returns-else-is_ascii_alphanumeric c =
+    elim c.if-is_ascii_alphabetic.branch [
+      | then-is_ascii_alphabetic w ↦ let last = sym w.value-is ∙ c.if-is_ascii_alphanumeric.false in rw w.value-is (search (tag_bytes, rules))
+      | else-is_ascii_alphabetic w ↦ rw w.value-is (search (tag_bytes, rules))
+    ]
 
-pub returns-then-t-ne58 : goal.returns-then-t-ne58
-returns-then-t-ne58 c = search (tag_bytes, rules)
-
-pub bounds-t-0 : goal.bounds-t-0
-bounds-t-0 c = search (tag_bytes, rules)
-
-pub is_letter-requires : goal.is_letter-requires
-is_letter-requires c = search (tag_bytes, rules)
-
-pub returns-then-not-is_letter : goal.returns-then-not-is_letter
-returns-then-not-is_letter c = search (tag_bytes, rules)
-
-pub bounds-t-1 : goal.bounds-t-1
-bounds-t-1 c = search (tag_bytes, rules)
-
-pub is_letter_or_digit-requires : goal.is_letter_or_digit-requires
-is_letter_or_digit-requires c = search (tag_bytes, rules)
-
-pub returns : goal.returns
-returns c = search (tag_bytes, rules)
+pub returns-in_default : goal.returns-in_default
+returns-in_default c = search (tag_bytes, rules)

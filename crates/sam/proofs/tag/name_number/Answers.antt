@@ -8,23 +8,11 @@ bounds-tag-0 c = search (numbers, rules)
 pub overflow_sub-result : goal.overflow_sub-result
 overflow_sub-result c = search (numbers, rules)
 
-pub overflow_cast-result : goal.overflow_cast-result
-overflow_cast-result c = search (numbers, rules)
-
-pub overflow_mul-result : goal.overflow_mul-result
-overflow_mul-result c = search (numbers, rules)
-
 pub bounds-tag-1 : goal.bounds-tag-1
 bounds-tag-1 c = search (numbers, rules)
 
 pub overflow_sub-result-2 : goal.overflow_sub-result-2
 overflow_sub-result-2 c = search (numbers, rules)
-
-pub overflow_cast-result-2 : goal.overflow_cast-result-2
-overflow_cast-result-2 c = search (numbers, rules)
-
-pub overflow_add-result : goal.overflow_add-result
-overflow_add-result c = search (numbers, rules)
 
 pub returns : goal.returns
 returns c = search (numbers, rules)

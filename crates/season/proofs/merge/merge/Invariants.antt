@@ -1,9 +1,5 @@
 use Rattle.season.proofs.Merging.{Merging}
-use Prim.Native.Nat.{◌-◌}
 use Rattle.season.proofs.merge.merge.Given as goal
 
 abbrev pub invariant-loop-i : goal.invariant-loop-i
 invariant-loop-i l = Merging l.sheet l.other l.sums l.i
-
-abbrev pub decreases-loop-i : goal.decreases-loop-i
-decreases-loop-i l = 39 - l.i

@@ -1,9 +1,5 @@
 use Rattle.season.proofs.Tallies.{Counting}
-use Prim.Native.Nat.{◌-◌}
 use Rattle.season.proofs.tally.kinds.Given as goal
 
 abbrev pub invariant-loop-n : goal.invariant-loop-n
 invariant-loop-n l = Counting l.form l.kept l.tally l.n
-
-abbrev pub decreases-loop-n : goal.decreases-loop-n
-decreases-loop-n l = l.count - l.n

@@ -2,8 +2,5 @@ use Rattle.values.proofs.Markings.{bit_is}
 use Rattle.std.proofs.Common.{rules}
 use Rattle.values.proofs.bits.bit_of.Goals as goal
 
-pub overflow_shl-result : goal.overflow_shl-result
-overflow_shl-result c = search (bit_is, rules)
-
 pub returns : goal.returns
 returns c = search (bit_is, rules)

@@ -11,20 +11,11 @@ loop-b-init c = search (hashes, rules)
 pub next_unescaped-requires : goal.next_unescaped-requires
 next_unescaped-requires c = search (hashes, rules)
 
-pub enum_known-b : goal.enum_known-b
-enum_known-b c = search (hashes, rules)
-
-pub enum_told-1 : goal.enum_told-1
-enum_told-1 c = search (hashes, rules)
-
-pub returns-in_default : goal.returns-in_default
-returns-in_default c = search (hashes, rules)
-
-pub hash_byte-hash-requires-in-loop-b : goal.hash_byte-hash-requires-in-loop-b
-hash_byte-hash-requires-in-loop-b c = search (hashes, rules)
-
 pub loop-b-smaller : goal.loop-b-smaller
 loop-b-smaller c = search (hashes, rules)
 
 pub loop-b-preserved : goal.loop-b-preserved
 loop-b-preserved c = search (hashes, rules)
+
+pub returns : goal.returns
+returns c = search (hashes, rules)

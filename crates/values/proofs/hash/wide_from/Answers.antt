@@ -8,24 +8,6 @@ loop-a-init c = search (wides, rules)
 pub next_unescaped-requires : goal.next_unescaped-requires
 next_unescaped-requires c = search (wides, rules)
 
-pub enum_known-a : goal.enum_known-a
-enum_known-a c = search (wides, rules)
-
-pub enum_told-1 : goal.enum_told-1
-enum_told-1 c = search (wides, rules)
-
-pub returns-in_default : goal.returns-in_default
-returns-in_default c = search (wides, rules)
-
-pub next_unescaped-requires-in-loop-a : goal.next_unescaped-requires-in-loop-a
-next_unescaped-requires-in-loop-a c = search (wides, rules)
-
-pub enum_known-b : goal.enum_known-b
-enum_known-b c = search (wides, rules)
-
-pub enum_told-in_default-next_unescaped : goal.enum_told-in_default-next_unescaped
-enum_told-in_default-next_unescaped c = search (wides, rules)
-
 pub overflow_cast-a : goal.overflow_cast-a
 overflow_cast-a c = search (wides, rules)
 
@@ -34,9 +16,6 @@ wide_step-requires c = search (wides, rules)
 
 pub returns-in_default-next_unescaped : goal.returns-in_default-next_unescaped
 returns-in_default-next_unescaped c = search (wides, rules)
-
-pub overflow_cast-a-in-loop-a : goal.overflow_cast-a-in-loop-a
-overflow_cast-a-in-loop-a c = search (wides, rules)
 
 pub overflow_mul-a : goal.overflow_mul-a
 overflow_mul-a c = search (wides, rules)
@@ -55,3 +34,6 @@ loop-a-smaller c = search (wides, rules)
 
 pub loop-a-preserved : goal.loop-a-preserved
 loop-a-preserved c = search (wides, rules)
+
+pub returns : goal.returns
+returns c = search (wides, rules)

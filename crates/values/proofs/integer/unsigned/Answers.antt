@@ -5,23 +5,8 @@ use Rattle.values.proofs.integer.unsigned.Goals as goal
 pub returns-then-s-eq0 : goal.returns-then-s-eq0
 returns-then-s-eq0 c = search (turns, rules)
 
-pub loop-i-init : goal.loop-i-init
-loop-i-init c = search (turns, rules)
-
-pub bounds-s-i : goal.bounds-s-i
-bounds-s-i c = search (turns, rules)
-
-pub overflow_add-i : goal.overflow_add-i
-overflow_add-i c = search (turns, rules)
-
-pub returns-then-b-lt48 : goal.returns-then-b-lt48
-returns-then-b-lt48 c = search (turns, rules)
-
-pub returns-then-b-gt57 : goal.returns-then-b-gt57
-returns-then-b-gt57 c = search (turns, rules)
-
-pub overflow_cast-d : goal.overflow_cast-d
-overflow_cast-d c = search (turns, rules)
+pub returns-then-not-is_ascii_digit : goal.returns-then-not-is_ascii_digit
+returns-then-not-is_ascii_digit c = search (turns, rules)
 
 pub returns-then-bound-d : goal.returns-then-bound-d
 returns-then-bound-d c = search (turns, rules)
@@ -29,17 +14,8 @@ returns-then-bound-d c = search (turns, rules)
 pub returns-then-bound-d-2 : goal.returns-then-bound-d-2
 returns-then-bound-d-2 c = search (turns, rules)
 
-pub overflow_mul-n : goal.overflow_mul-n
-overflow_mul-n c = search (turns, rules)
-
-pub overflow_add-n : goal.overflow_add-n
-overflow_add-n c = search (turns, rules)
-
-pub loop-i-smaller : goal.loop-i-smaller
-loop-i-smaller c = search (turns, rules)
-
-pub loop-i-preserved : goal.loop-i-preserved
-loop-i-preserved c = search (turns, rules)
+pub loop-b-preserved : goal.loop-b-preserved
+loop-b-preserved c = search (turns, rules)
 
 pub returns : goal.returns
 returns c = search (turns, rules)

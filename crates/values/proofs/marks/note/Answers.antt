@@ -5,17 +5,14 @@ use Rattle.values.proofs.marks.note.Goals as goal
 pub returns-then-marks-eq0 : goal.returns-then-marks-eq0
 returns-then-marks-eq0 c = search (notes, rules)
 
+pub returns : goal.returns
+returns c = search (notes, rules)
+
 pub offset_bounds-marks-at : goal.offset_bounds-marks-at
 offset_bounds-marks-at c = search (notes, rules)
 
 pub bounds-marks-at : goal.bounds-marks-at
 bounds-marks-at c = search (notes, rules)
 
-pub offset_bounds-marks-at-2 : goal.offset_bounds-marks-at-2
-offset_bounds-marks-at-2 c = search (notes, rules)
-
 pub bounds-marks-at-2 : goal.bounds-marks-at-2
 bounds-marks-at-2 c = search (notes, rules)
-
-pub returns : goal.returns
-returns c = search (notes, rules)

@@ -1,11 +1,6 @@
-use Prim.Native.Nat.{◌-◌}
-use lib.ListN.{length}
 use Rattle.values.specs.Value.{is_escapable}
 use Rattle.values.proofs.Seeks.{Seeking}
 use Rattle.values.proofs.string.has_escapable.Given as goal
 
-abbrev pub invariant-loop-k : goal.invariant-loop-k
-invariant-loop-k l = Seeking is_escapable l.s l.found l.k
-
-abbrev pub decreases-loop-k : goal.decreases-loop-k
-decreases-loop-k l = length l.s - l.k
+abbrev pub invariant-loop-b : goal.invariant-loop-b
+invariant-loop-b l = Seeking is_escapable l.s l.found l.b-index

@@ -14,38 +14,8 @@ loop-x-init c = search (compares, rules)
 pub next_unescaped-requires : goal.next_unescaped-requires
 next_unescaped-requires c = search (compares, rules)
 
-pub enum_known-x : goal.enum_known-x
-enum_known-x c = search (compares, rules)
-
-pub enum_told-1 : goal.enum_told-1
-enum_told-1 c = search (compares, rules)
-
-pub next_unescaped-requires-in_default : goal.next_unescaped-requires-in_default
-next_unescaped-requires-in_default c = search (compares, rules)
-
-pub enum_told-in-End : goal.enum_told-in-End
-enum_told-in-End c = search (compares, rules)
-
-pub enum_told-in_default-next_unescaped : goal.enum_told-in_default-next_unescaped
-enum_told-in_default-next_unescaped c = search (compares, rules)
-
 pub returns-in_default-next_unescaped : goal.returns-in_default-next_unescaped
 returns-in_default-next_unescaped c = search (compares, rules)
-
-pub returns-in_default : goal.returns-in_default
-returns-in_default c = search (compares, rules)
-
-pub next_unescaped-requires-in-loop-x : goal.next_unescaped-requires-in-loop-x
-next_unescaped-requires-in-loop-x c = search (compares, rules)
-
-pub enum_known-y : goal.enum_known-y
-enum_known-y c = search (compares, rules)
-
-pub enum_told-in_default-next_unescaped-2 : goal.enum_told-in_default-next_unescaped-2
-enum_told-in_default-next_unescaped-2 c = search (compares, rules)
-
-pub returns-in_default-next_unescaped-2 : goal.returns-in_default-next_unescaped-2
-returns-in_default-next_unescaped-2 c = search (compares, rules)
 
 pub returns-then-x-y : goal.returns-then-x-y
 returns-then-x-y c = search (compares, rules)
@@ -55,3 +25,6 @@ loop-x-smaller c = search (compares, rules)
 
 pub loop-x-preserved : goal.loop-x-preserved
 loop-x-preserved c = search (compares, rules)
+
+pub returns : goal.returns
+returns c = search (compares, rules)

@@ -2,8 +2,5 @@ use Rattle.std.proofs.Common.{rules}
 use Rattle.values.proofs.Blocks.{goes_by}
 use Rattle.values.proofs.utf8.goes_on.Goals as goal
 
-pub is_barred-requires : goal.is_barred-requires
-is_barred-requires c = search (goes_by, rules)
-
 pub returns : goal.returns
 returns c = search (goes_by, rules)

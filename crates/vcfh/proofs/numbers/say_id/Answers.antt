@@ -1,6 +1,5 @@
 use Rattle.std.proofs.Common.{rules}
 use Rattle.values.proofs.Meanings.{told_less}
-use Prim.Native.Nat.{◌-◌}
 use Rattle.vcfh.proofs.numbers.say_id.Goals as goal
 
 pub loop-b-smaller : goal.loop-b-smaller

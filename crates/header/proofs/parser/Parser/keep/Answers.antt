@@ -9,14 +9,5 @@ returns-then-not-put c = search (keeps, next_fits, rules)
 pub overflow_add-count : goal.overflow_add-count
 overflow_add-count c = search (keeps, next_fits, rules)
 
-pub returns-in-Refused : goal.returns-in-Refused
-returns-in-Refused c = search (keeps, next_fits, rules)
-
-pub returns-in-Begin : goal.returns-in-Begin
-returns-in-Begin c = search (keeps, next_fits, rules)
-
 pub returns-else-not-put : goal.returns-else-not-put
 returns-else-not-put c = search (keeps, next_fits, rules)
-
-pub returns-in-Columns : goal.returns-in-Columns
-returns-in-Columns c = search (keeps, next_fits, rules)

@@ -11,5 +11,5 @@ returns-in-ValueType c = search (values, rules)
 pub returns-in-Length : goal.returns-in-Length
 returns-in-Length c = search (values, rules)
 
-pub returns-in-Idx : goal.returns-in-Idx
-returns-in-Idx c = search (values, rules)
+pub returns-in-Id : goal.returns-in-Id
+returns-in-Id c = search (values, rules)

@@ -11,5 +11,5 @@ returns-then-is_meta c = search (always, rules)
 pub is_pedigree-requires : goal.is_pedigree-requires
 is_pedigree-requires c = search (always, rules)
 
-pub returns : goal.returns
-returns c = search (always, rules)
+pub returns-else-is_meta : goal.returns-else-is_meta
+returns-else-is_meta c = search (always, rules)

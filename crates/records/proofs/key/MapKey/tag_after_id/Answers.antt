@@ -8,17 +8,8 @@ enum_told-1 c = search (told, rules)
 pub typed_tag-requires : goal.typed_tag-requires
 typed_tag-requires c = search (told, rules)
 
-pub enum_told-in-Filter : goal.enum_told-in-Filter
-enum_told-in-Filter c = search (told, rules)
-
 pub filter_tag-requires : goal.filter_tag-requires
 filter_tag-requires c = search (told, rules)
-
-pub enum_told-in-Format : goal.enum_told-in-Format
-enum_told-in-Format c = search (told, rules)
-
-pub typed_tag-requires-in-Format : goal.typed_tag-requires-in-Format
-typed_tag-requires-in-Format c = search (told, rules)
 
 pub enum_told-in-AlternativeAllele : goal.enum_told-in-AlternativeAllele
 enum_told-in-AlternativeAllele c = search (told, rules)
@@ -32,23 +23,11 @@ enum_told-in-Contig c = search (told, rules)
 pub contig_tag-requires : goal.contig_tag-requires
 contig_tag-requires c = search (told, rules)
 
-pub enum_told-in-Meta : goal.enum_told-in-Meta
-enum_told-in-Meta c = search (told, rules)
-
-pub enum_told-in-Pedigree : goal.enum_told-in-Pedigree
-enum_told-in-Pedigree c = search (told, rules)
-
-pub enum_told-in-Other : goal.enum_told-in-Other
-enum_told-in-Other c = search (told, rules)
-
 pub returns-in-Info : goal.returns-in-Info
 returns-in-Info c = search (told, rules)
 
 pub returns-in-Filter : goal.returns-in-Filter
 returns-in-Filter c = search (told, rules)
-
-pub returns-in-Format : goal.returns-in-Format
-returns-in-Format c = search (told, rules)
 
 pub returns-in-AlternativeAllele : goal.returns-in-AlternativeAllele
 returns-in-AlternativeAllele c = search (told, rules)
@@ -58,9 +37,3 @@ returns-in-Contig c = search (told, rules)
 
 pub returns-in-Meta : goal.returns-in-Meta
 returns-in-Meta c = search (told, rules)
-
-pub returns-in-Pedigree : goal.returns-in-Pedigree
-returns-in-Pedigree c = search (told, rules)
-
-pub returns-in-Other : goal.returns-in-Other
-returns-in-Other c = search (told, rules)

@@ -14,17 +14,5 @@ returns-in-ValueType c = search (put_told, rules)
 pub returns-in-Description : goal.returns-in-Description
 returns-in-Description c = search (put_told, rules)
 
-pub returns-in-Length : goal.returns-in-Length
-returns-in-Length c = search (put_told, rules)
-
-pub returns-in-Md5 : goal.returns-in-Md5
-returns-in-Md5 c = search (put_told, rules)
-
-pub returns-in-Url : goal.returns-in-Url
-returns-in-Url c = search (put_told, rules)
-
-pub returns-in-Idx : goal.returns-in-Idx
-returns-in-Idx c = search (put_told, rules)
-
-pub returns-in-Other : goal.returns-in-Other
-returns-in-Other c = search (put_told, rules)
+pub returns-in_default : goal.returns-in_default
+returns-in_default c = search (put_told, rules)

@@ -5,29 +5,14 @@ use Rattle.values.proofs.cursor.Cursor.next_unescaped.Goals as goal
 pub next_byte-requires : goal.next_byte-requires
 next_byte-requires c = search (unescapes, rules)
 
-pub enum_known-b : goal.enum_known-b
-enum_known-b c = search (unescapes, rules)
-
-pub enum_told-1 : goal.enum_told-1
-enum_told-1 c = search (unescapes, rules)
-
 pub returns-in_default : goal.returns-in_default
 returns-in_default c = search (unescapes, rules)
 
 pub returns-then-not-quoted : goal.returns-then-not-quoted
 returns-then-not-quoted c = search (unescapes, rules)
 
-pub returns-then-b-ne92 : goal.returns-then-b-ne92
-returns-then-b-ne92 c = search (unescapes, rules)
-
 pub next_byte-requires-2 : goal.next_byte-requires-2
 next_byte-requires-2 c = search (unescapes, rules)
-
-pub enum_known-e : goal.enum_known-e
-enum_known-e c = search (unescapes, rules)
-
-pub enum_told-in_default-next_byte : goal.enum_told-in_default-next_byte
-enum_told-in_default-next_byte c = search (unescapes, rules)
 
 pub returns-in_default-next_byte : goal.returns-in_default-next_byte
 returns-in_default-next_byte c = search (unescapes, rules)

@@ -13,7 +13,7 @@ use records::record;
 use records::record::{MapRecord, Record};
 use values::utf8;
 
-// A map; a record without fields, with the length of its key; or refusal 29.
+// A map; or a record without fields, with the length of its key.
 #[derive(Clone, Copy)]
 pub enum Alone {
     Map(MapRecord),
@@ -30,6 +30,7 @@ fn plain(is_asked: bool, key_length: usize) -> Option<Alone>
     None
 }
 
+// None is refusal 29.
 pub fn read_alone(l: &[u8], kind: u8, version: FileFormat) -> Option<Alone>
     ensures { ReadsAlone (version_of version) kind l.now result }
 {

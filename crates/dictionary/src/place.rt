@@ -1,6 +1,5 @@
 // The number of a line beside the lines before it.
-ghost use Rattle.std.specs.Prelude.{◌≡◌, ◌+◌};
-ghost use Rattle.std.specs.Prelude.{None};
+ghost use Rattle.std.specs.Prelude.{◌≡◌, ◌+◌, None};
 ghost use Rattle.entries.specs.Values.{entry_of};
 ghost use Rattle.dictionary.specs.Lines.{id_at, idx_at, is_implied, table_lines, lines_before};
 ghost use Rattle.dictionary.specs.Places.{implied_clash, idx_named, earlier_meant, number_seen, seen_in, indexed_beside, counted_beside, place_if, place_at};

@@ -2,7 +2,6 @@
 #![tactic(auto)]
 
 mod ahead;
-pub mod file_format_option;
 pub mod parser;
 pub mod phase;
 pub mod shown;

@@ -1,4 +1,4 @@
-// The calls on an entry number: parts of the header, for any table words and any numbers. Refused is refusal 29.
+// The calls on an entry number: parts of the header, for any table words and any numbers. None is refusal 29.
 ghost use Rattle.std.specs.Prelude.{◌≡◌, length};
 ghost use Rattle.rules.specs.Shown.{line_in};
 ghost use Rattle.records.specs.Formats.{version_of};

@@ -110,7 +110,7 @@ fn map_entry(l: &[u8], form: Form, start: usize, map: MapRecord) -> Entry
 }
 
 // What was read of the line l, which stands at `start`, as an entry.
-// A record, with its entry and where its value stands; or a refusal.
+// Its entry, and where its value stands; or a refusal.
 pub fn meet_read(
     l: &[u8],
     form: Form,

@@ -44,7 +44,7 @@ fn if_told(is_told: bool, n: usize) -> usize
     if is_told { n } else { 0 }
 }
 
-// Entry n, from 0.
+// Entry n, from 0; none where there is no such entry, or it is not well formed.
 pub fn describe(h: &[u8], table: &[u64], form: Form, n: usize) -> Option<Described>
     ensures { result ≡ described_in h.now (entry_at form h.now table.now n) }
 {

@@ -4,7 +4,6 @@ ghost use Rattle.std.specs.Prelude.{◌≡◌, length};
 // Runs a step that takes much of the stack, apart from its caller: the compiler keeps a function that calls itself apart, where it would
 // else make one function of all steps and take the memory of a large one in every short one. `turns` is the number of arguments, so that
 // the call inside does nothing.
-// Kept: tried `#[inline(never)]` in place of this call: `rt try`, by which bin/build compiles, drops it, and at `little stack` tests/vcfh fails.
 pub fn apart<F: FnMut()>(turns: usize, step: &mut F)
     requires { F.IsAlwaysCallable step.old }
     ensures { F.IsAlwaysCallable step.new }

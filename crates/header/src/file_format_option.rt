@@ -1,2 +1,0 @@
-// The version that the caller imposes, or none.
-use records::file_format::FileFormat;

@@ -1,16 +1,16 @@
 -- The calls: the ways of the code's tests and answers, on plain values. Assumes nothing.
-use Prim.Native.Nat.{ℕ, ◌+◌, ◌-◌, ◌≤◌, ◌<◌}
+use Prim.Native.Nat.{ℕ, suc, ◌+◌, ◌-◌, ◌≤◌, ◌<◌}
 use native.Mathlib.Omega.{arith}
 use mathlib.Core.Path.{◌≡◌, refl, sym, ap, subst, ◌∙◌}
 use mathlib.Core.Bool.{Bool, true, false, not, ◌&&◌}
-use mathlib.Core.List.{List, append_assoc}
+use mathlib.Core.List.{List}
 use Rattle.std.specs.Prelude.{Option, None, Some, Result, Ok, Err}
 use lib.Dec.{leb}
-use lib.ListN.{length, drop, take, length-take}
-use lib.Seq.{sets, sets-eq, length-sets, drop-drop}
-use borrow.Rule.Slice.PartMut.{put_mid}
+use lib.ListN.{length, get_or, drop, take, set, length-take, length-set}
+use lib.Seq.{sets, length-sets}
 use borrow.Author.Tests.{le-leb, lt-leb, leb-true}
 use Rattle.values.specs.Bytes.{Bytes}
+use Rattle.values.proofs.Lists.{here, drop_past}
 use Rattle.values.proofs.Tests.{pass, fail, test, not_true, not_false, and_l, and_r}
 use Rattle.rules.specs.Sizes.{Limits}
 use Rattle.records.specs.Refusals.{number}
@@ -115,8 +115,24 @@ pub ruleset rests = (rest_ended, rest_stopped, on_lines, on_length)
 
 -- A piece
 
-pub piece_put : (b piece : Bytes) (held : ℕ) → held + length piece ≤ length b → {p : Bytes} → p ≡ piece → put_mid held (held + length piece - held) b p ≡ sets b held piece
-piece_put b piece held h e = let k : held + length piece - held ≡ length piece = omega arith in rw (e, k, drop-drop (length piece) held b) (sym (append_assoc (take held b) piece (drop (held + length piece) b)) ∙ sym (sets-eq piece b held h))
+-- the loop that copies: the bytes before number k are written
+pub record Copying (b₀ piece b : Bytes) (held k : ℕ) : Type 0 where
+  pub size : length b ≡ length b₀
+  pub still : sets b (held + k) (drop k piece) ≡ sets b₀ held piece
+
+pub copying_start : (b piece : Bytes) (held : ℕ) → Copying b piece b held 0
+copying_start b piece held = let e : held + 0 ≡ held = omega arith in record { size = refl; still = rw e }
+
+module _ {b₀ piece b : Bytes} {held k : ℕ} (g : Copying b₀ piece b held k) where
+  pub copying_next : k < length piece → Copying b₀ piece (set b (held + k) (get_or piece k 0)) held (k + 1)
+  copying_next l =
+      let e : held + (k + 1) ≡ suc (held + k) = omega arith in
+      record { size = length-set b (held + k) (get_or piece k 0) ∙ g.size; still = rw e (sym (ap (sets b (held + k)) (here piece k l)) ∙ g.still) }
+
+  pub copying_end : length piece ≤ k → b ≡ sets b₀ held piece
+  copying_end l = sym (ap (sets b (held + k)) (drop_past piece k l)) ∙ g.still
+
+pub ruleset copyings = (copying_start, copying_next, copying_end)
 
 -- after it was copied
 module _ (form : Form) (held : ℕ) (piece b : Bytes) {q : Bool} (e : q ≡ has_room form held piece b) (n : not q ≡ false) where

@@ -186,9 +186,11 @@ fn put_piece(buffer: &mut [u8], held: usize, piece: &[u8]) -> usize
     ensures place { result ≡ held + length piece.now }
     ensures buffer { buffer.new ≡ sets buffer.old held piece.now }
 {
-    let end = held + piece.len();
-    buffer[held..end].copy_from_slice(piece);
-    end
+    // Kept: `copy_from_slice` would ask whoever links the archive for `memmove` too.
+    for k in 0..piece.len() {
+        buffer[held + k] = piece[k];
+    }
+    held + piece.len()
 }
 
 // Copies a piece that fits whole, and reads.

@@ -3,13 +3,12 @@ use Prim.Native.Nat.{ℕ, zero, suc, ◌+◌, ◌-◌, ◌≤◌, ◌<◌, min}
 use native.Mathlib.Omega.{arith}
 use mathlib.Core.Path.{◌≡◌, refl, sym, ap, ◌∙◌}
 use mathlib.Core.Bool.{Bool, true}
-use mathlib.Core.List.{[], ◌++◌, append_assoc}
+use mathlib.Core.List.{[]}
 use Rattle.std.specs.Prelude.{None}
-use lib.ListN.{length, get_or, take, drop}
+use lib.ListN.{length, get_or, take, drop, set, length-set}
 use lib.Dec.{eqb}
 use lib.Pointwise.{pointwise, bytes_decides}
-use lib.Seq.{sets, sets-eq, drop-drop}
-use borrow.Rule.Slice.PartMut.{put_mid}
+use lib.Seq.{sets}
 use borrow.Author.Tests.{lt-ltb, eq-eqb}
 use Rattle.values.specs.Bytes.{Bytes}
 use Rattle.values.specs.Written.{last, onward, differing, sooner, Puts}
@@ -17,9 +16,24 @@ use Rattle.values.specs.declared.sink.Sink.{Sink}
 use Rattle.values.proofs.Lists.{here, drop_past, Stands, there, past, stands}
 use Rattle.values.proofs.Outputs.{counts_past}
 
--- A text that was copied into a part of the output
-pub pasted : (out text : Bytes) {o : Bytes} (at n : ℕ) → at + length text ≤ length out → n ≡ length text → o ≡ text → put_mid at n out o ≡ sets out at text
-pasted out text {o} at n l e p = rw (e, p) (ap (λ (r : Bytes). take at out ++ (text ++ r)) (drop-drop (length text) at out) ∙ sym (append_assoc (take at out) text (drop (at + length text) out)) ∙ sym (sets-eq text out at l))
+-- The loop that copies: the bytes before number i are written
+pub record Copying (out₀ text out : Bytes) (at i : ℕ) : Type 0 where
+  pub size : length out ≡ length out₀
+  pub still : sets out (at + i) (drop i text) ≡ sets out₀ at text
+
+pub copy_start : (out text : Bytes) (at : ℕ) → Copying out text out at 0
+copy_start out text at = let e : at + 0 ≡ at = omega arith in record { size = refl; still = rw e }
+
+module _ {out₀ text out : Bytes} {at i : ℕ} (g : Copying out₀ text out at i) where
+  pub copy_more : i < length text → Copying out₀ text (set out (at + i) (get_or text i 0)) at (i + 1)
+  copy_more l =
+      let e : at + (i + 1) ≡ suc (at + i) = omega arith in
+      record { size = length-set out (at + i) (get_or text i 0) ∙ g.size; still = rw e (sym (ap (sets out (at + i)) (here text i l)) ∙ g.still) }
+
+  pub copy_end : length text ≤ i → out ≡ sets out₀ at text
+  copy_end l = sym (ap (sets out (at + i)) (drop_past text i l)) ∙ g.still
+
+pub ruleset copyings = (copy_start, copy_more, copy_end)
 
 -- What was put
 

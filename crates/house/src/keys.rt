@@ -1,5 +1,5 @@
 // The entries of a key, as they follow one another in the header.
-ghost use Rattle.std.specs.Prelude.{◌≡◌, ◌^◌, ◌<◌, length};
+ghost use Rattle.std.specs.Prelude.{◌≡◌, ◌^◌, ◌<◌, ◌≤◌, length};
 ghost use Rattle.records.specs.Formats.{version_of};
 ghost use Rattle.rules.specs.Known.{typed_keys};
 ghost use Rattle.entries.specs.Values.{entry_of};
@@ -344,9 +344,11 @@ fn put_others_noted(
     many::put_linked(h, kept, form, version, out, given, s)
 }
 
-// The same, with as many heads and links of its own. It is made no part of its caller: else all sizes would be on the stack of every header.
+// The same, with N heads and links of its own, of which the first are heads. It is made no part of its caller: else all sizes would be on the
+// stack of every header.
 #[inline(never)]
 fn put_others_among<const N: usize>(
+    heads: usize,
     h: &[u8],
     kept: &[u64],
     form: Form,
@@ -355,14 +357,13 @@ fn put_others_among<const N: usize>(
     given: &[u8],
     s: Progress,
 ) -> Progress
-    requires { N < 2 ^ 32 }
+    requires size { N < 2 ^ 32 }
+    requires heads { heads ≤ N }
     ensures { PutsOthers (version_of version) h.now (entries_in form kept.now) given.now out.old s result out.new }
 {
-    let mut heads = [0xFFFF_FFFFu32; N];
-    let mut links = [0xFFFF_FFFFu32; N];
-    put_others_linked(
-        h, kept, form, version, &mut heads, &mut links, out, given, s,
-    )
+    let mut own = [0xFFFF_FFFFu32; N];
+    let (heads, links) = own.split_at_mut(heads);
+    put_others_linked(h, kept, form, version, heads, links, out, given, s)
 }
 
 // Few entries are looked through in less time than it takes to link them.
@@ -399,13 +400,13 @@ pub fn put_others(
         return put_others_few(h, kept, form, version, out, given, s);
     }
     if kept.len() < 2048 {
-        return put_others_among::<1024>(h, kept, form, version, out, given, s);
+        return put_others_among::<2048>(1024, h, kept, form, version, out, given, s);
     }
     if kept.len() < 32768 {
-        return put_others_among::<16384>(h, kept, form, version, out, given, s);
+        return put_others_among::<32768>(16384, h, kept, form, version, out, given, s);
     }
     if table::count(kept, form) < 98304 {
-        return put_others_among::<98304>(h, kept, form, version, out, given, s);
+        return put_others_among::<229376>(131072, h, kept, form, version, out, given, s);
     }
     put_others_noted(h, kept, form, version, out, given, s)
 }

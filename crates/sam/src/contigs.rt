@@ -119,7 +119,8 @@ fn write_doubted(sam: &[u8], doubts: &[u64], out: &mut [u8]) -> ContigsAnswer
     }
 }
 
-// With marks enough for the names of 16 MB.
+// With marks enough for the names of 16 MB, which are off the stack again before the lines are written.
+#[inline(never)]
 fn find_doubts(sam: &[u8], doubts: &mut [u64])
     ensures { Doubted sam.now doubts.new }
 {

@@ -117,8 +117,8 @@ fn place_of_number(number: &[u8]) -> Option<usize> {
 }
 
 fn place_of_kind(name: &[u8]) -> Option<usize> {
-    let mut kinds = (place::ENTRIES + 1..39).zip(KINDS);
-    let (place, _) = kinds.find(|(_, kind)| kind.as_bytes() == name)?;
+    let mut kinds = KINDS.iter().zip(place::ENTRIES + 1..39);
+    let (_, place) = kinds.find(|(kind, _)| kind.as_bytes() == name)?;
     Some(place)
 }
 

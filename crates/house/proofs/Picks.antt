@@ -1,15 +1,15 @@
 -- The entries of a key, a turn of each loop on plain values. Assumes nothing.
-use Prim.Native.Nat.{ℕ, ◌+◌, ◌≤◌, ◌<◌}
+use Prim.Native.Nat.{ℕ, ◌+◌, ◌-◌, ◌≤◌, ◌<◌}
 use native.Mathlib.Omega.{arith}
 use mathlib.Core.Path.{◌≡◌, refl, sym, ap, subst, ◌∙◌}
 use mathlib.Core.Bool.{Bool, true, false}
 use mathlib.Core.List.{List, [], ◌∷◌, ◌++◌, append-nil}
-use lib.Dec.{ltb}
-use lib.ListN.{length, drop}
+use lib.Dec.{eqb, ltb}
+use lib.ListN.{length, drop, take}
 use borrow.Author.Tests.{lt-ltb, le-ltb}
-use Rattle.values.specs.Bytes.{Bytes, ascii, starts}
+use Rattle.values.specs.Bytes.{Bytes, ascii, starts, same}
 use Rattle.values.specs.Written.{last}
-use Rattle.values.proofs.Tests.{and_off}
+use Rattle.values.proofs.Tests.{pass, fail, test, and_off}
 use Rattle.rules.specs.Version.{Version}
 use Rattle.rules.specs.Known.{typed_keys}
 use Rattle.rules.specs.Entry.{Entry}
@@ -25,6 +25,16 @@ use Rattle.house.specs.Writes.{WroteLines}
 use Rattle.house.specs.Keys.{is_record, is_under, picked, AllListed, PutsKey, lines_under, later_keys, PutsKeys}
 use Rattle.house.proofs.Writes.{wrote_no_lines, then_lines}
 use Rattle.entries.specs.declared.form.Form.{Form}
+
+-- what is under a key begins with its prefix: a part as long as that is the same
+starts_same : (p s : Bytes) → starts p s ≡ same (take (length p) s) p
+unfolding starts same
+starts_same [] s = refl
+starts_same (c ∷ p) [] = refl
+starts_same (c ∷ p) (b ∷ bs) = elim (test (eqb b c)) [
+  | pass e ↦ rw (starts, same, e) (starts_same p bs)
+  | fail e ↦ rw (starts, same, e)
+]
 
 -- what answers the needs of `is_under`
 module _ (e : CodeEntry) where
@@ -46,7 +56,11 @@ module _ (e : CodeEntry) where
     unfolding is_under
     under_line n i f = f ∙ rw (← a, n, i)
 
-pub ruleset unders = (record_low, record_high, record_is, under_not, under_line)
+    pub under_part : q ≡ true → {p : Bytes} → p ≡ line_in h (entry_of e) → {t : Bytes} → t ≡ take (length prefix - 0) (drop 0 p)
+        → {r : Bool} → r ≡ same t prefix → r ≡ is_under h prefix (entry_of e)
+    under_part n {p} i c f = let z : length prefix - 0 ≡ length prefix = omega arith in under_line n i (f ∙ rw (c, z) (sym (starts_same prefix p)))
+
+pub ruleset unders = (record_low, record_high, record_is, under_not, under_part)
 
 module _ (v : Version) (h prefix : Bytes) (e : Entry) (es : List Entry) where
   pub picked_yes : is_under h prefix e ≡ true → picked v h prefix (e ∷ es) ≡ house_line v (line_in h e) ∷ picked v h prefix es

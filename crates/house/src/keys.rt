@@ -28,7 +28,8 @@ pub fn is_record(e: Entry) -> bool
 pub fn is_under(h: &[u8], e: Entry, prefix: &[u8]) -> bool
     ensures { result ≡ is_under h.now prefix.now (entry_of e) }
 {
-    is_record(e) && bytes::starts_with(part::line_part(h, e), prefix)
+    // Kept: with `starts_with` a walk over the keys of one slot is slower, since these mostly differ at their ends.
+    is_record(e) && bytes::same(bytes::part(part::line_part(h, e), 0, prefix.len()), prefix)
 }
 
 // The lines of all entries under the key that the prefix names.
